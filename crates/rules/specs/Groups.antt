@@ -1,0 +1,35 @@
+-- Groups of the numbers below n as a list of labels: a number's label is the lowest member of its group.
+use Prim.Native.Nat.{ℕ, min, max}
+use mathlib.Core.List.{List, [], _∷_, map}
+use mathlib.Core.Bool.{Bool, true, false, cond}
+use lib.ListN.{length, getD}
+use lib.Dec.{eqb}
+use Rattle.lists.specs.Lists.{below, keep, indexOf}
+
+-- each number alone in its group
+abbrev pub alone : ℕ → List ℕ
+alone n = below n
+
+-- Merging: the lowest member stands for a group
+abbrev pub labelOf : List ℕ → ℕ → ℕ
+labelOf g i = getD g i 0
+
+-- a label after the group with label `from` went to that with label `to`
+unfoldable pub moved : ℕ → ℕ → ℕ → ℕ
+moved from to label = cond (eqb label from) to label
+
+-- the groups of a and b become one
+unfoldable pub joined : List ℕ → ℕ → ℕ → List ℕ
+joined g a b = map (moved (max (labelOf g a) (labelOf g b)) (min (labelOf g a) (labelOf g b))) g
+
+-- a number is the lowest member of its group
+abbrev pub isLowest : List ℕ → ℕ → Bool
+isLowest g i = eqb (labelOf g i) i
+
+-- the lowest members, ascending
+abbrev pub lowestMembers : List ℕ → List ℕ
+lowestMembers g = keep (isLowest g) (below (length g))
+
+-- the groups numbered by ascending lowest member: each number's group
+unfoldable pub groupNumbers : List ℕ → List ℕ
+groupNumbers g = map (λ label. indexOf label (lowestMembers g)) g

@@ -1,0 +1,100 @@
+-- Merging: boundaries, merged groups, removed uses. Refusal 22.
+use Prim.Native.Nat.{ℕ}
+use mathlib.Core.List.{List, [], _∷_, map, foldl}
+use mathlib.Core.Bool.{Bool, true, false, _||_, cond}
+use lib.ListN.{length, getD}
+use lib.Dec.{eqb, leb}
+use Rattle.lists.specs.Lists.{below}
+use Rattle.rules.specs.declared.Face.{Face}
+use Rattle.rules.specs.declared.Use.{Use}
+use Rattle.rules.specs.Outcome.{Outcome, ok, refuse, _>>=_, throughout}
+use Rattle.rules.specs.Sense.{sameSense}
+use Rattle.rules.specs.Job.{Answer, faceAt}
+use Rattle.rules.specs.Questions.{ask}
+use Rattle.rules.specs.Read.{faceOfUse, storedSense}
+use Rattle.rules.specs.Groups.{alone, labelOf, joined, lowestMembers, groupNumbers}
+use Rattle.rules.specs.Pair.{twinOf}
+use Rattle.rules.specs.Rules.{Table}
+
+-- the selected face of a use's twin
+abbrev pub otherFace : List Use → List ℕ → ℕ → ℕ
+otherFace us ts h = faceOfUse us (twinOf ts h)
+
+-- Merging: boundaries join the faces of a twin pair
+abbrev pub boundaryStep : List Use → List ℕ → List ℕ → ℕ → List ℕ
+boundaryStep us ts g h = joined g (faceOfUse us h) (otherFace us ts h)
+
+-- Merging: boundaries join the faces of every twin pair
+abbrev pub boundaries : List Use → List ℕ → ℕ → List ℕ
+boundaries us ts faces = foldl (boundaryStep us ts) (alone faces) (below (length us))
+
+-- Job records, kind 8: 0 different, 1 same with normals agreeing, 2 same and opposed, 3 vanishing
+pub data SurfaceAnswer : Type 0 where
+  different : SurfaceAnswer
+  agreeing : SurfaceAnswer
+  opposed : SurfaceAnswer
+  vanishing : SurfaceAnswer
+
+unfoldable pub surfaceAnswer : ℕ → SurfaceAnswer
+surfaceAnswer v = getD (different ∷ agreeing ∷ opposed ∷ []) v vanishing
+
+-- Merging: whether an answer joins the groups, by whether the stored senses are equal; 22 where normals vanish
+unfoldable pub joinsFaces : Table → Bool → SurfaceAnswer → Outcome Bool
+joinsFaces t equal different = ok false
+joinsFaces t equal agreeing = ok (cond equal (t .agreeingEqual) (t .agreeingDifferent))
+joinsFaces t equal opposed = ok (cond equal (t .opposedEqual) (t .opposedDifferent))
+joinsFaces t equal vanishing = refuse 22 8
+
+-- stored senses of a use's face and its twin's are equal
+abbrev pub equalSenses : List Face → List Use → List ℕ → ℕ → Bool
+equalSenses fs us ts h = sameSense (storedSense (faceAt fs (faceOfUse us h))) (storedSense (faceAt fs (otherFace us ts h)))
+
+-- the surface question of lower use h, and the groups after its answer
+unfoldable pub surfaceStep : Table → List Answer → List Face → List Use → List ℕ → ℕ → List ℕ → Outcome (List ℕ)
+surfaceStep t answers fs us ts h g = ask answers 8 (h ∷ []) >>= λ v.
+    joinsFaces t (equalSenses fs us ts h) (surfaceAnswer v) >>= λ yes.
+    ok (cond yes (joined g (faceOfUse us h) (otherFace us ts h)) g)
+
+-- Merging: no question for the higher use of a pair; skipped when both uses are on one selected face
+abbrev pub unasked : List Use → List ℕ → ℕ → Bool
+unasked us ts h = leb (twinOf ts h) h || eqb (faceOfUse us h) (otherFace us ts h)
+
+unfoldable pub mergeStep : Table → List Answer → List Face → List Use → List ℕ → ℕ → List ℕ → Outcome (List ℕ)
+mergeStep t answers fs us ts h g =
+    let put = surfaceStep t answers fs us ts h g in
+    cond (unasked us ts h) (ok g) put
+
+-- Merging: surface questions go by ascending lower use
+abbrev pub mergedGroups : Table → List Answer → List Face → List Use → List ℕ → Outcome (List ℕ)
+mergedGroups t answers fs us ts = throughout (mergeStep t answers fs us ts) (below (length us)) (alone (length fs))
+
+-- Merging: a use is removed when its face and its twin's have one group
+abbrev pub removes : List Use → List ℕ → List ℕ → ℕ → Bool
+removes us ts g h = eqb (labelOf g (faceOfUse us h)) (labelOf g (otherFace us ts h))
+
+-- each use: whether it is removed
+unfoldable pub removedUses : List Use → List ℕ → List ℕ → List Bool
+removedUses us ts g = map (removes us ts g) (below (length us))
+
+-- use h is removed
+abbrev pub isRemoved : List Bool → ℕ → Bool
+isRemoved rm h = getD rm h false
+
+-- what merging gives: boundaries and merged groups by label, and which uses are removed
+pub record Merged : Type 0 where
+  pub boundaries : List ℕ
+  pub groups : List ℕ
+  pub removed : List Bool
+
+-- Merging, whole
+unfoldable pub mergeFaces : Table → List Answer → List Face → List Use → List ℕ → Outcome Merged
+mergeFaces t answers fs us ts = mergedGroups t answers fs us ts >>= λ g.
+    ok (record { boundaries = boundaries us ts (length fs); groups = g; removed = removedUses us ts g })
+
+-- Merging: merged groups are the merged faces, by ascending lowest member; the merged face of each selected face
+abbrev pub mergedFaces : Merged → List ℕ
+mergedFaces m = groupNumbers (m .groups)
+
+-- the merged face of a use, from the merged face of each selected face
+abbrev pub mergedFaceOf : List Use → List ℕ → ℕ → ℕ
+mergedFaceOf us numbers h = getD numbers (faceOfUse us h) 0
