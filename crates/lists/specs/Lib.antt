@@ -1,1 +1,9 @@
 pub mod Lists
+pub mod Tests
+pub mod Membership
+pub mod Runs
+pub mod Members
+pub mod Sums
+pub mod Orbits
+pub mod Tables
+pub mod Cyclic

@@ -4,6 +4,7 @@ use mathlib.Core.List.{List, [], _∷_, _++_, map}
 use mathlib.Core.Bool.{Bool, true, false, _||_, _&&_, not, cond}
 use lib.ListN.{length, getD, set, take, drop}
 use lib.Dec.{eqb, ltb}
+use lib.IntN.{ℤ, subℕ}
 use Rattle.lists.specs.Lists.{Neighbours, neighbours, keep, position, positions, same}
 use Rattle.rules.specs.declared.Sense.{Sense}
 use Rattle.rules.specs.declared.Sense.the-variants.{Same, Reversed}
@@ -59,6 +60,10 @@ corners es names = keep (isCorner es) names
 -- Joining: edges are active until a join takes them, rings too
 abbrev pub activeEdges : List EdgeData → List ℕ
 activeEdges es = positions (λ e. e .active) 0 es
+
+-- Joining, the term "corners less edges": the number of corners less that of active edges, which may be below zero
+abbrev pub cornersLessEdges : List EdgeData → List ℕ → ℤ
+cornersLessEdges es names = subℕ (length (corners es names)) (length (activeEdges es))
 
 -- Joining: a corner with exactly two active edge ends
 abbrev pub twoEnds : List EdgeData → ℕ → Bool

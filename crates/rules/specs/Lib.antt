@@ -1,4 +1,5 @@
 pub mod Outcome
+pub mod OutcomeLaws
 pub mod Sense
 pub mod Fields
 pub mod Frame
