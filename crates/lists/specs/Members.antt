@@ -99,6 +99,7 @@ keep-both {A} p (x ∷ l) = go (p x) (keep-both p l)
   where
     rest : List A
     rest = keep (λ y. not (p y)) l
+
     go : (b : Bool) → length (keep p l) + length rest ≡ length l
         → length (cond b (x ∷ keep p l) (keep p l)) + length (cond (not b) (x ∷ rest) rest) ≡ suc (length l)
     go true r = omega arith
@@ -117,10 +118,11 @@ nodup-full (x ∷ xs) l nd sub le =
     let t : ℕ → Bool = λ y. not (eqb y x) in
     let other : (y : ℕ) → y ∈ l → (y ≡ x → ⊥) → y ∈ xs = (λ y i ne. ⊎-elim (λ e. absurd (ne e)) (λ r. r) (List·Memᴰ·cases-cons (sub y i))) in
     let short : length l ≤ suc (length (keep t l)) = pigeon l (x ∷ keep t l) nd
-        (λ y i. ⊎-elim (λ w. List·Memᴰ·head (w .0)) (λ w. List·Memᴰ·tail (in-keep t i (ap not (w .1)))) (equal-or-not y x)) in
-    ((λ i. let z = pigeon l xs nd (λ y k. ⊎-elim (λ w. Memᴰ·cast (w .0) i) (λ w. other y k (w .0)) (equal-or-not y x)) in omega (arith, z))
-    , nodup-full xs (keep t l) (keep-nodup t l nd)
-      (λ y i. let r = keep-in t l y i in other y (r .0) (λ e. true≢false (sym (r .1) ∙ ap not (eq-eqb y x e)))) (omega (arith, short)))
+    (λ y i. ⊎-elim (λ w. List·Memᴰ·head (w .0)) (λ w. List·Memᴰ·tail (in-keep t i (ap not (w .1)))) (equal-or-not y x)) in (
+      (λ i. let z = pigeon l xs nd (λ y k. ⊎-elim (λ w. Memᴰ·cast (w .0) i) (λ w. other y k (w .0)) (equal-or-not y x)) in omega (arith, z)),
+      nodup-full xs (keep t l) (keep-nodup t l nd)
+          (λ y i. let r = keep-in t l y i in other y (r .0) (λ e. true≢false (sym (r .1) ∙ ap not (eq-eqb y x e)))) (omega (arith, short)),
+    )
 
 -- POSITIONS
 
@@ -132,8 +134,10 @@ positions-in p i (y ∷ l) d x m = go (p y) refl (λ q. positions-in p (suc i) l
   where
     goal : Type 0
     goal = (i ≤ x) × (x < i + length (y ∷ l)) × (p (getD (y ∷ l) (x - i) d) ≡ true)
+
     later : (suc i ≤ x) × (x < suc i + length l) × (p (getD l (x - suc i) d) ≡ true) → goal
     later r = let e : x - i ≡ suc (x - suc i) = omega (arith, r .0) in (omega (arith, r .0), omega (arith, r .1), ap (λ k. p (getD (y ∷ l) k d)) e ∙ r .2)
+
     go : (b : Bool) → p y ≡ b → (x ∈ positions p (suc i) l → (suc i ≤ x) × (x < suc i + length l) × (p (getD l (x - suc i) d) ≡ true))
         → x ∈ cond b (i ∷ positions p (suc i) l) (positions p (suc i) l) → goal
     go true e below q =

@@ -15,9 +15,10 @@ use Rattle.lists.specs.Runs.{length-table, getD-table}
 pub set-each : {A : Type 0} (P : ℕ → A → Type 0) (l : List A) (i : ℕ) (v d : A) → i < length l → P i v
     → (j : ℕ) → (j ≢ i → P j (getD l j d)) → P j (getD (set l i v) j d)
 set-each P l i v d h p j other =
-    elim (ℕ-discrete j i)
-    [ yes e ↦ subst (λ k. P k (getD (set l i v) k d)) (sym e) (subst (P i) (sym (getD-set-same l i v d h)) p)
-    | no n ↦ subst (P j) (sym (getD-set-other l i j v d n)) (other n) ]
+    elim (ℕ-discrete j i) [
+      | yes e ↦ subst (λ k. P k (getD (set l i v) k d)) (sym e) (subst (P i) (sym (getD-set-same l i v d h)) p)
+      | no n ↦ subst (P j) (sym (getD-set-other l i j v d n)) (other n)
+    ]
 
 -- after two stores at different places
 pub set-two : {A : Type 0} (P : ℕ → A → Type 0) (l : List A) (i j : ℕ) (a b d : A) → i < length l → j < length l → i ≢ j → P i a → P j b
