@@ -1,4 +1,4 @@
--- All definitions of the rules, opened together: `unfolding computes` lets antt compute with them.
+-- All definitions of the rules, opened together: `unfolding computes` lets antt compute with them. Written by tools/open.
 use mathlib.Core.List.{flatMap}
 use Rattle.lists.specs.Lists.{from, has, repeats, same, times, least, all, some, keep, positions, position, sumOf, neighboursFrom, neighbours, iterate, orbit}
 use Rattle.rules.specs.Outcome.{need, throughout, forEach}
