@@ -5,5 +5,6 @@ pub mod Runs
 pub mod Members
 pub mod Sums
 pub mod Orbits
+pub mod Gaps
 pub mod Tables
 pub mod Cyclic
