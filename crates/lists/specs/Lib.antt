@@ -8,3 +8,6 @@ pub mod Orbits
 pub mod Gaps
 pub mod Tables
 pub mod Cyclic
+pub mod CyclicPlaces
+pub mod Onto
+pub mod OneMore

@@ -9,6 +9,7 @@ pub mod Kinds
 pub mod Load
 pub mod Read
 pub mod Groups
+pub mod GroupLaws
 pub mod Pair
 pub mod Rules
 pub mod Merge

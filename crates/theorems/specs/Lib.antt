@@ -1,6 +1,14 @@
 pub mod Demand3
 pub mod Sound
 pub mod Linked
+pub mod Reading
+pub mod Joints
+pub mod Permitted
+pub mod Fit
+pub mod Loading
+pub mod Connected
+pub mod Pairing
+pub mod Merging
 pub mod Successors
 pub mod Circuits
 pub mod Walks

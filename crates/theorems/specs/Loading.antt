@@ -1,0 +1,92 @@
+-- Loading: the facts of every loaded job.
+use Prim.Native.Nat.{ℕ}
+use native.Mathlib.Nat.{not-suc-le-zero}
+use native.Mathlib.Omega.{arith}
+use mathlib.Core.Path.{_≡_, refl, sym, _∙_, subst}
+use mathlib.Core.Logic.{⊎-elim}
+use mathlib.Core.Bool.{_&&_}
+use mathlib.Core.List.{List, List·Memᴰ·not-nil}
+use lib.ListN.{length}
+use lib.Dec.{ltb}
+use borrow.Author.Tests.{ltb-true, ltb-false, not-true}
+use Rattle.lists.specs.Tests.{both-ways, and-both}
+use Rattle.lists.specs.Sums.{sum-nil}
+use Rattle.rules.specs.Outcome.{ok}
+use Rattle.rules.specs.OutcomeLaws.{ok-one, bind-ok, need-ok, through-keeps}
+use Rattle.rules.specs.Frame.{Frame, frames}
+use Rattle.rules.specs.Job.{Job}
+use Rattle.rules.specs.Kinds.{kindOf, rightLength, rightPosition}
+use Rattle.rules.specs.Load.{Loading, counted, extended, loadRecord, nothingLoaded, loading, loaded}
+use Rattle.rules.specs.Read.{usesOf}
+use Rattle.theorems.specs.Sound.{Counted, Limited, Sound}
+use Rattle.theorems.specs.Reading.{itemsIn, uses-length, use-face-below}
+use Rattle.theorems.specs.Fit.{Fit, Taken, fit-kept}
+
+-- what is loaded so far is fit
+FitLoading : Loading → Type 0
+FitLoading s = Fit (s .counts) (s .job)
+
+-- a record that loading takes
+record-taken : (f : Frame) (s t : Loading) → loadRecord f s ≡ ok t
+    → Taken (kindOf (f .kind)) (f .fields) (s .counts) (s .job)
+    × (t ≡ record { counts = counted (kindOf (f .kind)) (length (f .fields)) (s .counts); job = extended (kindOf (f .kind)) (f .at) (f .fields) (s .job) })
+unfolding loadRecord
+record-taken f s t e =
+    let whole = need-ok (f .whole) _ _ _ t e in
+    let framed = need-ok (rightLength (kindOf (f .kind)) (f .size) && rightPosition (kindOf (f .kind)) (s .counts .part)) _ _ _ t (whole .1) in
+    let limit = need-ok _ _ _ _ t (framed .1) in
+    let permitted = need-ok _ _ _ _ t (limit .1) in
+    let joints = need-ok _ _ _ _ t (permitted .1) in
+    let new = need-ok _ _ _ _ t (joints .1) in (
+      record {
+        position = and-both (rightLength (kindOf (f .kind)) (f .size)) _ (framed .0) .1;
+        limit = not-true _ (limit .0);
+        permitted = permitted .0;
+        joints = joints .0;
+      },
+      sym (ok-one (new .1)),
+    )
+
+fit-nothing : FitLoading nothingLoaded
+unfolding FitLoading
+fit-nothing = record {
+  counted = record { vertices = refl; edges = refl; faces = refl; loops = refl; stretches = refl; uses = sym (uses-length (nothingLoaded .job) ∙ sum-nil itemsIn); answers = refl };
+  limited = record { vertices = omega arith; edges = omega arith; faces = omega arith; loops = omega arith; uses = omega arith; answers = omega arith };
+  sound = record {
+    ends = λ e h. absurd (not-suc-le-zero h);
+    face = λ l m. absurd (List·Memᴰ·not-nil m);
+    items = λ l m. absurd (List·Memᴰ·not-nil m);
+    joints = λ l xs m. absurd (List·Memᴰ·not-nil m);
+    vertex = λ l v m. absurd (List·Memᴰ·not-nil m);
+    few = omega (arith, uses-length (nothingLoaded .job), sum-nil itemsIn);
+  };
+  late = λ l m. absurd (List·Memᴰ·not-nil m);
+  faced = λ (e : _≡_ {A = ℕ} 0 4). absurd (omega arith);
+}
+
+-- what is loaded when a job's records are all taken is fit
+pub loading-fit : (job : List ℕ) (s : Loading) → loading job ≡ ok s → Fit (s .counts) (s .job)
+unfolding loading FitLoading
+loading-fit job s e =
+    let small = need-ok _ _ _ _ s e in
+    let some = need-ok _ _ _ _ s (small .1) in
+    through-keeps loadRecord FitLoading (frames job) nothingLoaded s
+    (λ f u v m F q. let r = record-taken f u v q in subst FitLoading (sym (r .1)) (fit-kept (kindOf (f .kind)) (f .at) (f .fields) (u .counts) (u .job) F (r .0)))
+    fit-nothing (some .1)
+
+-- the counts of a loaded job are the lengths of its lists, within the limits
+pub loading-counted : (job : List ℕ) (s : Loading) → loading job ≡ ok s → Counted (s .counts) (s .job) × Limited (s .counts)
+loading-counted job s e = let F = loading-fit job s e in (F .counted, F .limited)
+
+-- a loaded job is sound
+pub loaded-sound : (job : List ℕ) (j : Job) → loaded job ≡ ok j → Sound j
+loaded-sound job j e =
+    let r = bind-ok (loading job) _ j e in
+    subst Sound (ok-one (r .2)) (loading-fit job (r .0) (r .1) .sound)
+
+-- without faces there is no use
+pub no-face-no-use : (job : List ℕ) (j : Job) → loaded job ≡ ok j → length (j .faces) ≡ 0 → length (usesOf j) ≡ 0
+no-face-no-use job j e none =
+    ⊎-elim (λ t. absurd (omega (arith, use-face-below j (loaded-sound job j e) 0 (ltb-true 0 (length (usesOf j)) t))))
+    (λ t. omega (arith, ltb-false 0 (length (usesOf j)) t))
+    (both-ways (ltb 0 (length (usesOf j))))
