@@ -11,3 +11,6 @@ pub mod Cyclic
 pub mod CyclicPlaces
 pub mod Onto
 pub mod OneMore
+pub mod KeepCounts
+pub mod TurnedLists
+pub mod Differences

@@ -12,3 +12,14 @@ pub mod Merging
 pub mod Successors
 pub mod Circuits
 pub mod Walks
+pub mod Ends
+pub mod Changes
+pub mod Corners
+pub mod ChangeRuns
+pub mod Balance
+pub mod Trails
+pub mod RingLoops
+pub mod Places
+pub mod EdgesAfter
+pub mod JoinLoops
+pub mod LoopRuns
