@@ -1,0 +1,16 @@
+use Rattle.uses.specs.TableLaws.{length-uses}
+use mathlib.Core.Path.{_≡_, refl, sym, ap, _∙_}
+use native.Mathlib.Omega.{arith}
+use borrow.Author.Tests.{le-ltb, lt-ltb, le-leb, lt-leb, eq-eqb, ne-eqb, not-true, not-false}
+use borrow.Author.Needs.{needs}
+use Rattle.uses.proofs.count.Statement.{statement}
+use Rattle.uses.proofs.count.Tie as tie
+use Rattle.uses.proofs.count.Reads as reads
+use Rattle.uses.proofs.count.Lts as lts
+
+-- src/lib.rt:18:1
+returns : tie.Need-returns
+returns c = sym (length-uses (c .args .uses .now))
+
+pub count-spec : {M : Type 1} → statement M
+count-spec = tie.close (tie.spec returns)

@@ -1,0 +1,88 @@
+// The table of uses: four numbers for each use, its edge, selected face, sense and old successor.
+use fields::UNSET;
+use fields::get;
+use fields::put;
+use rules::Counts;
+use rules::Sense;
+ghost use mathlib.Core.Path.{_≡_};
+ghost use Prim.Native.Nat.{ℕ, _+_, _*_, _/_, _<_, _≤_};
+ghost use lib.ListN.{length, getD, set};
+ghost use Rattle.rules.specs.Job.{ring};
+ghost use Rattle.rules.specs.Sense.{senseNumber};
+ghost use Rattle.rules.specs.Read.{useAt, faceOfUse, oldSuccessor, edgeOfUse, useStart};
+ghost use Rattle.job.specs.Lists.{pointsIn, edgesIn};
+ghost use Rattle.uses.specs.Table.{fieldOf, usesIn, withUse};
+
+// How many uses a table has.
+pub fn count(uses: &[u32]) -> usize
+    ensures { λ r. ⌜ r ≡ length (usesIn (now (uses .entry))) ⌝ }
+{
+    uses.len() / 4
+}
+
+// Field k of use h.
+fn field_of(uses: &[u32], h: usize, k: usize) -> usize
+    requires { ⌜ k < 4 ⌝ }
+    ensures { λ r. ⌜ (r ≡ fieldOf (now (uses .entry)) h k) × (r < 4294967296) ⌝ }
+{
+    if h < uses.len() / 4 {
+        return get(uses, 4 * h + k);
+    }
+    0
+}
+
+pub fn use_edge(uses: &[u32], h: usize) -> usize
+    ensures { λ r. ⌜ (r ≡ useAt (usesIn (now (uses .entry))) h .edge) × (r < 4294967296) ⌝ }
+{
+    field_of(uses, h, 0)
+}
+
+pub fn use_face(uses: &[u32], h: usize) -> usize
+    ensures { λ r. ⌜ (r ≡ faceOfUse (usesIn (now (uses .entry))) h) × (r < 4294967296) ⌝ }
+{
+    field_of(uses, h, 1)
+}
+
+pub fn use_sense(uses: &[u32], h: usize) -> Sense
+    ensures { λ r. ⌜ r ≡ useAt (usesIn (now (uses .entry))) h .sense ⌝ }
+{
+    job::sense_of(field_of(uses, h, 2))
+}
+
+// The old successor.
+pub fn use_next(uses: &[u32], h: usize) -> usize
+    ensures { λ r. ⌜ (r ≡ oldSuccessor (usesIn (now (uses .entry))) h) × (r < 4294967296) ⌝ }
+{
+    field_of(uses, h, 3)
+}
+
+// The use's edge has no vertices.
+pub fn is_ring(job: &[u8], c: Counts, uses: &[u32], h: usize) -> bool
+    requires { ⌜ (c .vertices ≤ 1024) × (c .edges ≤ 1024) ⌝ }
+    ensures { λ r. ⌜ r ≡ ring (edgeOfUse (edgesIn (now (job .entry)) c) (useAt (usesIn (now (uses .entry))) h)) ⌝ }
+{
+    let e = use_edge(uses, h);
+    job::edge_start(job, c, e) == UNSET
+}
+
+// The point of the vertex where a use starts.
+pub fn start_point(job: &[u8], c: Counts, uses: &[u32], h: usize) -> usize
+    requires { ⌜ (c .vertices ≤ 1024) × (c .edges ≤ 1024) ⌝ }
+    ensures { λ r. ⌜ (r ≡ getD (pointsIn (now (job .entry)) c) (useStart (edgesIn (now (job .entry)) c) (useAt (usesIn (now (uses .entry))) h)) 0) × (r < 4294967296) ⌝ }
+{
+    let e = use_edge(uses, h);
+    let s = use_sense(uses, h);
+    let v = job::start_by(job, c, e, s);
+    job::point(job, c, v)
+}
+
+// Use h is stored.
+pub fn put_use(uses: &mut [u32], h: usize, edge: usize, face: usize, sense: Sense, next: usize)
+    requires { ⌜ (h < 2048) × (edge < 4294967296) × (face < 4294967296) × (next < 4294967296) ⌝ }
+    ensures { λ _. ⌜ now (uses .exit) ≡ withUse (now (uses .entry)) h (record { edge = edge; face = face; sense = sense; next = next }) ⌝ }
+{
+    put(uses, 4 * h, edge);
+    put(uses, 4 * h + 1, face);
+    put(uses, 4 * h + 2, job::sense_number(sense));
+    put(uses, 4 * h + 3, next);
+}
