@@ -1,2 +1,3 @@
 pub mod Wrote
 pub mod Tabled
+pub mod Chains
