@@ -14,3 +14,4 @@ pub mod OneMore
 pub mod KeepCounts
 pub mod TurnedLists
 pub mod Differences
+pub mod Counts

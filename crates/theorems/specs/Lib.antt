@@ -23,3 +23,10 @@ pub mod Places
 pub mod EdgesAfter
 pub mod JoinLoops
 pub mod LoopRuns
+pub mod Senses
+pub mod Ground
+pub mod Fanning
+pub mod Edging
+pub mod Starting
+pub mod Reporting
+pub mod Assembly
