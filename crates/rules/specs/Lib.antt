@@ -19,6 +19,7 @@ pub mod Fans
 pub mod Contact
 pub mod Edges
 pub mod Join
+pub mod SenseLaws
 pub mod Shells
 pub mod Body
 pub mod Sew

@@ -26,7 +26,7 @@ use Rattle.rules.specs.Edges.{lowerKept, lowerUses, fanOrNone, ownStart, ownEnd
 use Rattle.rules.specs.Join.{noEdgeData, edgeDataAt, startFan, endFan, itemStart, itemEnd}
 use Rattle.rules.specs.Sew.{Walked}
 use Rattle.theorems.specs.Demand3.{KeptUse}
-use Rattle.theorems.specs.Senses.{sense-cases, sense-apart, start-against, end-against}
+use Rattle.rules.specs.SenseLaws.{sense-cases, sense-apart, start-against, end-against}
 use Rattle.theorems.specs.Ground.{onRing, Ground}
 use Rattle.theorems.specs.Fanning.{twin, succ, kept-ended, ring-twin, twin-sense, ring-succ, twin-kept, fanLabels, FansHold}
 

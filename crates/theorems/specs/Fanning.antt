@@ -23,7 +23,7 @@ use Rattle.rules.specs.Sew.{Walked}
 use Rattle.theorems.specs.Demand3.{KeptUse, Meets}
 use Rattle.rules.specs.GroupLaws.{Lowest}
 use Rattle.theorems.specs.Connected.{value-equivalence, fans-length, fans-lowest, fans-corner, fans-within}
-use Rattle.theorems.specs.Senses.{other-sense, start-reverse, end-reverse}
+use Rattle.rules.specs.SenseLaws.{other-sense, start-reverse, end-reverse}
 use Rattle.theorems.specs.Ground.{onRing, startOf, endOf, Ground}
 
 -- USES

@@ -20,6 +20,7 @@ use Rattle.rules.specs.declared.Edge.{Edge}
 use Rattle.rules.specs.declared.Item.{Item}
 use Rattle.rules.specs.declared.Use.{Use}
 use Rattle.rules.specs.Sense.{reverse}
+use Rattle.rules.specs.SenseLaws.{start-reverse, end-reverse}
 use Rattle.rules.specs.Job.{Content, ofItems, atVertex, Job, edgeAt, faceAt, ring, ofRing, startBy, endBy, startVertex, endVertex}
 use Rattle.rules.specs.Load.{joint, loneRing, jointed}
 use Rattle.rules.specs.Read.{reversedItem, traversed, contentItems, usesOf, useAt, oldSuccessor, edgeOfUse, useStart}
@@ -42,20 +43,12 @@ joint-meets es p e =
     let b = and-both (not (ofRing es (p .next))) _ (a .1) in
     record { here = not-true _ (a .0); next = not-true _ (b .0); vertex = eqb-true _ _ (b .1) }
 
-start-reversed : (s : Sense) (e : Edge) → startBy (reverse s) e ≡ endBy s e
-start-reversed Same e = refl
-start-reversed Reversed e = refl
-
-end-reversed : (s : Sense) (e : Edge) → endBy (reverse s) e ≡ startBy s e
-end-reversed Same e = refl
-end-reversed Reversed e = refl
-
 -- in the other sense the other meets the one
 meeting-reversed : (es : List Edge) (x y : Item) → Meeting es x y → Meeting es (reversedItem y) (reversedItem x)
 meeting-reversed es x y m = record {
   here = m .next;
   next = m .here;
-  vertex = end-reversed (y .sense) (edgeAt es (y .edge)) ∙ sym (m .vertex) ∙ sym (start-reversed (x .sense) (edgeAt es (x .edge)));
+  vertex = end-reverse (y .sense) (edgeAt es (y .edge)) ∙ sym (m .vertex) ∙ sym (start-reverse (x .sense) (edgeAt es (x .edge)));
 }
 
 -- the item at a place of a loop and the one after: a ring alone, or a meeting

@@ -23,7 +23,6 @@ pub mod Places
 pub mod EdgesAfter
 pub mod JoinLoops
 pub mod LoopRuns
-pub mod Senses
 pub mod Ground
 pub mod Fanning
 pub mod Edging

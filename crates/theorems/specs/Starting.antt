@@ -30,7 +30,7 @@ use Rattle.rules.specs.Join.{noEdgeData, edgeDataAt, oneIf, endsFrom}
 use Rattle.rules.specs.Sew.{Walked, fansOf, unjoined}
 use Rattle.theorems.specs.Linked.{EndsAreFans, Trail, isItem, itemTimes, LoopsSound}
 use Rattle.theorems.specs.Demand3.{KeptUse, Closes}
-use Rattle.theorems.specs.Senses.{tested-sense, sense-tested}
+use Rattle.rules.specs.SenseLaws.{tested-sense, sense-tested}
 use Rattle.theorems.specs.Ground.{onRing, Ground}
 use Rattle.theorems.specs.Fanning.{twin, succ, kept-ended, succ-kept, fanLabels, fanList, FansHold}
 use Rattle.theorems.specs.Edging.{firstEdges, item, fanAt, EdgesHold}

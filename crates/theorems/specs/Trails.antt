@@ -15,6 +15,7 @@ use Rattle.rules.specs.declared.Sense.{Sense}
 use Rattle.rules.specs.declared.Sense.the-variants.{Same, Reversed}
 use Rattle.rules.specs.declared.Item.{Item}
 use Rattle.rules.specs.declared.EdgeData.{EdgeData}
+use Rattle.rules.specs.SenseLaws.{tested-sense, sense-tested}
 use Rattle.rules.specs.Sense.{reverse, sameSense}
 use Rattle.rules.specs.Join.{edgeDataAt, startFan, endFan, itemStart, itemEnd, turned}
 use Rattle.theorems.specs.Linked.{Trail, isItem, itemTimes, LoopsSound}
@@ -25,16 +26,6 @@ use Rattle.theorems.specs.Ends.{endsOne, one-at-same, active-ends}
 pub reverse-twice : (t : Sense) → reverse (reverse t) ≡ t
 reverse-twice Same = refl
 reverse-twice Reversed = refl
-
-same-sense : (t : Sense) → sameSense t t ≡ true
-same-sense Same = refl
-same-sense Reversed = refl
-
-sense-same : (s t : Sense) → sameSense s t ≡ true → s ≡ t
-sense-same Same Same e = refl
-sense-same Same Reversed e = absurd (let z : _≡_ {A = ℕ} 0 1 = cc in omega arith)
-sense-same Reversed Same e = absurd (let z : _≡_ {A = ℕ} 0 1 = cc in omega arith)
-sense-same Reversed Reversed e = refl
 
 -- the two senses of an edge are counted together: an item counted in either, and a sense counted for either item
 both-senses : (p : Bool) (s t : Sense) → cond (p && sameSense t s) 1 0 + cond (p && sameSense t (reverse s)) 1 0 ≡ cond p 1 0
@@ -52,13 +43,13 @@ both-items true Reversed Reversed = refl
 both-items false s t = refl
 
 pub is-item : (e : ℕ) (t : Sense) (x : Item) → x .edge ≡ e → x .sense ≡ t → isItem e t x ≡ true
-is-item e t x p q = both-and (eqb (x .edge) e) (sameSense (x .sense) t) (eq-eqb (x .edge) e p) (ap (λ u. sameSense u t) q ∙ same-sense t)
+is-item e t x p q = both-and (eqb (x .edge) e) (sameSense (x .sense) t) (eq-eqb (x .edge) e p) (ap (λ u. sameSense u t) q ∙ sense-tested t)
 
 pub item-is : (e : ℕ) (t : Sense) (x : Item) → isItem e t x ≡ true → x ≡ record { edge = e; sense = t }
 item-is e t x h =
     let r = and-both (eqb (x .edge) e) (sameSense (x .sense) t) h in
     let p : x .edge ≡ e = eqb-true (x .edge) e (r .0) in
-    let q : x .sense ≡ t = sense-same (x .sense) t (r .1) in
+    let q : x .sense ≡ t = tested-sense (x .sense) t (r .1) in
     λ i. record { edge = p i; sense = q i }
 
 -- how often an edge stands in some items, in either sense
