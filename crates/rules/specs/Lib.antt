@@ -28,3 +28,4 @@ pub mod Listing
 pub mod Open
 pub mod Tables
 pub mod Parts
+pub mod Cases

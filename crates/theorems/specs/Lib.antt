@@ -29,3 +29,4 @@ pub mod Edging
 pub mod Starting
 pub mod Reporting
 pub mod Assembly
+pub mod Figures
