@@ -15,3 +15,5 @@ pub mod KeepCounts
 pub mod TurnedLists
 pub mod Differences
 pub mod Counts
+pub mod Constants
+pub mod SameLists

@@ -1,0 +1,7 @@
+pub mod Question
+pub mod QuestionLaws
+pub mod RecordLaws
+pub mod Index
+pub mod ChainLaws
+pub mod IndexLaws
+pub mod EnterLaws
