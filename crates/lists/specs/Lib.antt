@@ -17,3 +17,4 @@ pub mod Differences
 pub mod Counts
 pub mod Constants
 pub mod SameLists
+pub mod Prefixes

@@ -1,0 +1,65 @@
+// Groups of numbers by a table of parents: following parents ends at the lowest member. A number past the end is in the
+// group of 0.
+use fields::get;
+use fields::put;
+ghost use mathlib.Core.Path.{_≡_};
+ghost use mathlib.Core.List.{List};
+ghost use Prim.Native.Nat.{ℕ, _≤_};
+ghost use lib.ListN.{length};
+ghost use Rattle.rules.specs.Groups.{alone as aloneOf};
+ghost use Rattle.groups.specs.Parents.{Ordered, Stands, Rooted, JoinedIn};
+
+// Each number is alone.
+pub fn alone(parents: &mut [u32])
+    requires { ⌜ length (now parents) ≤ 4294967296 ⌝ }
+    ensures { λ _. ⌜ (now (parents .exit) ≡ aloneOf (length (now (parents .entry)))) × Stands (now (parents .exit)) (aloneOf (length (now (parents .entry)))) ⌝ }
+{
+    let mut i: usize = 0;
+    while i < parents.len() {
+        put(parents, i, i);
+        i += 1;
+    }
+}
+
+// The label of a number, with each path on the way halved.
+pub fn root_in(parents: &mut [u32], start: usize) -> usize
+    requires { ⌜ Ordered (now parents) ⌝ }
+    ensures { λ r. ⌜ Rooted (now (parents .entry)) (now (parents .exit)) start r ⌝ }
+{
+    let mut i = start;
+    let mut up = get(parents, i);
+    while up != i {
+        let far = get(parents, up);
+        put(parents, i, far);
+        i = far;
+        up = get(parents, i);
+    }
+    up
+}
+
+// The groups of a and b become one.
+pub fn join_in(parents: &mut [u32], a: usize, b: usize)
+    requires { ⌜ Ordered (now parents) ⌝ }
+    ensures { λ _. ⌜ JoinedIn (now (parents .entry)) (now (parents .exit)) a b ⌝ }
+{
+    let ra = root_in(parents, a);
+    let rb = root_in(parents, b);
+    if ra < rb {
+        put(parents, rb, ra);
+    } else if rb < ra {
+        put(parents, ra, rb);
+    }
+}
+
+// Each number's parent becomes its label.
+pub fn settle(parents: &mut [u32])
+    ensures { λ _. ⌜ ((ls : List ℕ) → Stands (now (parents .entry)) ls → now (parents .exit) ≡ ls) ⌝ }
+{
+    let mut i: usize = 0;
+    while i < parents.len() {
+        let up = get(parents, i);
+        let label = get(parents, up);
+        put(parents, i, label);
+        i += 1;
+    }
+}

@@ -1,0 +1,4 @@
+pub mod Merging
+pub mod MergingLaws
+pub mod Removing
+pub mod Numbering

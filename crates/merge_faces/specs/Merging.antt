@@ -1,0 +1,32 @@
+-- What merging answers, as outcomes of the definitions.
+use Prim.Native.Nat.{ℕ}
+use mathlib.Core.Path.{_≡_}
+use mathlib.Core.List.{List}
+use mathlib.Core.Bool.{cond}
+use Rattle.rules.specs.declared.Face.{Face}
+use Rattle.rules.specs.Outcome.{Outcome, ok, refuse, _>>=_}
+use Rattle.rules.specs.Sense.{sameSense}
+use Rattle.rules.specs.Job.{faceAt}
+use Rattle.rules.specs.Read.{storedSense}
+use Rattle.rules.specs.Groups.{joined}
+use Rattle.rules.specs.Rules.{fullTable}
+use Rattle.rules.specs.Merge.{surfaceAnswer, joinsFaces}
+use Rattle.groups.specs.Parents.{Stands}
+use Rattle.merge_faces.specs.declared.Merging.{Merging}
+use Rattle.merge_faces.specs.declared.Merging.the-variants.{Done, Refused}
+
+-- the labels, or the refusal
+abbrev pub mergedOf : Merging → List ℕ → Outcome (List ℕ)
+mergedOf Done labels = ok labels
+mergedOf (Refused n p) labels = refuse n p
+
+-- an outcome that was reached: its groups as a table of parents, or the refusal
+abbrev pub MergedTo : Merging → List ℕ → Outcome (List ℕ) → Type 0
+MergedTo Done parents o = (g : List ℕ) × (o ≡ ok g) × Stands parents g
+MergedTo (Refused n p) parents o = o ≡ refuse n p
+
+-- the groups after the surface answer v about faces a and b
+unfoldable pub answeredStep : List Face → ℕ → ℕ → ℕ → List ℕ → Outcome (List ℕ)
+answeredStep fs a b v g =
+    joinsFaces fullTable (sameSense (storedSense (faceAt fs a)) (storedSense (faceAt fs b))) (surfaceAnswer v) >>= λ yes.
+    ok (cond yes (joined g a b) g)

@@ -1,0 +1,184 @@
+-- Laws of the surface answers, of one use's step, and of the steps of all uses.
+use Prim.Native.Nat.{ℕ, zero, suc, _+_, _-_, _≤_, _<_}
+use native.Mathlib.Omega.{arith}
+use mathlib.Core.Path.{_≡_, refl, sym, ap, _∙_, subst}
+use mathlib.Core.Bool.{Bool, true, false, not}
+use mathlib.Core.List.{List, [], _∷_, foldl}
+use lib.ListN.{length}
+use lib.Dec.{leb}
+use borrow.Author.Tests.{le-leb, lt-leb, eq-eqb, ne-eqb}
+use Rattle.lists.specs.Lists.{from, below}
+use Rattle.lists.specs.Tests.{or-first, or-second, none-or, cond-true, cond-false}
+use Rattle.lists.specs.Runs.{left-at, left-none, length-table}
+use Rattle.lists.specs.Prefixes.{foldl-below}
+use Rattle.rules.specs.declared.Counts.{Counts}
+use Rattle.rules.specs.declared.Face.{Face}
+use Rattle.rules.specs.declared.Sense.{Sense}
+use Rattle.rules.specs.declared.Use.{Use}
+use Rattle.rules.specs.Outcome.{Outcome, ok, refuse, throughout}
+use Rattle.rules.specs.OutcomeLaws.{bind-on, bind-stop, through-none, through-on, through-stop}
+use Rattle.rules.specs.Sense.{sameSense}
+use Rattle.rules.specs.Job.{Answer, faceAt}
+use Rattle.rules.specs.Questions.{ask}
+use Rattle.rules.specs.Read.{faceOfUse, storedSense}
+use Rattle.rules.specs.Groups.{alone, joined}
+use Rattle.rules.specs.Pair.{twinOf}
+use Rattle.rules.specs.Rules.{fullTable}
+use Rattle.rules.specs.Merge.{otherFace, surfaceAnswer, vanishing, joinsFaces, unasked, surfaceStep, mergeStep, mergedGroups, boundaryStep, boundaries}
+use Rattle.job.specs.Lists.{facesIn}
+use Rattle.groups.specs.Parents.{Stands, JoinedIn}
+use Rattle.merge_faces.specs.declared.Merging.{Merging}
+use Rattle.merge_faces.specs.declared.Merging.the-variants.{Done, Refused}
+use Rattle.merge_faces.specs.Merging.{MergedTo, answeredStep}
+
+-- ONE ANSWER
+
+-- by value
+pub joins-0 : (v : ℕ) (equal : Bool) → v ≡ 0 → ok false ≡ joinsFaces fullTable equal (surfaceAnswer v)
+unfolding surfaceAnswer joinsFaces
+joins-0 v equal e = rw e
+
+pub joins-1 : (v : ℕ) (equal : Bool) → v ≡ 1 → ok equal ≡ joinsFaces fullTable equal (surfaceAnswer v)
+unfolding surfaceAnswer joinsFaces
+joins-1 v true e = rw e
+joins-1 v false e = rw e
+
+pub joins-2 : (v : ℕ) (equal : Bool) → v ≡ 2 → ok (not equal) ≡ joinsFaces fullTable equal (surfaceAnswer v)
+unfolding surfaceAnswer joinsFaces
+joins-2 v true e = rw e
+joins-2 v false e = rw e
+
+-- every value from 3 on
+vanishes : (v : ℕ) → (v ≡ 0 → ⊥) → (v ≡ 1 → ⊥) → (v ≡ 2 → ⊥) → surfaceAnswer v ≡ vanishing
+unfolding surfaceAnswer
+vanishes zero a b c = absurd (a refl)
+vanishes (suc zero) a b c = absurd (b refl)
+vanishes (suc (suc zero)) a b c = absurd (c refl)
+vanishes (suc (suc (suc v))) a b c = refl
+
+pub joins-3 : (v : ℕ) (equal : Bool) → (v ≡ 0 → ⊥) → (v ≡ 1 → ⊥) → (v ≡ 2 → ⊥) → refuse 22 8 ≡ joinsFaces fullTable equal (surfaceAnswer v)
+unfolding joinsFaces
+joins-3 v equal a b c = rw (vanishes v a b c)
+
+-- whether faces a and b join after answer v, by the code's senses
+abbrev joining : List Face → ℕ → ℕ → ℕ → Outcome Bool
+joining fs a b v = joinsFaces fullTable (sameSense (storedSense (faceAt fs a)) (storedSense (faceAt fs b))) (surfaceAnswer v)
+
+pub joining-is : (fs : List Face) (a b v : ℕ) (s t : Sense) (equal : Bool) (o : Outcome Bool)
+    → s ≡ storedSense (faceAt fs a) → t ≡ storedSense (faceAt fs b) → equal ≡ sameSense s t → o ≡ joinsFaces fullTable equal (surfaceAnswer v) → joining fs a b v ≡ o
+joining-is fs a b v s t equal o p q r e = sym (e ∙ ap (λ x. joinsFaces fullTable x (surfaceAnswer v)) (r ∙ (λ i. sameSense (p i) (q i))))
+
+module _ (fs : List Face) (a b v : ℕ) (g : List ℕ) where
+  pub answer-refuses : (n p : ℕ) → joining fs a b v ≡ refuse n p → answeredStep fs a b v g ≡ refuse n p
+  unfolding answeredStep
+  answer-refuses n p e = bind-stop _ e
+
+  pub answer-keeps : joining fs a b v ≡ ok false → answeredStep fs a b v g ≡ ok g
+  unfolding answeredStep
+  answer-keeps e = bind-on _ e
+
+  pub answer-joins : joining fs a b v ≡ ok true → answeredStep fs a b v g ≡ ok (joined g a b)
+  unfolding answeredStep
+  answer-joins e = bind-on _ e
+
+-- ONE USE
+
+-- the code's numbers: the twin t of use h, their faces a and b
+module _ (answers : List Answer) (fs : List Face) (us : List Use) (ts : List ℕ) (h t : ℕ) (et : t ≡ twinOf ts h) where
+  pub use-higher : t ≤ h → (g : List ℕ) → mergeStep fullTable answers fs us ts h g ≡ ok g
+  unfolding mergeStep
+  use-higher le g = cond-true (unasked us ts h) (ok g) _ (or-first (leb (twinOf ts h) h) _ (le-leb (twinOf ts h) h (omega arith)))
+
+  module _ (a b : ℕ) (ea : a ≡ faceOfUse us h) (eb : b ≡ faceOfUse us t) where
+    other : b ≡ otherFace us ts h
+    other = eb ∙ ap (faceOfUse us) et
+
+    pub use-same-face : a ≡ b → (g : List ℕ) → mergeStep fullTable answers fs us ts h g ≡ ok g
+    unfolding mergeStep
+    use-same-face e g =
+        cond-true (unasked us ts h) (ok g) _ (or-second (leb (twinOf ts h) h) _ (eq-eqb (faceOfUse us h) (otherFace us ts h) (sym ea ∙ e ∙ other)))
+
+    module _ (lt : h < t) (ne : a ≡ b → ⊥) (g : List ℕ) where
+      put : mergeStep fullTable answers fs us ts h g ≡ surfaceStep fullTable answers fs us ts h g
+      unfolding mergeStep
+      put =
+          cond-false (unasked us ts h) (ok g) _
+          (none-or (leb (twinOf ts h) h) _ (lt-leb (twinOf ts h) h (omega arith)) (ne-eqb (faceOfUse us h) (otherFace us ts h) (λ e. ne (ea ∙ e ∙ sym other))))
+
+      pub use-refused : (n p : ℕ) → ask answers 8 (h ∷ []) ≡ refuse n p → mergeStep fullTable answers fs us ts h g ≡ refuse n p
+      unfolding surfaceStep
+      use-refused n p e = put ∙ bind-stop _ e
+
+      pub use-answered : (v : ℕ) → ask answers 8 (h ∷ []) ≡ ok v → mergeStep fullTable answers fs us ts h g ≡ answeredStep fs a b v g
+      unfolding surfaceStep answeredStep
+      use-answered v e = put ∙ bind-on _ e ∙ (λ i. answeredStep fs (sym ea i) (sym other i) v g)
+
+-- ALL USES
+
+-- what is left to do at use h, with groups for which the parents stand
+pub record MergingAt (answers : List Answer) (fs : List Face) (us : List Use) (ts parents : List ℕ) (h : ℕ) : Type 0 where
+  pub groups : List ℕ
+  pub stands : Stands parents groups
+  pub rest : mergedGroups fullTable answers fs us ts ≡ throughout (mergeStep fullTable answers fs us ts) (from h (length us - h)) groups
+
+module _ (answers : List Answer) (fs : List Face) (us : List Use) (ts : List ℕ) where
+  pub merging-start : (parents : List ℕ) (n : ℕ) → n ≡ length fs → Stands parents (alone n) → MergingAt answers fs us ts parents 0
+  merging-start parents n e s = record {
+    groups = alone (length fs);
+    stands = subst (λ k. Stands parents (alone k)) e s;
+    rest = let z : length us ≡ length us - 0 = omega arith in ap (λ k. throughout (mergeStep fullTable answers fs us ts) (from 0 k) (alone (length fs))) z;
+  }
+
+  module _ (parents after : List ℕ) (h : ℕ) (m : MergingAt answers fs us ts parents h) where
+    left : h < length us → mergedGroups fullTable answers fs us ts ≡ throughout (mergeStep fullTable answers fs us ts) (h ∷ from (h + 1) (length us - (h + 1))) (m .groups)
+    left lt = m .rest ∙ ap (λ l. throughout (mergeStep fullTable answers fs us ts) l (m .groups)) (left-at h (length us) lt)
+
+    -- what one use's step said, by its answer r
+    abbrev Told : Merging → Type 0
+    Told r = (g : List ℕ) → Stands parents g → MergedTo r after (mergeStep fullTable answers fs us ts h g)
+
+    pub merging-step : h < length us → (r : Merging) → r ≡ Done → Told r → MergingAt answers fs us ts after (h + 1)
+    merging-step lt r e told =
+        let s = subst Told e told (m .groups) (m .stands) in
+        record {
+          groups = s .0;
+          stands = s .2;
+          rest = left lt ∙ through-on (mergeStep fullTable answers fs us ts) h (from (h + 1) (length us - (h + 1))) (m .groups) (s .0) (s .1);
+        }
+
+    pub merging-stop : h < length us → (r : Merging) (n p : ℕ) → r ≡ Refused n p → Told r → refuse n p ≡ mergedGroups fullTable answers fs us ts
+    merging-stop lt r n p e told =
+        sym (left lt ∙ through-stop (mergeStep fullTable answers fs us ts) h (from (h + 1) (length us - (h + 1))) (m .groups) n p (subst Told e told (m .groups) (m .stands)))
+
+    pub merging-end : length us ≤ h → ((g : List ℕ) → Stands parents g → after ≡ g) → ok after ≡ mergedGroups fullTable answers fs us ts
+    merging-end le settled =
+        ap ok (settled (m .groups) (m .stands))
+        ∙ sym (m .rest ∙ ap (λ l. throughout (mergeStep fullTable answers fs us ts) l (m .groups)) (left-none h (length us) le) ∙ through-none (mergeStep fullTable answers fs us ts) (m .groups))
+
+-- BOUNDARIES
+
+-- the parents stand for the groups after h uses
+abbrev pub BoundedAt : List Use → List ℕ → ℕ → List ℕ → ℕ → Type 0
+BoundedAt us ts n parents h = Stands parents (foldl (boundaryStep us ts) (alone n) (below h))
+
+pub bounded-start : (us : List Use) (ts : List ℕ) (n : ℕ) (parents : List ℕ) → length parents ≡ n → Stands parents (alone n) → BoundedAt us ts (length parents) parents 0
+unfolding from
+bounded-start us ts n parents e s = subst (λ k. Stands parents (alone k)) (sym e) s
+
+-- one use more: the code's numbers are the twin t of use h, their faces a and b
+pub bounded-step : (us : List Use) (ts : List ℕ) (n : ℕ) (parents after : List ℕ) (h t a b : ℕ) → BoundedAt us ts n parents h
+    → t ≡ twinOf ts h → a ≡ faceOfUse us h → b ≡ faceOfUse us t → JoinedIn parents after a b → BoundedAt us ts n after (h + 1)
+bounded-step us ts n parents after h t a b s et ea eb j =
+    let g = foldl (boundaryStep us ts) (alone n) (below h) in
+    let e : joined g a b ≡ foldl (boundaryStep us ts) (alone n) (below (h + 1)) =
+    (λ i. joined g (ea i) ((eb ∙ ap (faceOfUse us) et) i)) ∙ sym (foldl-below (boundaryStep us ts) (alone n) h) in
+    subst (Stands after) e (j .stands g s)
+
+pub bounded-end : (us : List Use) (ts : List ℕ) (n m : ℕ) (parents after : List ℕ) (h : ℕ) → m ≡ n → BoundedAt us ts m parents h → h ≡ length us
+    → ((g : List ℕ) → Stands parents g → after ≡ g) → after ≡ boundaries us ts n
+bounded-end us ts n m parents after h e s last settled =
+    settled (foldl (boundaryStep us ts) (alone m) (below h)) s ∙ (λ i. foldl (boundaryStep us ts) (alone (e i)) (below (last i)))
+
+pub length-faces : (bytes ix : List ℕ) (c : Counts) → length (facesIn bytes ix c) ≡ c .faces
+unfolding facesIn
+length-faces bytes ix c = length-table _ (c .faces)
