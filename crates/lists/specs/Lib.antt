@@ -18,3 +18,4 @@ pub mod Counts
 pub mod Constants
 pub mod SameLists
 pub mod Prefixes
+pub mod ListEnds

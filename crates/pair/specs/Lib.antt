@@ -1,0 +1,5 @@
+pub mod Twins
+pub mod OrderLaws
+pub mod PairLaws
+pub mod EdgeLaws
+pub mod AllLaws

@@ -1,0 +1,3 @@
+pub mod Items
+pub mod ItemLaws
+pub mod ReadLaws
