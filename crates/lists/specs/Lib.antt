@@ -19,3 +19,7 @@ pub mod Constants
 pub mod SameLists
 pub mod Prefixes
 pub mod ListEnds
+pub mod InPlace
+pub mod KeepBelow
+pub mod StoreRuns
+pub mod Stretches

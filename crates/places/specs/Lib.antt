@@ -1,0 +1,4 @@
+pub mod Turn
+pub mod Find
+pub mod Replace
+pub mod ReplaceAll
