@@ -1,0 +1,119 @@
+//! The judge: holds the published sewing against a second implementation.
+
+mod answer;
+mod bench;
+mod cli;
+mod compare;
+mod features;
+mod generate;
+mod parts;
+mod program;
+mod records;
+mod run;
+mod second;
+mod summary;
+mod text;
+mod vectors;
+
+#[cfg(test)]
+mod tests;
+
+use cli::{Args, Failed, say};
+use std::io::Write;
+
+const USAGE: &str = "\
+usage: judge run --seed S --jobs N
+       judge parts PATH..
+       judge answer STAGE [--room N] < job      (STAGE: sew, a stage, loop N)
+       judge job < text > job
+       judge text < job > text
+       judge make --seed S --job I > job
+       judge vectors --seed S OUT
+       judge program [--listing PATH] [--stage PATH]
+                     (--seed S --jobs N | --vectors FILE | --parts DIR)
+       judge bench FILE..";
+
+fn main() {
+    let args: Vec<String> = std::env::args().skip(1).collect();
+    let Some((command, rest)) = args.split_first() else {
+        eprintln!("{USAGE}");
+        std::process::exit(2);
+    };
+    let status = match obey(command, rest) {
+        Ok(true) => 0,
+        Ok(false) => 1,
+        Err(line) => {
+            eprintln!("judge: {line}");
+            2
+        }
+    };
+    std::process::exit(status);
+}
+
+/// Carries out a command; false if something disagreed.
+fn obey(command: &str, rest: &[String]) -> Result<bool, Failed> {
+    match command {
+        "run" => run_jobs(&Args::parse(rest, &["seed", "jobs"])?),
+        "parts" => parts::parts(&Args::parse(rest, &[])?.others),
+        "answer" => print_answer(&Args::parse(rest, &["room"])?),
+        "job" => print_job(&Args::parse(rest, &[])?),
+        "text" => print_text(&Args::parse(rest, &[])?),
+        "make" => print_generated(&Args::parse(rest, &["seed", "job"])?),
+        "vectors" => write_vectors(&Args::parse(rest, &["seed"])?),
+        "program" => {
+            let known = ["listing", "stage", "seed", "jobs", "vectors", "parts"];
+            program::program(&Args::parse(rest, &known)?)
+        }
+        "bench" => bench::bench(&Args::parse(rest, &[])?.others).map(|()| true),
+        _ => Err(format!("{command}: no such command")),
+    }
+}
+
+fn run_jobs(args: &Args) -> Result<bool, Failed> {
+    args.no_others()?;
+    let (seed, jobs) = (args.wanted_number("seed")?, args.wanted_number("jobs")?);
+    Ok(run::run(seed, jobs))
+}
+
+fn print_answer(args: &Args) -> Result<bool, Failed> {
+    let wanted = answer::Wanted::of_words(&args.others)?;
+    let room = args.number("room")?.unwrap_or(compare::ROOM as u64);
+    let job = cli::read_input()?;
+    print(answer::answer(&job, wanted, room as usize).as_bytes())
+}
+
+fn print_job(args: &Args) -> Result<bool, Failed> {
+    args.no_others()?;
+    let text = String::from_utf8(cli::read_input()?);
+    let text = text.map_err(|_| "standard input: not text".to_string())?;
+    print(&text::job_of_text(&text)?)
+}
+
+fn print_text(args: &Args) -> Result<bool, Failed> {
+    args.no_others()?;
+    print(text::text_of_job(&cli::read_input()?).as_bytes())
+}
+
+fn print_generated(args: &Args) -> Result<bool, Failed> {
+    args.no_others()?;
+    let (seed, job) = (args.wanted_number("seed")?, args.wanted_number("job")?);
+    print(&generate::sample(seed, job).job)
+}
+
+fn write_vectors(args: &Args) -> Result<bool, Failed> {
+    let seed = args.wanted_number("seed")?;
+    let [path] = &args.others[..] else {
+        return Err("name the file to write".to_string());
+    };
+    let packed = vectors::vectors(seed)?;
+    std::fs::write(path, &packed.bytes).map_err(|error| format!("{path}: {error}"))?;
+    say!("{} jobs, {} bytes", packed.jobs, packed.bytes.len());
+    Ok(true)
+}
+
+fn print(bytes: &[u8]) -> Result<bool, Failed> {
+    let written = std::io::stdout().write_all(bytes);
+    written
+        .map(|()| true)
+        .map_err(|error| format!("standard output: {error}"))
+}

@@ -1,0 +1,165 @@
+//! Document 01's parts P1 to P9 in both implementations, and the judge's own
+//! forms of jobs.
+
+use crate::answer::{Wanted, answer};
+use crate::compare::{ROOM, compare};
+use crate::generate::rng::Rng;
+use crate::generate::{self, Sample, limits};
+use crate::{run, second, text};
+
+/// The part's bytes and the lines marked `#>` in its file.
+fn part(number: usize) -> (Vec<u8>, String) {
+    let path = format!("{}/parts/P{number}.txt", env!("CARGO_MANIFEST_DIR"));
+    let file = std::fs::read_to_string(path).expect("the part is there");
+    let marked = file.lines().filter_map(|line| line.strip_prefix("#> "));
+    let expected = marked.map(|line| format!("{line}\n")).collect();
+    (
+        text::job_of_text(&file).expect("the part is readable"),
+        expected,
+    )
+}
+
+/// The second implementation's listing or refusal.
+fn listing(job: &[u8]) -> String {
+    let loaded = match second::load(job) {
+        Ok(loaded) => loaded,
+        Err(refusal) => return format!("{refusal}\n"),
+    };
+    let trail = second::sew(&loaded, &mut &loaded.answers);
+    match second::sew_output(&trail, ROOM) {
+        Ok(body) => text::listing(&body),
+        Err(refusal) => format!("{refusal}\n"),
+    }
+}
+
+#[test]
+fn parts_give_what_their_files_say() {
+    for number in 1..=9 {
+        let (job, expected) = part(number);
+        assert_eq!(listing(&job), expected, "P{number}");
+    }
+}
+
+#[test]
+fn reference_agrees_on_the_parts() {
+    for number in 1..=9 {
+        let differences = compare(&part(number).0, ROOM).differences;
+        assert!(differences.is_empty(), "P{number}: {differences:?}");
+    }
+}
+
+/// The lines that document 01 itself gives.
+#[test]
+fn parts_have_the_lines_of_the_paper() {
+    let given: [(usize, &[&str]); 9] = [
+        (1, &["body 0 0 0 0 0 0"]),
+        (2, &["edge 5 0 - -", "shell 0 1"]),
+        (3, &["body 1 2 2 0 0 0", "face 7 0"]),
+        (4, &["refused 10 0"]),
+        (5, &["refused 11 0"]),
+        (6, &["refused 6 50"]),
+        (
+            7,
+            &["body 1 4 0 0 1 1", "edge 5 1 - -", "loop 0 1", "loop 0 0"],
+        ),
+        (8, &["edge 5 0 0 0"]),
+        (9, &["body 1 6 2 2 0 0", "loop 0 0 1 0", "loop 1 1 0 1"]),
+    ];
+    for (number, lines) in given {
+        let listing = listing(&part(number).0);
+        let mut rest = listing.lines();
+        for line in lines {
+            assert!(rest.any(|l| l == *line), "P{number}: {line} in {listing}");
+        }
+    }
+    let count = |number: usize, name: &str| {
+        let listing = listing(&part(number).0);
+        listing.lines().filter(|l| l.starts_with(name)).count()
+    };
+    assert_eq!(
+        [count(2, "face"), count(2, "edge"), count(2, "shell")],
+        [2, 1, 1]
+    );
+    assert_eq!([count(3, "face"), count(3, "loop")], [1, 0]);
+}
+
+#[test]
+fn text_and_bytes_turn_into_each_other() {
+    for number in 1..=9 {
+        let (job, _) = part(number);
+        assert_eq!(text::job_of_text(&text::text_of_job(&job)), Ok(job));
+    }
+}
+
+#[test]
+fn a_damaged_tail_is_a_comment() {
+    let (mut job, _) = part(2);
+    let length = job.len();
+    job.extend([4, 0, 0, 0, 8, 0, 1]);
+    let text = text::text_of_job(&job);
+    let last = text.lines().last().map(str::to_string);
+    let comment = format!("# damaged from byte {length} on: 04 00 00 00 08 00 01");
+    assert_eq!(last, Some(comment));
+    job.truncate(length);
+    assert_eq!(text::job_of_text(&text), Ok(job));
+}
+
+#[test]
+fn generated_jobs_agree() {
+    for index in 0..2_000 {
+        let sample = generate::sample(1, index);
+        let differences = run::judge(&sample).differences;
+        assert!(differences.is_empty(), "job {index}: {differences:?}");
+    }
+}
+
+#[test]
+fn every_limit_is_reached_and_passed() {
+    for sort in 0..limits::SORTS {
+        for past in [false, true] {
+            let mut rng = Rng::new(1, sort as u64);
+            let (job, expected) = limits::limited(sort, past, &mut rng);
+            let sample = Sample {
+                class: "limits",
+                job,
+                room: ROOM,
+                expected,
+            };
+            let differences = run::judge(&sample).differences;
+            assert!(differences.is_empty(), "limit {sort}: {differences:?}");
+        }
+    }
+}
+
+/// A loop request shows the job's own bytes, and the number if it is too high.
+#[test]
+fn loops_can_be_requested() {
+    let (job, _) = part(9);
+    let wanted: [u32; 4] = [1, 1, 0, 1];
+    let payload = crate::records::field_bytes(&wanted);
+    assert_eq!(second::request(&job, 2), Ok(&payload[..]));
+    let refusal = second::request(&job, 3).map_err(|r| (r.number, r.place));
+    assert_eq!(refusal, Err((4, 3)));
+}
+
+/// P9's stages, by hand.
+#[test]
+fn stages_of_part_nine() {
+    let (job, _) = part(9);
+    let stage = |name: &str| {
+        let wanted = Wanted::of_words(&[name.to_string()]).expect("a stage");
+        answer(&job, wanted, ROOM)
+    };
+    assert_eq!(stage("pair"), "5\n2\n1\n4\n3\n0\n");
+    assert_eq!(stage("merge"), "0 0\n0 0\n0 2\n");
+    assert_eq!(stage("walk"), "0 3 1\n3 0 1\n4 5 0\n5 4 0\n");
+    assert_eq!(stage("loops"), "0 2 0 3\n1 2 4 5\n");
+    assert_eq!(stage("fans"), "0 0 0\n3 3 1\n4 0 0\n5 3 1\n");
+    assert_eq!(stage("shells"), "1 2 0 1\n");
+    assert_eq!(stage("lumps"), "0 2 0 1\n");
+    let edges = "0 0 2\n5 0 0 3 0 1 1\n6 0 3 0 0 1 1\n0 2 0 0 1 0\n1 2 1 1 0 1\n";
+    assert_eq!(stage("edges"), edges);
+    assert_eq!(stage("joining"), edges);
+    let walk = Wanted::of_words(&["walk".to_string()]).expect("a stage");
+    assert_eq!(answer(&job, walk, 47), "refused 40 48\n");
+}
