@@ -12,6 +12,7 @@ mod records;
 mod run;
 mod second;
 mod summary;
+mod table;
 mod text;
 mod vectors;
 
@@ -29,6 +30,7 @@ usage: judge run --seed S --jobs N
        judge text < job > text
        judge make --seed S --job I > job
        judge vectors --seed S OUT
+       judge table --seed S OUT
        judge program [--listing PATH] [--stage PATH]
                      (--seed S --jobs N | --vectors FILE | --parts DIR)
        judge bench FILE..";
@@ -60,6 +62,7 @@ fn obey(command: &str, rest: &[String]) -> Result<bool, Failed> {
         "text" => print_text(&Args::parse(rest, &[])?),
         "make" => print_generated(&Args::parse(rest, &["seed", "job"])?),
         "vectors" => write_vectors(&Args::parse(rest, &["seed"])?),
+        "table" => write_table(&Args::parse(rest, &["seed"])?),
         "program" => {
             let known = ["listing", "stage", "seed", "jobs", "vectors", "parts"];
             program::program(&Args::parse(rest, &known)?)
@@ -108,6 +111,17 @@ fn write_vectors(args: &Args) -> Result<bool, Failed> {
     let packed = vectors::vectors(seed)?;
     std::fs::write(path, &packed.bytes).map_err(|error| format!("{path}: {error}"))?;
     say!("{} jobs, {} bytes", packed.jobs, packed.bytes.len());
+    Ok(true)
+}
+
+fn write_table(args: &Args) -> Result<bool, Failed> {
+    let seed = args.wanted_number("seed")?;
+    let [path] = &args.others[..] else {
+        return Err("name the file to write".to_string());
+    };
+    let (module, said) = table::table(seed)?;
+    std::fs::write(path, module).map_err(|error| format!("{path}: {error}"))?;
+    say!("{said}");
     Ok(true)
 }
 

@@ -114,7 +114,7 @@ fn most_kept(class: &str, length: usize, number: u32) -> usize {
 }
 
 /// Number, and the kind for refusals 20 and 21.
-fn sort_of_ending(refusal: Refusal) -> (u32, u32) {
+pub fn sort_of_ending(refusal: Refusal) -> (u32, u32) {
     match refusal.number {
         20 | 21 => (refusal.number, refusal.place),
         number => (number, 0),
@@ -156,10 +156,10 @@ fn agreed(job: &[u8]) -> Result<(), Failed> {
 }
 
 /// The refusal of an operation, or the bytes it writes.
-type Answer = Result<Vec<u8>, Refusal>;
+pub type Answer = Result<Vec<u8>, Refusal>;
 
 /// A job's sewing, or the refusal of its loading.
-type Sewn = Result<Trail, Refusal>;
+pub type Sewn = Result<Trail, Refusal>;
 
 fn pack(out: &mut Vec<u8>, job: &[u8], room: usize) {
     put(out, job.len() as u32);
@@ -195,11 +195,11 @@ fn rooms(body: &Answer, room: usize) -> Vec<usize> {
     rooms
 }
 
-fn sew_answer(sewn: &Sewn, room: usize) -> Answer {
+pub fn sew_answer(sewn: &Sewn, room: usize) -> Answer {
     second::sew_output(sewn.as_ref().map_err(|refusal| *refusal)?, room)
 }
 
-fn stage_answer(sewn: &Sewn, stage: Stage) -> Answer {
+pub fn stage_answer(sewn: &Sewn, stage: Stage) -> Answer {
     let trail = sewn.as_ref().map_err(|refusal| *refusal)?;
     let records = second::stage_output(trail, stage, usize::MAX)?;
     Ok(crate::records::field_bytes(&records.concat()))

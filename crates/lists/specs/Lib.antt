@@ -23,3 +23,8 @@ pub mod InPlace
 pub mod KeepBelow
 pub mod StoreRuns
 pub mod Stretches
+pub mod TableMore
+pub mod Appended
+pub mod Cuts
+pub mod Rows
+pub mod Leasts

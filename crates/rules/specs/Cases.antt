@@ -849,6 +849,17 @@ voidFirst = record {
       rec 25 (2 ∷ 1 ∷ []) ∷ rec 27 [] ∷ rec 28 (2 ∷ 3 ∷ []) ∷ rec 27 [] ∷ rec 28 (4 ∷ 5 ∷ []) ∷ rec 28 (0 ∷ 1 ∷ []) ∷ []);
 }
 
+-- a sense that is none in a loop whose joints are broken: fields come first
+unfoldable pub senseAndJoint : Case
+senseAndJoint = record {
+  records =
+      rec 1 (1 ∷ []) ∷ rec 2 (0 ∷ []) ∷ rec 2 (1 ∷ []) ∷ rec 3 (5 ∷ 0 ∷ 0 ∷ 1 ∷ []) ∷ rec 3 (5 ∷ 0 ∷ 0 ∷ 1 ∷ []) ∷ rec 4 (7 ∷ 0 ∷ 0 ∷ []) ∷
+      rec 5 (0 ∷ 0 ∷ 1 ∷ 0 ∷ 0 ∷ 5 ∷ []) ∷ [];
+  damaged = [];
+  room = 65536;
+  ending = refuse 4 92;
+}
+
 unfoldable pub cases : List Case
 cases =
     emptyJob ∷
@@ -919,9 +930,10 @@ cases =
     inner ∷
     outerKept ∷
     voidFirst ∷
+    senseAndJoint ∷
     []
 
 -- each case ends as it says
 pub cases-right : all right cases ≡ true
-unfolding computes cases emptyJob noHead cutHeader cutPayload cutHuge unknownKind twoHeads lateVertex looseLoop lateFace emptyLoop oddLoop headTwo halfRing edgeSense faceSense loopEdge loopVertex pointsEqual singularOrder pointsTwice emptyUnasked noRoom justRoom brokenJoint radialMissing radialOpen radialShort radialTwice sameSame loneUse threeUses surfaceMissing surfaceOpen surfaceVanish twoShells orientMissing orientSecond voidAlone insideMissing notInside edgeInLump edgeInBound pointInBound singularMissing singularOpen pointShared pointInLump voidInside seam turned opposed opposedSame pointsMissing pointsSame pointsDiffer pointsApart fourJoined passTwice curvesMissing curvesOpen unusedEdge vertexLoopLast radialAgain pointBeforeEdge inner outerKept voidFirst
+unfolding computes cases senseAndJoint emptyJob noHead cutHeader cutPayload cutHuge unknownKind twoHeads lateVertex looseLoop lateFace emptyLoop oddLoop headTwo halfRing edgeSense faceSense loopEdge loopVertex pointsEqual singularOrder pointsTwice emptyUnasked noRoom justRoom brokenJoint radialMissing radialOpen radialShort radialTwice sameSame loneUse threeUses surfaceMissing surfaceOpen surfaceVanish twoShells orientMissing orientSecond voidAlone insideMissing notInside edgeInLump edgeInBound pointInBound singularMissing singularOpen pointShared pointInLump voidInside seam turned opposed opposedSame pointsMissing pointsSame pointsDiffer pointsApart fourJoined passTwice curvesMissing curvesOpen unusedEdge vertexLoopLast radialAgain pointBeforeEdge inner outerKept voidFirst
 cases-right = refl

@@ -4,6 +4,8 @@ pub mod Sense
 pub mod Fields
 pub mod Frame
 pub mod Job
+pub mod FieldLaws
+pub mod FrameLaws
 pub mod Questions
 pub mod Kinds
 pub mod Load

@@ -1,0 +1,7 @@
+pub mod Clear
+pub mod ClearLaws
+pub mod Stamps
+pub mod StampLaws
+pub mod Buckets
+pub mod BucketLaws
+pub mod ContactLaws

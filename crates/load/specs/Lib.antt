@@ -1,0 +1,9 @@
+pub mod Placed
+pub mod ListsMore
+pub mod Kept
+pub mod After
+pub mod Verdicts
+pub mod Judged
+pub mod Going
+pub mod Follows
+pub mod Stretches

@@ -1,0 +1,3 @@
+pub mod Permitted
+pub mod Joints
+pub mod Limits

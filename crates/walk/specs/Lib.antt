@@ -1,0 +1,4 @@
+pub mod Walks
+pub mod PassLaws
+pub mod RoundLaws
+pub mod LoopLaws
