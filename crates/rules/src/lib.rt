@@ -85,5 +85,5 @@ pub struct EdgeData {
 // How an operation ends: the number of bytes written, or a refusal's number and place.
 pub enum Ending {
     Written(usize),
-    Refused(u32, usize),
+    Refused(usize, usize),
 }
