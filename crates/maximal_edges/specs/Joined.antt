@@ -1,0 +1,115 @@
+-- Joining over the tables of edges, items and stretches: the tables of ends, what a sweep finds, and what the stage answers.
+use Prim.Native.Nat.{ℕ, _+_, _*_, _-_, _<_, _≤_}
+use mathlib.Core.Path.{_≡_}
+use mathlib.Core.List.{List, [], _∷_}
+use mathlib.Core.Bool.{Bool, true, false}
+use lib.ListN.{length, getD, set, take}
+use Rattle.lists.specs.Lists.{_∈_, keep}
+use Rattle.rules.specs.declared.EdgeData.{EdgeData}
+use Rattle.rules.specs.Outcome.{Outcome, ok, refuse}
+use Rattle.rules.specs.Job.{Answer}
+use Rattle.rules.specs.Fans.{fanPoint}
+use Rattle.rules.specs.Join.{Joining, edgeDataAt, endsAt, activeEdges, twoEnds, joinEdges, joinAt, ringAt, Tried, unchanged, changed, atCorner, sweep, maximalEdges}
+use Rattle.edges.specs.Table.{rowsIn, faceLoopsIn, Laid}
+use Rattle.places.specs.ReplaceAll.{Replaced}
+use Rattle.theorems.specs.Ends.{endsOne}
+use Rattle.maximal_edges.specs.declared.Change.{Change}
+use Rattle.maximal_edges.specs.declared.Change.the-variants.{Unchanged, Ring, Join, Refused as Stopped}
+use Rattle.maximal_edges.specs.declared.Joining.{Joining as Joined}
+use Rattle.maximal_edges.specs.declared.Joining.the-variants.{Done, Refused}
+
+-- THE STAGE
+
+-- the first edges of a table of edges
+abbrev pub edgesIn : List ℕ → ℕ → List EdgeData
+edgesIn rows n = rowsIn (take (7 * n) rows)
+
+-- what the tables stand for
+unfoldable pub stateIn : List ℕ → ℕ → List ℕ → List ℕ → List ℕ → ℕ → ℕ → Joining
+stateIn rows n items stretches faces joins rings = record { edges = edgesIn rows n; loops = faceLoopsIn items stretches faces; joins = joins; rings = rings }
+
+-- the tables with the numbers of edges, joins and rings, or the refusal
+abbrev pub joiningOf : List ℕ → List ℕ → List ℕ → List ℕ → Joined → Outcome Joining
+joiningOf rows items stretches faces (Done k) = ok (stateIn rows (k .edges) items stretches faces (k .joins) (k .rings))
+joiningOf rows items stretches faces (Refused n p) = refuse n p
+
+-- what the whole run gives for the faces of the loops
+abbrev pub wholeRun : List Answer → List ℕ → List ℕ → List ℕ → ℕ → List ℕ → List ℕ → List ℕ → Outcome Joining
+wholeRun answers starts names rows n items stretches faces = maximalEdges answers starts names (length names) (stateIn rows n items stretches faces 0 0)
+
+-- a run that is not refused
+abbrev pub doneWith : ℕ → ℕ → ℕ → Joined
+doneWith edges joins rings = Done (record { edges = edges; joins = joins; rings = rings })
+
+-- what later stages need: the loops lie one after the other, there are at most 2,047 edges, and at most as many changes as fans
+abbrev pub Fitting : List ℕ → List ℕ → List ℕ → Joined → Type 0
+Fitting names items stretches (Done k) = Laid stretches items × (k .edges ≤ 2047) × (k .joins + k .rings ≤ length names)
+Fitting names items stretches (Refused n p) = Unit {0}
+
+-- TABLES OF ENDS
+
+-- the number of active edge ends at each fan; and an edge for each fan, below which no edge ends there
+pub record Tabled (es : List EdgeData) (ends lows : List ℕ) : Type 0 where
+  pub size : length ends ≡ 2048
+  pub counts : (v : ℕ) → v < 2048 → getD ends v 0 ≡ length (endsAt es v)
+  pub within : (v : ℕ) → getD lows v 0 ≤ length es
+  pub none-below : (v x : ℕ) → v < 2048 → x < getD lows v 0 → endsOne v (edgeDataAt es x) ≡ 0
+
+-- WHAT A SWEEP FINDS
+
+-- a change of a state, as what a corner does
+abbrev pub changeOf : Joining → Change → Outcome Tried
+changeOf s Unchanged = ok unchanged
+changeOf s (Ring v a) = ok (changed (ringAt s a))
+changeOf s (Join v a b) = ok (changed (joinAt s v a b))
+changeOf s (Stopped n p) = refuse n p
+
+-- nothing changes, as a test
+abbrev pub isStill : Change → Bool
+isStill Unchanged = true
+isStill (Ring v a) = false
+isStill (Join v a b) = false
+isStill (Stopped n p) = false
+
+-- a change is one at corner v of edges a and b
+abbrev pub AtEdges : ℕ → ℕ → ℕ → Change → Type 0
+AtEdges v a b Unchanged = Unit {0}
+AtEdges v a b (Ring w x) = (w ≡ v) × (x ≡ a) × (b ≡ a)
+AtEdges v a b (Join w x y) = (w ≡ v) × (x ≡ a) × (y ≡ b) × (a ≡ b → ⊥)
+AtEdges v a b (Stopped n p) = Unit {0}
+
+-- corner v with the active ends of edges a and b is tried, in any state with such edges
+pub record TriedAt (answers : List Answer) (starts : List ℕ) (es : List EdgeData) (v a b : ℕ) (r : Change) : Type 0 where
+  pub same : (s : Joining) → s .edges ≡ es → changeOf s r ≡ atCorner answers (fanPoint starts v) s v (a ∷ b ∷ [])
+  pub at : AtEdges v a b r
+
+-- a change is at a fan with exactly two active edge ends, and so is a refusal
+abbrev pub Real : List EdgeData → List ℕ → Change → Type 0
+Real es names Unchanged = Unit {0}
+Real es names (Ring v a) = (v ∈ names) × (endsAt es v ≡ a ∷ a ∷ [])
+Real es names (Join v a b) = (v ∈ names) × (endsAt es v ≡ a ∷ b ∷ []) × (a < b)
+Real es names (Stopped n p) = 1 ≤ length (keep (twoEnds es) names)
+
+-- a sweep, in any state with such edges
+pub record Swept (answers : List Answer) (starts names : List ℕ) (es : List EdgeData) (r : Change) : Type 0 where
+  pub same : (s : Joining) → s .edges ≡ es → changeOf s r ≡ sweep answers starts s names
+  pub real : Real es names r
+
+-- THE TWO CHANGES
+
+-- the join of edges a and b, of n edges, at corner v
+pub record JoinedAt (n v a b : ℕ) (rows items stretches ends rows′ items′ stretches′ ends′ : List ℕ) : Type 0 where
+  pub edges : edgesIn rows′ (n + 1) ≡ joinEdges v a b (edgesIn rows n)
+  pub loops : Replaced (edgesIn rows n) v a b n items stretches items′ stretches′
+  pub corner : ends′ ≡ set ends v 0
+
+-- the tables before a sweep: `whole` is what the whole run gives, for the faces of at most so many loops
+pub record Going (answers : List Answer) (starts names : List ℕ) (whole : List ℕ → Outcome Joining) (loops : ℕ) (rows : List ℕ) (n : ℕ) (items stretches ends lows : List ℕ) (joins rings : ℕ) : Type 0 where
+  pub size : length rows ≡ 14336
+  pub sizes : loops ≤ length stretches
+  pub few : n ≤ 2047
+  pub room : n + length (activeEdges (edgesIn rows n)) ≤ 2048
+  pub laid : Laid stretches items
+  pub tabled : Tabled (edgesIn rows n) ends lows
+  pub budget : length (keep (twoEnds (edgesIn rows n)) names) + (joins + rings) ≤ length names
+  pub run : (faces : List ℕ) → 2 * length faces ≤ loops → whole faces ≡ maximalEdges answers starts names (length names - (joins + rings)) (stateIn rows n items stretches faces joins rings)

@@ -1,0 +1,484 @@
+// Joining: corners with exactly two active edge ends are taken away, one change at a time.
+use ask::Told;
+use edges::edge_active;
+use edges::edge_at;
+use edges::edge_end;
+use edges::edge_start;
+use edges::put_edge;
+use fields::get;
+use fields::put;
+use rules::Counts;
+use rules::EdgeData;
+use rules::Sense;
+ghost use mathlib.Core.Path.{_≡_};
+ghost use Prim.Native.Nat.{ℕ, _+_, _*_, _<_, _≤_};
+ghost use mathlib.Core.List.{List, [], _∷_, _++_};
+ghost use mathlib.Core.Bool.{cond};
+ghost use lib.ListN.{length, getD, set, replicate};
+ghost use lib.Dec.{eqb};
+ghost use Rattle.lists.specs.Lists.{_∈_, Nodup, same};
+ghost use Rattle.rules.specs.Sense.{reverse};
+ghost use Rattle.rules.specs.Questions.{askYes};
+ghost use Rattle.rules.specs.Join.{edgeDataAt, notSingular, mayJoin, joinedEdge, retired as retiredEdge, ringOf, maximalEdges};
+ghost use Rattle.job.specs.Lists.{answersIn};
+ghost use Rattle.answers.specs.Index.{Indexed};
+ghost use Rattle.ask.specs.Told.{toldOf};
+ghost use Rattle.edges.specs.Table.{rowsIn, Laid};
+ghost use Rattle.theorems.specs.Ends.{oneAt, endsOne};
+ghost use Rattle.maximal_edges.specs.Joined.{edgesIn, stateIn, joiningOf, Fitting, Tabled, isStill, TriedAt, Swept, JoinedAt, doneWith};
+ghost use Rattle.maximal_edges.specs.CountLaws.{Counted};
+ghost use Rattle.maximal_edges.specs.SweepLaws.{mayChange, changeAt};
+
+// What a sweep finds: no change; the corner and the edge of a ring; the corner and the two edges of a join; or a refusal.
+pub enum Change {
+    Unchanged,
+    Ring(usize, usize),
+    Join(usize, usize, usize),
+    Refused(usize, usize),
+}
+
+// How many edges there are, and how many joins and rings made them so.
+pub struct Joins {
+    pub edges: usize,
+    pub joins: usize,
+    pub rings: usize,
+}
+
+pub enum Joining {
+    Done(Joins),
+    Refused(usize, usize),
+}
+
+// ENDS
+
+// 1 where two numbers are equal.
+fn one_at(a: usize, x: usize) -> usize
+    ensures { λ r. ⌜ (r ≡ oneAt a x) × (r ≤ 1) ⌝ }
+{
+    if a == x {
+        return 1;
+    }
+    0
+}
+
+// The active ends of edge e at corner v: 0, 1 or 2.
+fn ends_of(rows: &[u32], e: usize, v: usize) -> usize
+    ensures { λ r. ⌜ (r ≡ endsOne v (edgeDataAt (rowsIn (now (rows .entry))) e)) × (r ≤ 2) ⌝ }
+{
+    if edge_active(rows, e) {
+        return one_at(edge_start(rows, e), v) + one_at(edge_end(rows, e), v);
+    }
+    0
+}
+
+// Edge e is the lowest at fan v, where n ends were counted before.
+fn note_lowest(lows: &mut [u32], v: usize, e: usize, n: usize)
+    requires { ⌜ e < 4294967296 ⌝ }
+    ensures { λ _. ⌜ now (lows .exit) ≡ cond (eqb n 0) (set (now (lows .entry)) v e) (now (lows .entry)) ⌝ }
+{
+    if n == 0 {
+        put(lows, v, e);
+    }
+}
+
+// One end more at fan v, of edge e.
+fn count_end(ends: &mut [u32], lows: &mut [u32], v: usize, e: usize)
+    requires { ⌜ (getD (now ends) v 0 < 4294967295) × (e < 4294967296) ⌝ }
+    ensures { λ _. ⌜ (now (ends .exit) ≡ set (now (ends .entry)) v (getD (now (ends .entry)) v 0 + 1)) × (now (lows .exit) ≡ cond (eqb (getD (now (ends .entry)) v 0) 0) (set (now (lows .entry)) v e) (now (lows .entry))) ⌝ }
+{
+    let n = get(ends, v);
+    note_lowest(lows, v, e, n);
+    put(ends, v, n + 1);
+}
+
+// The ends of edge e.
+fn count_edge(rows: &[u32], ends: &mut [u32], lows: &mut [u32], e: usize)
+    requires { ⌜ Counted (rowsIn (now rows)) (now ends) (now lows) e × (e < length (rowsIn (now rows))) × (e < 2048) ⌝ }
+    ensures { λ _. ⌜ Counted (rowsIn (now (rows .entry))) (now (ends .exit)) (now (lows .exit)) (e + 1) ⌝ }
+{
+    if edge_active(rows, e) {
+        count_end(ends, lows, edge_start(rows, e), e);
+        count_end(ends, lows, edge_end(rows, e), e);
+    }
+}
+
+// The number of active edge ends at each fan, and the lowest edge there; both tables are all 0 at first.
+fn count_ends(rows: &[u32], ends: &mut [u32], lows: &mut [u32])
+    requires { ⌜ (length (now rows) ≤ 14336) × (now ends ≡ replicate 2048 0) × (now lows ≡ replicate 2048 0) ⌝ }
+    ensures { λ _. ⌜ Tabled (rowsIn (now (rows .entry))) (now (ends .exit)) (now (lows .exit)) ⌝ }
+{
+    let n = rows.len() / 7;
+    let mut e: usize = 0;
+    while e < n {
+        count_edge(rows, ends, lows, e);
+        e += 1;
+    }
+}
+
+// QUESTIONS AT A CORNER
+
+// The two faces beside one edge are those beside the other.
+fn same_pair(x: [u32; 2], y: [u32; 2]) -> bool
+    ensures { λ r. ⌜ r ≡ same x y ⌝ }
+{
+    if x[0] != y[0] {
+        return false;
+    }
+    x[1] == y[1]
+}
+
+// A number as wide as a place.
+fn wide(v: u32) -> usize
+    ensures { λ r. ⌜ (r ≡ v) × (r < 4294967296) ⌝ }
+{
+    v as usize
+}
+
+// Kind 11 for a curve between two faces, at a point.
+fn singular(job: &[u8], index: &[u32], c: Counts, curve: u32, faces: [u32; 2], point: usize) -> Told
+    requires { ⌜ Indexed (now job) (now index) c × (point < 4294967296) ⌝ }
+    ensures { λ r. ⌜ toldOf r ≡ askYes (answersIn (now (job .entry)) (now (index .entry)) c) 11 (curve ∷ (faces ++ (point ∷ []))) ⌝ }
+{
+    let low = wide(faces[0]);
+    let high = wide(faces[1]);
+    ask::ask_singular(job, index, c, wide(curve), low, high, point)
+}
+
+// An edge is not singular at a point.
+fn not_singular(job: &[u8], index: &[u32], c: Counts, e: EdgeData, point: usize) -> Told
+    requires { ⌜ Indexed (now job) (now index) c × (point < 4294967296) ⌝ }
+    ensures { λ r. ⌜ toldOf r ≡ notSingular (answersIn (now (job .entry)) (now (index .entry)) c) e point ⌝ }
+{
+    let faces = e.faces;
+    let t = singular(job, index, c, e.curve, faces, point);
+    match t {
+        Told::Yes => Told::No,
+        Told::No => Told::Yes,
+        Told::Refused(n, p) => Told::Refused(n, p),
+    }
+}
+
+// Two edges need equal face pairs, then same curve, then not singular for the first.
+fn may_join(job: &[u8], index: &[u32], c: Counts, a: EdgeData, b: EdgeData, point: usize) -> Told
+    requires { ⌜ Indexed (now job) (now index) c × (point < 4294967296) ⌝ }
+    ensures { λ r. ⌜ toldOf r ≡ mayJoin (answersIn (now (job .entry)) (now (index .entry)) c) a b point ⌝ }
+{
+    let x = a.faces;
+    let y = b.faces;
+    if same_pair(x, y) {
+        let t = ask::ask_same(job, index, c, 10, a.curve as usize, b.curve as usize);
+        match t {
+            Told::Refused(n, p) => Told::Refused(n, p),
+            Told::No => Told::No,
+            Told::Yes => not_singular(job, index, c, a, point),
+        }
+    } else {
+        Told::No
+    }
+}
+
+// The ring of edge a at corner v, or the join of edges a and b.
+fn change_at(v: usize, a: usize, b: usize) -> Change
+    ensures { λ r. ⌜ r ≡ changeAt v a b ⌝ }
+{
+    if a == b {
+        return Change::Ring(v, a);
+    }
+    Change::Join(v, a, b)
+}
+
+// One edge with both ends at a corner, or two edges.
+fn may_change(
+    job: &[u8],
+    index: &[u32],
+    c: Counts,
+    rows: &[u32],
+    a: usize,
+    b: usize,
+    point: usize,
+) -> Told
+    requires { ⌜ Indexed (now job) (now index) c × (point < 4294967296) ⌝ }
+    ensures { λ r. ⌜ toldOf r ≡ mayChange (answersIn (now (job .entry)) (now (index .entry)) c) (rowsIn (now (rows .entry))) a b point ⌝ }
+{
+    if a == b {
+        return not_singular(job, index, c, edge_at(rows, a), point);
+    }
+    may_join(job, index, c, edge_at(rows, a), edge_at(rows, b), point)
+}
+
+// Corner v with the active ends of edges a and b.
+fn try_corner(
+    job: &[u8],
+    index: &[u32],
+    c: Counts,
+    starts: &[u32],
+    rows: &[u32],
+    v: usize,
+    a: usize,
+    b: usize,
+) -> Change
+    requires { ⌜ Indexed (now job) (now index) c ⌝ }
+    ensures { λ r. ⌜ TriedAt (answersIn (now (job .entry)) (now (index .entry)) c) (now (starts .entry)) (rowsIn (now (rows .entry))) v a b r ⌝ }
+{
+    let t = may_change(job, index, c, rows, a, b, get(starts, v));
+    match t {
+        Told::Refused(n, p) => Change::Refused(n, p),
+        Told::No => Change::Unchanged,
+        Told::Yes => change_at(v, a, b),
+    }
+}
+
+// SWEEPS
+
+// Nothing has changed.
+fn stays(change: Change) -> bool
+    ensures { λ r. ⌜ r ≡ isStill change ⌝ }
+{
+    match change {
+        Change::Unchanged => true,
+        Change::Ring(v, a) => false,
+        Change::Join(v, a, b) => false,
+        Change::Refused(n, p) => false,
+    }
+}
+
+// The lower edge of a corner, where `seen` of its ends were met before edge e.
+fn lower(seen: usize, a: usize, e: usize) -> usize
+    ensures { λ r. ⌜ r ≡ cond (eqb seen 0) e a ⌝ }
+{
+    if seen == 0 {
+        return e;
+    }
+    a
+}
+
+// One sweep over the corners: it stops at its first change.
+fn sweep(
+    job: &[u8],
+    index: &[u32],
+    c: Counts,
+    starts: &[u32],
+    names: &[u32],
+    rows: &[u32],
+    ends: &[u32],
+    lows: &[u32],
+) -> Change
+    requires { ⌜ Indexed (now job) (now index) c × Tabled (rowsIn (now rows)) (now ends) (now lows) × ((v : ℕ) → v ∈ now names → v < 2048) ⌝ }
+    ensures { λ r. ⌜ Swept (answersIn (now (job .entry)) (now (index .entry)) c) (now (starts .entry)) (now (names .entry)) (rowsIn (now (rows .entry))) r ⌝ }
+{
+    let count = rows.len() / 7;
+    let mut change = Change::Unchanged;
+    let mut i: usize = 0;
+    'corners: while i < names.len() {
+        let v = get(names, i);
+        i += 1;
+        if get(ends, v) == 2 {
+            let mut a: usize = 0;
+            let mut seen: usize = 0;
+            let mut e = get(lows, v);
+            'edges: while e < count {
+                a = lower(seen, a, e);
+                seen += ends_of(rows, e, v);
+                if seen == 2 {
+                    change = try_corner(job, index, c, starts, rows, v, a, e);
+                    if stays(change) {
+                        continue 'corners;
+                    }
+                    break 'corners;
+                }
+                e += 1;
+            }
+        }
+    }
+    change
+}
+
+// THE TWO CHANGES
+
+// The end of an edge that is not at corner v.
+fn far_end(start: u32, end: u32, v: usize) -> u32
+    ensures { λ r. ⌜ r ≡ cond (eqb start v) end start ⌝ }
+{
+    if start as usize == v {
+        return end;
+    }
+    start
+}
+
+// The sense of an edge if it ended at corner v, else the reverse.
+fn joined_sense(sense: Sense, end: u32, v: usize) -> Sense
+    ensures { λ r. ⌜ r ≡ cond (eqb end v) sense (reverse sense) ⌝ }
+{
+    if end as usize == v {
+        return sense;
+    }
+    job::reverse(sense)
+}
+
+// The edge that two edges meeting at corner v become.
+fn joined_edge(v: usize, a: EdgeData, b: EdgeData) -> EdgeData
+    ensures { λ r. ⌜ r ≡ joinedEdge v a b ⌝ }
+{
+    let faces = a.faces;
+    let old = a.sense;
+    let sense = joined_sense(old, a.end, v);
+    let start = far_end(a.start, a.end, v);
+    let end = far_end(b.start, b.end, v);
+    EdgeData {
+        curve: a.curve,
+        sense,
+        start,
+        end,
+        faces,
+        active: true,
+    }
+}
+
+// An edge taken by a join.
+fn retired(e: EdgeData) -> EdgeData
+    ensures { λ r. ⌜ r ≡ retiredEdge e ⌝ }
+{
+    let sense = e.sense;
+    let faces = e.faces;
+    EdgeData {
+        curve: e.curve,
+        sense,
+        start: e.start,
+        end: e.end,
+        faces,
+        active: false,
+    }
+}
+
+// An edge turned into a ring.
+fn ring_of(e: EdgeData) -> EdgeData
+    ensures { λ r. ⌜ r ≡ ringOf e ⌝ }
+{
+    let sense = e.sense;
+    let faces = e.faces;
+    EdgeData {
+        curve: e.curve,
+        sense,
+        start: 4294967295,
+        end: 4294967295,
+        faces,
+        active: e.active,
+    }
+}
+
+// Edge a, of n edges, with both ends at corner v becomes a ring.
+fn ring_at(rows: &mut [u32], n: usize, ends: &mut [u32], v: usize, a: usize)
+    requires { ⌜ (7 * n ≤ length (now rows)) × (n < 2048) × (a < n) ⌝ }
+    ensures { λ _. ⌜ (edgesIn (now (rows .exit)) n ≡ set (edgesIn (now (rows .entry)) n) a (ringOf (edgeDataAt (edgesIn (now (rows .entry)) n) a))) × (now (ends .exit) ≡ set (now (ends .entry)) v 0) ⌝ }
+{
+    let x = edge_at(&rows[..7 * n], a);
+    put_edge(rows, a, ring_of(x));
+    put(ends, v, 0);
+}
+
+// The join of edges a and b, of n edges, at corner v; the new edge is numbered last.
+fn join_at(
+    rows: &mut [u32],
+    n: usize,
+    items: &mut [u32],
+    stretches: &mut [u32],
+    ends: &mut [u32],
+    v: usize,
+    a: usize,
+    b: usize,
+)
+    requires { ⌜ (7 * n + 7 ≤ length (now rows)) × (n < 2048) × (a < b) × (b < n) × Laid (now stretches) (now items) ⌝ }
+    ensures { λ _. ⌜ JoinedAt n v a b (now (rows .entry)) (now (items .entry)) (now (stretches .entry)) (now (ends .entry)) (now (rows .exit)) (now (items .exit)) (now (stretches .exit)) (now (ends .exit)) ⌝ }
+{
+    let x = edge_at(&rows[..7 * n], a);
+    let y = edge_at(&rows[..7 * n], b);
+    places::replace_all(&rows[..7 * n], items, stretches, v, a, b, n);
+    put_edge(rows, a, retired(x));
+    put_edge(rows, b, retired(y));
+    put_edge(rows, n, joined_edge(v, x, y));
+    put(ends, v, 0);
+}
+
+// The answer of a run that is not refused.
+fn done(edges: usize, joins: usize, rings: usize) -> Joining
+    ensures { λ r. ⌜ r ≡ doneWith edges joins rings ⌝ }
+{
+    Joining::Done(Joins {
+        edges,
+        joins,
+        rings,
+    })
+}
+
+// After a change the sweep begins afresh, up to a sweep without change.
+fn join_all(
+    job: &[u8],
+    index: &[u32],
+    c: Counts,
+    starts: &[u32],
+    names: &[u32],
+    lows: &[u32],
+    ends: &mut [u32],
+    rows: &mut [u32],
+    count: usize,
+    items: &mut [u32],
+    stretches: &mut [u32],
+) -> Joining
+    requires { ⌜ Indexed (now job) (now index) c × (length (now rows) ≡ 14336) × (count ≤ 1024) × Laid (now stretches) (now items) × Tabled (edgesIn (now rows) count) (now ends) (now lows) × Nodup (now names) × ((v : ℕ) → v ∈ now names → v < 2048) ⌝ }
+    ensures { λ r. ⌜ ((faces : List ℕ) → 2 * length faces ≤ length (now (stretches .entry)) → joiningOf (now (rows .exit)) (now (items .exit)) (now (stretches .exit)) faces r ≡ maximalEdges (answersIn (now (job .entry)) (now (index .entry)) c) (now (starts .entry)) (now (names .entry)) (length (now (names .entry))) (stateIn (now (rows .entry)) count (now (items .entry)) (now (stretches .entry)) faces 0 0)) × Fitting (now (names .entry)) (now (items .exit)) (now (stretches .exit)) r ⌝ }
+{
+    let mut n = count;
+    let mut joins: usize = 0;
+    let mut rings: usize = 0;
+    'sweeps: loop {
+        let change = sweep(job, index, c, starts, names, &rows[..7 * n], ends, lows);
+        match change {
+            Change::Unchanged => return done(n, joins, rings),
+            Change::Refused(number, place) => return Joining::Refused(number, place),
+            Change::Ring(v, a) => {
+                ring_at(rows, n, ends, v, a);
+                rings += 1;
+                continue 'sweeps;
+            }
+            Change::Join(v, a, b) => {
+                join_at(rows, n, items, stretches, ends, v, a, b);
+                n += 1;
+                joins += 1;
+                continue 'sweeps;
+            }
+        }
+    }
+}
+
+// The edges joined: corners with exactly two active edge ends are taken away until no sweep changes anything.
+pub fn maximal_edges(
+    job: &[u8],
+    index: &[u32],
+    c: Counts,
+    starts: &[u32],
+    names: &[u32],
+    rows: &mut [u32],
+    count: usize,
+    items: &mut [u32],
+    stretches: &mut [u32],
+) -> Joining
+    requires { ⌜ Indexed (now job) (now index) c × (length (now rows) ≡ 14336) × (count ≤ 1024) × Laid (now stretches) (now items) × Nodup (now names) × ((v : ℕ) → v ∈ now names → v < 2048) ⌝ }
+    ensures { λ r. ⌜ ((faces : List ℕ) → 2 * length faces ≤ length (now (stretches .entry)) → joiningOf (now (rows .exit)) (now (items .exit)) (now (stretches .exit)) faces r ≡ maximalEdges (answersIn (now (job .entry)) (now (index .entry)) c) (now (starts .entry)) (now (names .entry)) (length (now (names .entry))) (stateIn (now (rows .entry)) count (now (items .entry)) (now (stretches .entry)) faces 0 0)) × Fitting (now (names .entry)) (now (items .exit)) (now (stretches .exit)) r ⌝ }
+{
+    let mut ends = [0u32; 2048];
+    let mut lows = [0u32; 2048];
+    count_ends(&rows[..7 * count], &mut ends, &mut lows);
+    join_all(
+        job,
+        index,
+        c,
+        starts,
+        names,
+        &lows,
+        &mut ends,
+        rows,
+        count,
+        items,
+        stretches,
+    )
+}
