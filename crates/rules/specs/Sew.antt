@@ -1,5 +1,6 @@
 -- Sewing: the stages one after the other, from a job's bytes to the body's bytes or a refusal.
 use Prim.Native.Nat.{ℕ}
+use mathlib.Core.Path.{_≡_}
 use mathlib.Core.List.{List, [], _∷_, _++_}
 use mathlib.Core.Bool.{Bool, true, false, cond}
 use lib.ListN.{length, drop}
@@ -183,3 +184,7 @@ written (refuse number place) out = out
 abbrev pub ended : Outcome (List ℕ) → Ending
 ended (ok bytes) = Written (length bytes)
 ended (refuse number place) = Refused number place
+
+-- Endings: an operation that found this outcome has this answer and leaves this output
+abbrev pub Ends : Outcome (List ℕ) → List ℕ → List ℕ → Ending → Type 0
+Ends o before after answer = (answer ≡ ended o) × (after ≡ written o before)

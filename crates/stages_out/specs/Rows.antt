@@ -12,12 +12,12 @@ use Rattle.rules.specs.declared.Ending.{Ending}
 use Rattle.rules.specs.Groups.{labelOf}
 use Rattle.rules.specs.Merge.{Merged, mergedFaces, mergedFaceOf}
 use Rattle.rules.specs.Walk.{successor}
-use Rattle.rules.specs.Sew.{Walked, written, ended}
+use Rattle.rules.specs.Sew.{Walked, Ends}
 use Rattle.rules.specs.Stage.{groupFields, keptFields, keptUses, walkFields, loopFields, stageBytes}
 
 -- a stage with these fields: its ending, and what the output holds after it
 abbrev pub Staged : List ℕ → List ℕ → List ℕ → Ending → Type 0
-Staged fields before after r = (r ≡ ended (stageBytes (length before) fields)) × (after ≡ written (stageBytes (length before) fields) before)
+Staged fields before after r = Ends (stageBytes (length before) fields) before after r
 
 -- walk: use, successor and passed count of each kept use
 abbrev pub walkRow : List ℕ → List ℕ → ℕ → List ℕ
