@@ -28,6 +28,16 @@ bind-on f e = rw e
 pub bind-stop : {A B : Type 0} {o : Outcome A} {n p : ℕ} (f : A → Outcome B) → o ≡ refuse n p → (o >>= f) ≡ refuse n p
 bind-stop f e = rw e
 
+-- what follows two steps follows the second
+pub bind-then : {A B C : Type 0} (o : Outcome A) (f : A → Outcome B) (g : B → Outcome C) (h : A → Outcome C) → ((a : A) → h a ≡ (f a >>= g)) → (o >>= h) ≡ ((o >>= f) >>= g)
+bind-then (ok a) f g h e = e a
+bind-then (refuse n p) f g h e = refl
+
+-- the same steps after the same outcome
+pub bind-same : {A B : Type 0} (o : Outcome A) (f g : A → Outcome B) → ((a : A) → f a ≡ g a) → (o >>= f) ≡ (o >>= g)
+bind-same (ok a) f g e = e a
+bind-same (refuse n p) f g e = refl
+
 -- a test that must hold
 pub need-on : {A : Type 0} {t : Bool} (n p : ℕ) (rest : Outcome A) → t ≡ true → need t n p rest ≡ rest
 unfolding need

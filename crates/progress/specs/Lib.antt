@@ -1,0 +1,4 @@
+pub mod Chain
+pub mod StageLaws
+pub mod Known
+pub mod KnownLaws
