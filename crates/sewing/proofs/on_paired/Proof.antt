@@ -1,0 +1,120 @@
+use Rattle.sewing.specs.StepLaws.{asked-later}
+use Rattle.sewing.specs.StepLaws.{ends-refused, ends-same, ends-staged, zeros, lent-size, back-is, back-long, pairing-asked, merge-refused, groups-lowest, grouped-from, merge-on}
+use Rattle.progress.specs.KnownLaws.{opened-limited, paired-few, paired-size}
+use Rattle.rules.specs.Rules.{fullTable}
+use Rattle.rules.specs.Merge.{mergedGroups}
+use Rattle.job.specs.Lists.{jobIn, answersIn, facesIn}
+use Rattle.uses.specs.Table.{usesIn}
+use mathlib.Core.List.{flatMap}
+use mathlib.Core.Path.{refl, sym, ap, subst, _∙_}
+use lib.Seq.{length-take-le}
+use lib.ListN.{length, take}
+use Prim.Native.Nat.{_*_}
+use native.Mathlib.Omega.{arith}
+use borrow.Author.Tests.{le-ltb, lt-ltb, le-leb, lt-leb, eq-eqb, ne-eqb, not-true, not-false}
+use borrow.Author.Needs.{needs}
+use Rattle.sewing.proofs.on_paired.Statement.{statement}
+use Rattle.sewing.proofs.on_paired.Tie as tie
+use Rattle.sewing.proofs.on_paired.Reads as reads
+use Rattle.sewing.proofs.on_paired.Lts as lts
+use Rattle.merge_faces.proofs.merge_faces.Reads as merge-faces-reads
+use Rattle.sewing.proofs.faces_of.Reads as faces-of-reads
+use Rattle.sewing.proofs.on_merged.Reads as on-merged-reads
+use Rattle.stages_out.proofs.write_twins.Reads as write-twins-reads
+
+-- src/lib.rt:203:9
+write-twins-requires : tie.Need-write-twins-requires
+write-twins-requires c κs = omega (arith, paired-size (c .before .before .before .before .before .before .before .args .job .now) (c .before .before .before .before .before .before .before .args .index .now) (c .before .before .before .before .before .before .before .args .c) (usesIn (c .before .before .before .before .before .before .before .args .uses .now)) (c .before .before .before .before .before .before .before .args .twins .now) (c .before .before .before .before .before .before .before .pre .0), opened-limited (c .before .before .before .before .before .before .before .args .job .now) (c .before .before .before .before .before .before .before .args .index .now) (c .before .before .before .before .before .before .before .args .c) (c .before .before .before .before .before .before .before .pre .0 .opened) .uses)
+
+-- src/lib.rt:203:9
+same-length : tie.Need-same-length
+same-length c = search needs
+
+-- src/lib.rt:203:9
+returns : tie.Need-returns
+returns c = let a = c .before .before .before .before .before .before .before .before .before .before .args in
+    ends-staged (a .twins .now) (a .twins .now) (a .out .now) (c .before .before .write-twins .last .1 .0) (c .before .before .write-twins .result) refl
+    (pairing-asked (a .stage) (jobIn (a .job .now) (a .index .now) (a .c)) (usesIn (a .uses .now)) (length (a .out .now)) (a .twins .now) (c .before .before .before .before .if1 .taken)) (c .before .before .write-twins .ensures)
+
+-- src/lib.rt:206:53
+array-borrow-prefix-groups : tie.Need-array-borrow-prefix-groups
+array-borrow-prefix-groups c = opened-limited (c .before .before .before .before .before .before .args .job .now) (c .before .before .before .before .before .before .args .index .now) (c .before .before .before .before .before .before .args .c) (c .before .before .before .before .before .before .pre .0 .opened) .faces
+
+-- src/lib.rt:206:53
+slice-aggregate-merge-faces : tie.Need-slice-aggregate-merge-faces
+unfolding zeros
+slice-aggregate-merge-faces c = sym (lent-size (c .before .before .before .before .before .before .before .args .c .faces) 256 (opened-limited (c .before .before .before .before .before .before .before .args .job .now) (c .before .before .before .before .before .before .before .args .index .now) (c .before .before .before .before .before .before .before .args .c) (c .before .before .before .before .before .before .before .pre .0 .opened) .faces))
+
+-- src/lib.rt:206:9
+merge-faces-requires : tie.Need-merge-faces-requires
+unfolding zeros
+merge-faces-requires c κs = let a = c .before .before .before .before .before .before .before .args in
+    let L = opened-limited (a .job .now) (a .index .now) (a .c) (c .before .before .before .before .before .before .before .pre .0 .opened) in
+    (c .before .before .before .before .before .before .before .pre .0 .opened .indexed, L .faces, lent-size (a .c .faces) 256 (L .faces), paired-few (a .job .now) (a .index .now) (a .c) (usesIn (a .uses .now)) (a .twins .now) (c .before .before .before .before .before .before .before .pre .0))
+
+-- src/lib.rt:208:26
+enum-known-r : tie.Need-enum-known-r
+enum-known-r c = search needs
+
+-- src/lib.rt:210:52
+enum-told : tie.Need-enum-told
+enum-told c = search needs
+
+-- src/lib.rt:210:17
+faces-of-requires : tie.Need-faces-of-requires
+unfolding zeros
+faces-of-requires c κs = let a = c .before .before .before .before .before .before .before .before .before .before .before .args in
+    let L = opened-limited (a .job .now) (a .index .now) (a .c) (c .before .before .before .before .before .before .before .before .before .before .before .pre .0 .opened) in
+    let l = c .before .before .before .merge-faces .last .1 .1 .1 .1 .1 .0 in
+    let e = c .before .before .before .merge-faces .kept .1 .1 .1 .1 .1 .0 in (
+      L .faces,
+      back-long (a .c .faces) 256 (L .faces) l e,
+      groups-lowest (a .job .now) (a .index .now) (a .c) (usesIn (a .uses .now)) (a .twins .now) (c .before .before .before .before .before .before .before .before .before .before .before .pre .0) (a .stage) (length (a .out .now)) (c .before .before .before .before .before .if1 .left) (c .before .before .before .merge-faces .result) l (c .before .before .before .merge-faces .ensures) _ (back-is (a .c .faces) 256 (L .faces) l e) (c .enum-told .given .1),
+    )
+
+-- src/lib.rt:211:13
+on-merged-requires : tie.Need-on-merged-requires
+unfolding zeros
+on-merged-requires c κs = let a = c .before .before .before .before .before .before .before .before .before .before .before .before .before .args in
+    let L = opened-limited (a .job .now) (a .index .now) (a .c) (c .before .before .before .before .before .before .before .before .before .before .before .before .before .pre .0 .opened) in
+    let l = c .before .before .before .before .before .merge-faces .last .1 .1 .1 .1 .1 .0 in
+    let e = c .before .before .before .before .before .merge-faces .kept .1 .1 .1 .1 .1 .0 in
+    (grouped-from (a .job .now) (a .index .now) (a .c) (usesIn (a .uses .now)) (a .twins .now) (c .before .before .before .before .before .before .before .before .before .before .before .before .before .pre .0) (a .stage) (length (a .out .now)) (c .before .before .before .before .before .before .before .if1 .left) (c .before .before .before .before .before .merge-faces .result) l (c .before .before .before .before .before .merge-faces .ensures) _ (back-is (a .c .faces) 256 (L .faces) l e) (c .before .before .enum-told .given .1) (c .before .faces-of .result) (back-long (a .c .faces) 256 (L .faces) l e) (c .before .faces-of .ensures), asked-later 2 3 (a .stage) refl (c .before .before .before .before .before .before .before .before .before .before .before .before .before .pre .1) (c .before .before .before .before .before .before .before .if1 .left))
+
+-- src/lib.rt:190:1
+returns-2 : tie.Need-returns-2
+returns-2 c = let a = c .before .before .before .before .before .before .before .before .before .before .before .before .args in
+    ends-refused (a .out .now) (merge-refused (a .job .now) (a .index .now) (a .c) (usesIn (a .uses .now)) (a .twins .now) (c .before .before .before .before .before .before .before .before .before .before .before .before .pre .0) (a .stage) (length (a .out .now)) (c .before .before .before .before .before .before .if1 .left) (c .before .before .before .before .merge-faces .result) (c .before .before .before .before .merge-faces .last .1 .1 .1 .1 .1 .0) (c .before .before .before .before .merge-faces .ensures) _ _ (c .before .r .given .1))
+
+-- src/lib.rt:190:1
+same-length-2 : tie.Need-same-length-2
+same-length-2 c = search needs
+
+-- src/lib.rt:190:1
+returns-3 : tie.Need-returns-3
+unfolding zeros
+returns-3 c = let a = c .before .before .before .before .before .before .before .before .before .before .before .before .before .before .before .before .args in
+    let L = opened-limited (a .job .now) (a .index .now) (a .c) (c .before .before .before .before .before .before .before .before .before .before .before .before .before .before .before .before .pre .0 .opened) in
+    let l = c .before .before .before .before .before .before .before .before .merge-faces .last .1 .1 .1 .1 .1 .0 in
+    let e = c .before .before .before .before .before .before .before .before .merge-faces .kept .1 .1 .1 .1 .1 .0 in
+    let G = grouped-from (a .job .now) (a .index .now) (a .c) (usesIn (a .uses .now)) (a .twins .now) (c .before .before .before .before .before .before .before .before .before .before .before .before .before .before .before .before .pre .0) (a .stage) (length (a .out .now)) (c .before .before .before .before .before .before .before .before .before .before .if1 .left) (c .before .before .before .before .before .before .before .before .merge-faces .result) l (c .before .before .before .before .before .before .before .before .merge-faces .ensures) _ (back-is (a .c .faces) 256 (L .faces) l e) (c .before .before .before .before .before .enum-told .given .1) (c .before .before .before .before .faces-of .result) (back-long (a .c .faces) 256 (L .faces) l e) (c .before .before .before .before .faces-of .ensures) in
+    ends-same (a .out .now) (c .before .before .on-merged .last .1 .1 .1 .1 .1 .1 .1 .0) (c .before .before .on-merged .result)
+    (merge-on (a .job .now) (a .index .now) (a .c) (usesIn (a .uses .now)) (a .twins .now) (c .before .before .before .before .before .before .before .before .before .before .before .before .before .before .before .before .pre .0) (a .stage) (length (a .out .now)) (c .before .before .before .before .before .before .before .before .before .before .if1 .left) (c .before .before .before .before .faces-of .result) G) (c .before .before .on-merged .ensures)
+
+pub on-paired-spec : {M : Type 1} → statement M
+on-paired-spec =
+    tie.close
+    (tie.spec
+    write-twins-requires
+    same-length
+    returns
+    array-borrow-prefix-groups
+    slice-aggregate-merge-faces
+    merge-faces-requires
+    enum-known-r
+    enum-told
+    faces-of-requires
+    on-merged-requires
+    returns-2
+    same-length-2
+    returns-3)

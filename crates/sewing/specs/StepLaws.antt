@@ -1,0 +1,369 @@
+-- The ends of the steps of sewing: a stage that is asked for, a refusal, and what is handed on.
+use Prim.Native.Nat.{ℕ, zero, suc, _*_, _<_, _≤_}
+use native.Mathlib.Omega.{arith}
+use mathlib.Core.Path.{_≡_, refl, sym, ap, subst, _∙_}
+use mathlib.Core.List.{List, [], _∷_, _++_, flatMap}
+use mathlib.Core.Bool.{Bool, false, cond}
+use lib.ListN.{length, take, drop, replicate, length-replicate}
+use lib.Seq.{take-at, take-append-le, length-take-le, length-front}
+use lib.Dec.{eqb}
+use borrow.Author.Tests.{eq-eqb, ne-eqb}
+use Rattle.lists.specs.Lists.{below, keep, sumOf}
+use Rattle.lists.specs.Members.{keep-length}
+use Rattle.lists.specs.Runs.{length-below}
+use Rattle.rules.specs.declared.Counts.{Counts}
+use Rattle.rules.specs.declared.Use.{Use}
+use Rattle.rules.specs.declared.Ending.{Ending}
+use Rattle.rules.specs.declared.Ending.the-variants.{Written, Refused}
+use Rattle.rules.specs.Outcome.{Outcome, ok, refuse, _>>=_}
+use Rattle.rules.specs.OutcomeLaws.{bind-on, bind-stop}
+use Rattle.rules.specs.Job.{Job}
+use Rattle.rules.specs.Load.{loading, loaded}
+use Rattle.rules.specs.Read.{usesOf}
+use Rattle.rules.specs.Groups.{isLowest, lowestMembers, groupNumbers}
+use Rattle.rules.specs.GroupLaws.{Lowest}
+use Rattle.rules.specs.Rules.{fullTable}
+use Rattle.rules.specs.Pair.{pair}
+use Rattle.rules.specs.Merge.{boundaries, Merged, mergedFaces, mergeFaces, mergedGroups, removedUses}
+use Rattle.rules.specs.VertexLoops.{vertexLoops}
+use Rattle.rules.specs.Walk.{successors, passedCounts, circuits, loopsOf}
+use Rattle.rules.specs.Sew.{Walked, walksOf, written, ended, Ends}
+use Rattle.rules.specs.Stage.{useFields, groupFields, keptFields, keptUses, walkFields, loopFields, stageBytes}
+use Rattle.theorems.specs.Demand3.{Settled, WalksHold}
+use Rattle.theorems.specs.Ground.{ground}
+use Rattle.theorems.specs.Circuits.{Permuted}
+use Rattle.theorems.specs.Merging.{length-removedUses}
+use Rattle.job.specs.Lists.{pointsIn, edgesIn, facesIn, loopsIn, answersIn, jobIn}
+use Rattle.load.specs.declared.Loaded.{Loaded}
+use Rattle.load.specs.declared.Loaded.the-variants.{Refused as Stopped, Done as Read}
+use Rattle.load.specs.Going.{LoadedAs}
+use Rattle.edge_uses.specs.Links.{Linked}
+use Rattle.pair.specs.declared.Paired.{Paired as Pairs}
+use Rattle.pair.specs.Twins.{twinsOf}
+use Rattle.merge_faces.specs.declared.Merging.{Merging}
+use Rattle.merge_faces.specs.declared.Merging.the-variants.{Done as Merges, Refused as Unmerged}
+use Rattle.merge_faces.specs.Merging.{mergedOf}
+use Rattle.walk.specs.Walks.{loopsIn as loopsOn, Following}
+use Rattle.vertex_loops.specs.declared.Keeping.{Keeping}
+use Rattle.vertex_loops.specs.declared.Keeping.the-variants.{Done as Keeps, Refused as Unkept}
+use Rattle.vertex_loops.specs.Kept.{keptIn, keptOf, UpTo}
+use Rattle.stages_out.specs.Rows.{Staged, walkRows, walk-rows, pairRows, pair-rows, keptRows, kept-rows, roundRows, round-rows}
+use Rattle.progress.specs.declared.Faces.{Faces}
+use Rattle.progress.specs.declared.Figures.{Figures}
+use Rattle.progress.specs.Chain.{afterWalks, afterKeeping, afterMerging, afterPairing, afterReading, staged}
+use Rattle.progress.specs.Known.{Opened, Paired, boundariesIn, groupsIn, numbersIn, Grouped, mergedIn, walkedIn}
+use Rattle.progress.specs.KnownLaws.{opened-counted, opened-loaded, opened-edges, opened-faces, opened-limited, paired-few, paired-uses, paired-size, groups-are-lowest, groups-length, grouped-merges, settled-permuted}
+use Rattle.sewing.specs.Steps.{Asked, Read as ReadIn, FacesOf, Kept, Removed, Walks, Promised}
+
+-- ENDS
+
+pub ends-refused : {o : Outcome (List ℕ)} {n p : ℕ} (out : List ℕ) → o ≡ refuse n p → Ends o out out (Refused n p)
+ends-refused out e = (sym (ap ended e), sym (ap (λ o. written o out) e))
+
+pub ends-same : {o o′ : Outcome (List ℕ)} (before after : List ℕ) (r : Ending) → o ≡ o′ → Ends o before after r → Ends o′ before after r
+ends-same before after r e E = subst (λ o. Ends o before after r) e E
+
+-- a stage that wrote these fields
+pub ends-staged : (fs gs : List ℕ) {o : Outcome (List ℕ)} (before after : List ℕ) (r : Ending) → fs ≡ gs → o ≡ stageBytes (length before) gs → Staged fs before after r → Ends o before after r
+ends-staged fs gs before after r e q S = ends-same before after r (ap (stageBytes (length before)) e ∙ sym q) S
+
+-- TABLES LENT BY THEIR FIRST ENTRIES
+
+-- a table of zeros
+unfoldable pub zeros : ℕ → List ℕ
+zeros n = replicate n 0
+
+pub zeros-long : (n : ℕ) → length (zeros n) ≡ n
+unfolding zeros
+zeros-long n = length-replicate n 0
+
+zeros-front : (n m : ℕ) → n ≤ m → take n (replicate {A = ℕ} m 0) ≡ replicate n 0
+zeros-front zero m h = refl
+zeros-front (suc n) zero h = absurd (omega arith)
+zeros-front (suc n) (suc m) h = ap (λ l. 0 ∷ l) (zeros-front n m (omega arith))
+
+pub zeros-lent : (n m : ℕ) → n ≤ m → take n (zeros m) ≡ replicate (length (take n (zeros m))) 0
+unfolding zeros
+zeros-lent n m h = zeros-front n m h ∙ ap (λ k. replicate {A = ℕ} k 0) (sym (length-replicate {A = ℕ} n 0) ∙ ap length (sym (zeros-front n m h)))
+
+-- a table of flags that are not set
+unfoldable pub unsetFlags : ℕ → List Bool
+unsetFlags n = replicate n false
+
+pub flags-long : (n : ℕ) → length (unsetFlags n) ≡ n
+unfolding unsetFlags
+flags-long n = length-replicate n false
+
+-- the first entries of a table after they were lent
+pub front-back : {A : Type 0} (n : ℕ) (t l : List A) → length l ≡ length (take n t) → n ≤ length t → take n (l ++ drop n t) ≡ l
+front-back n t l e h = take-at l (drop n t) n (e ∙ length-take-le n t h)
+
+-- the first n of m zeros, lent
+module _ (n m : ℕ) (h : n ≤ m) where
+  pub lent-size : length (take n (zeros m)) ≡ n
+  lent-size = length-take-le n (zeros m) (omega (arith, zeros-long m))
+
+  -- as they come back
+  module _ (l : List ℕ) (e : length l ≡ length (take n (zeros m))) where
+    pub back-is : take n (l ++ drop n (zeros m)) ≡ l
+    back-is = front-back n (zeros m) l e (omega (arith, zeros-long m))
+
+    pub back-size : length (take n (l ++ drop n (zeros m))) ≡ n
+    back-size = ap length back-is ∙ e ∙ lent-size
+
+    pub back-long : length (l ++ drop n (zeros m)) ≡ m
+    back-long = length-front (zeros m) l n e ∙ zeros-long m
+
+    pub back-room : n ≤ length (l ++ drop n (zeros m))
+    back-room = omega (arith, back-long, h)
+
+-- the first n of m flags, lent
+module _ (n m : ℕ) (h : n ≤ m) where
+  pub flags-size : length (take n (unsetFlags m)) ≡ n
+  flags-size = length-take-le n (unsetFlags m) (omega (arith, flags-long m))
+
+  module _ (l : List Bool) (e : length l ≡ length (take n (unsetFlags m))) where
+    pub flags-back : take n (l ++ drop n (unsetFlags m)) ≡ l
+    flags-back = front-back n (unsetFlags m) l e (omega (arith, flags-long m))
+
+    pub flags-back-size : length (take n (l ++ drop n (unsetFlags m))) ≡ n
+    flags-back-size = ap length flags-back ∙ e ∙ flags-size
+
+    pub flags-room : n ≤ length (l ++ drop n (unsetFlags m))
+    flags-room = omega (arith, length-front (unsetFlags m) l n e, flags-long m, h)
+
+-- LOADING
+
+pub opened-from : (bytes ix : List ℕ) (r : Loaded) (c : Counts) → LoadedAs bytes ix r → r ≡ Read c → Opened bytes ix c
+opened-from bytes ix r c L e = let D = subst (LoadedAs bytes ix) e L in record { indexed = D .1; loads = D .0 }
+
+pub load-refused : (bytes ix : List ℕ) (r : Loaded) (stage room n p : ℕ) → LoadedAs bytes ix r → r ≡ Stopped n p → staged stage bytes room ≡ refuse n p
+unfolding staged
+load-refused bytes ix r stage room n p L e =
+    let stop : loading bytes ≡ refuse n p = subst (LoadedAs bytes ix) e L in
+    bind-stop (λ j. afterReading stage j room (usesOf j)) (bind-stop (λ s. ok (s .job)) stop)
+
+pub load-on : (bytes ix : List ℕ) (c : Counts) (stage room : ℕ) → Opened bytes ix c → afterReading stage (jobIn bytes ix c) room (usesOf (jobIn bytes ix c)) ≡ staged stage bytes room
+unfolding staged
+load-on bytes ix c stage room O = sym (bind-on (λ j. afterReading stage j room (usesOf j)) (opened-loaded bytes ix c O))
+
+-- READING
+
+module _ (bytes ix : List ℕ) (c : Counts) (us : List Use) (R : ReadIn bytes ix c us) where
+  pub read-few : length us ≤ 2048
+  read-few = omega (arith, ap length (R .uses), opened-counted bytes ix c (R .opened) .uses, opened-limited bytes ix c (R .opened) .uses)
+
+  pub read-count : length us ≡ c .uses
+  read-count = ap length (R .uses) ∙ sym (opened-counted bytes ix c (R .opened) .uses)
+
+pub reading-asked : (stage : ℕ) (j : Job) (room : ℕ) (us : List Use) → stage ≡ 1 → afterReading stage j room us ≡ stageBytes room (flatMap useFields us)
+unfolding afterReading
+reading-asked stage j room us e = rw (eq-eqb stage 1 e)
+
+reading-on : (stage : ℕ) (j : Job) (room : ℕ) (us : List Use) → (stage ≡ 1 → ⊥) → afterReading stage j room us ≡ (pair (j .answers) us (length (j .edges)) >>= afterPairing stage j us room)
+unfolding afterReading
+reading-on stage j room us n = rw (ne-eqb stage 1 n)
+
+-- pairing over the job's lists
+module _ (bytes ix : List ℕ) (c : Counts) (us : List Use) (R : ReadIn bytes ix c us) (stage room : ℕ) (other : stage ≡ 1 → ⊥) where
+  pairing-follows : afterReading stage (jobIn bytes ix c) room us ≡ (pair (answersIn bytes ix c) us (c .edges) >>= afterPairing stage (jobIn bytes ix c) us room)
+  unfolding jobIn
+  pairing-follows =
+      reading-on stage (jobIn bytes ix c) room us other ∙ ap (λ k. pair (answersIn bytes ix c) us k >>= afterPairing stage (jobIn bytes ix c) us room) (sym (opened-edges bytes ix c (R .opened)))
+
+  module _ (p : Pairs) (e : twinsOf (length us) p ≡ pair (answersIn bytes ix c) us (c .edges)) where
+    pub pairs-refused : (p .refusal ≡ 0 → ⊥) → afterReading stage (jobIn bytes ix c) room us ≡ refuse (p .refusal) (p .place)
+    pairs-refused n =
+        let r : twinsOf (length us) p ≡ refuse (p .refusal) (p .place) = ap (λ t. cond t (ok (take (length us) (p .twins))) (refuse (p .refusal) (p .place))) (ne-eqb (p .refusal) 0 n) in
+        pairing-follows ∙ bind-stop (afterPairing stage (jobIn bytes ix c) us room) (sym e ∙ r)
+
+    pub pairs-made : p .refusal ≡ 0 → Paired bytes ix c us (take (c .uses) (p .twins))
+    pairs-made z =
+        let r : twinsOf (length us) p ≡ ok (take (length us) (p .twins)) = ap (λ t. cond t (ok (take (length us) (p .twins))) (refuse (p .refusal) (p .place))) (eq-eqb (p .refusal) 0 z) in
+        record {
+          opened = R .opened;
+          uses = R .uses;
+          pairs = sym e ∙ r ∙ ap (λ k. ok (take k (p .twins))) (read-count bytes ix c us R);
+        }
+
+    pub pairs-on : (ts : List ℕ) → Paired bytes ix c us ts → afterPairing stage (jobIn bytes ix c) us room ts ≡ afterReading stage (jobIn bytes ix c) room us
+    pairs-on ts P = sym (pairing-follows ∙ bind-on (afterPairing stage (jobIn bytes ix c) us room) (P .pairs))
+
+-- chains over tables as they come back
+pub linked-back : (us : List Use) (f f′ n n′ : List ℕ) → f ≡ f′ → n ≡ n′ → Linked us f′ n′ → Linked us f n
+linked-back us f f′ n n′ e q L = subst (λ x. Linked us x n) (sym e) (subst (Linked us f′) (sym q) L)
+
+pub twins-few : (bytes ix : List ℕ) (c : Counts) (us : List Use) (ts : List ℕ) → Paired bytes ix c us ts → length ts ≤ 2048
+twins-few bytes ix c us ts P = omega (arith, paired-size bytes ix c us ts P, opened-limited bytes ix c (P .opened) .uses)
+
+-- FACES
+
+-- what belongs to the groups, from the tables as they come back
+pub faces-from : (n : ℕ) (us : List Use) (ts groups labels numbers members : List ℕ) (merged : ℕ) → n ≤ 256 → length groups ≡ 256
+    → (e : length labels ≡ length (take n (zeros 256))) → (q : length numbers ≡ length (take n (zeros 256))) → (p : length members ≡ length (take n (zeros 256)))
+    → labels ≡ boundaries us ts (length (take n (zeros 256))) → take merged members ≡ lowestMembers (take n groups) → merged ≡ length (lowestMembers (take n groups)) → numbers ≡ groupNumbers (take n groups)
+    → FacesOf n us ts groups (record { merged = merged; boundaries = labels ++ drop n (zeros 256); groups = groups; numbers = numbers ++ drop n (zeros 256); members = members ++ drop n (zeros 256) })
+faces-from n us ts groups labels numbers members merged h long e q p bounds low many numbered =
+    let few : merged ≤ length members = omega (arith, many, members-few, p, lent-size n 256 h) in
+    record {
+      groups-are = refl;
+      bounds = back-is n 256 h labels e ∙ bounds ∙ ap (boundaries us ts) (lent-size n 256 h);
+      numbered = back-is n 256 h numbers q ∙ numbered;
+      lowest = take-append-le merged members (drop n (zeros 256)) few ∙ low;
+      boundaries-size = back-long n 256 h labels e;
+      numbers-size = back-long n 256 h numbers q;
+      members-size = back-long n 256 h members p;
+      few = omega (arith, many, members-few, h);
+    }
+  where
+    members-few : length (lowestMembers (take n groups)) ≤ n
+    members-few = omega (arith, keep-length (isLowest (take n groups)) (below (length (take n groups))), length-below (length (take n groups)), length-take-le n groups (omega arith))
+
+-- PAIRING
+
+pub pairing-asked : (stage : ℕ) (j : Job) (us : List Use) (room : ℕ) (ts : List ℕ) → stage ≡ 2 → afterPairing stage j us room ts ≡ stageBytes room ts
+unfolding afterPairing
+pairing-asked stage j us room ts e = rw (eq-eqb stage 2 e)
+
+pairing-on : (stage : ℕ) (j : Job) (us : List Use) (room : ℕ) (ts : List ℕ) → (stage ≡ 2 → ⊥) → afterPairing stage j us room ts ≡ (mergeFaces fullTable (j .answers) (j .faces) us ts >>= afterMerging stage j us ts room)
+unfolding afterPairing
+pairing-on stage j us room ts n = rw (ne-eqb stage 2 n)
+
+module _ (bytes ix : List ℕ) (c : Counts) (us : List Use) (ts : List ℕ) (P : Paired bytes ix c us ts) (stage room : ℕ) (other : stage ≡ 2 → ⊥) where
+  merging-follows : afterPairing stage (jobIn bytes ix c) us room ts ≡ (mergeFaces fullTable (answersIn bytes ix c) (facesIn bytes ix c) us ts >>= afterMerging stage (jobIn bytes ix c) us ts room)
+  unfolding jobIn
+  merging-follows = pairing-on stage (jobIn bytes ix c) us room ts other
+
+  module _ (r : Merging) (l : List ℕ) (e : mergedOf r l ≡ mergedGroups fullTable (answersIn bytes ix c) (facesIn bytes ix c) us ts) where
+    pub merge-refused : (n p : ℕ) → r ≡ Unmerged n p → afterPairing stage (jobIn bytes ix c) us room ts ≡ refuse n p
+    unfolding mergeFaces
+    merge-refused n p q =
+        let stop : mergedGroups fullTable (answersIn bytes ix c) (facesIn bytes ix c) us ts ≡ refuse n p = sym e ∙ ap (λ x. mergedOf x l) q in
+        merging-follows ∙ bind-stop (afterMerging stage (jobIn bytes ix c) us ts room) (bind-stop _ stop)
+
+    pub groups-from : r ≡ Merges → mergedGroups fullTable (answersIn bytes ix c) (facesIn bytes ix c) us ts ≡ ok l
+    groups-from q = sym e ∙ ap (λ x. mergedOf x l) q
+
+    -- the groups as the first entries of a table
+    module _ (t : List ℕ) (front : take (c .faces) t ≡ l) (q : r ≡ Merges) where
+      pub groups-lowest : Lowest (take (c .faces) t)
+      groups-lowest = subst Lowest (sym front) (groups-are-lowest bytes ix c us ts P l (groups-from q))
+
+      pub grouped-from : (m : Faces) → length t ≡ 256 → FacesOf (c .faces) us ts t m → Grouped bytes ix c us ts m
+      grouped-from m long F = record {
+        paired = P;
+        bounds = F .bounds;
+        merges = groups-from q ∙ ap ok (sym front ∙ ap (take (c .faces)) (sym (F .groups-are)));
+        numbered = F .numbered ∙ ap (λ g. groupNumbers (take (c .faces) g)) (sym (F .groups-are));
+        lowest = F .lowest ∙ ap (λ g. lowestMembers (take (c .faces) g)) (sym (F .groups-are));
+        boundaries-size = F .boundaries-size;
+        groups-size = ap length (F .groups-are) ∙ long;
+        numbers-size = F .numbers-size;
+        members-size = F .members-size;
+        few = F .few;
+      }
+
+  pub merge-on : (m : Faces) → Grouped bytes ix c us ts m → afterMerging stage (jobIn bytes ix c) us ts room (mergedIn c m (removedUses us ts (groupsIn c m))) ≡ afterPairing stage (jobIn bytes ix c) us room ts
+  merge-on m G = sym (merging-follows ∙ bind-on (afterMerging stage (jobIn bytes ix c) us ts room) (grouped-merges bytes ix c us ts m G (removedUses us ts (groupsIn c m)) refl))
+
+-- MERGING
+
+module _ (bytes ix : List ℕ) (c : Counts) (us : List Use) (ts : List ℕ) (m : Faces) (G : Grouped bytes ix c us ts m) (stage room : ℕ) where
+  abbrev gone : List Bool
+  gone = removedUses us ts (groupsIn c m)
+
+  faces-few : c .faces ≤ 256
+  faces-few = opened-limited bytes ix c (G .paired .opened) .faces
+
+  pub faces-cut : (t : List ℕ) → length t ≡ 256 → length (take (c .faces) t) ≡ c .faces
+  faces-cut t long = length-take-le (c .faces) t (omega (arith, faces-few))
+
+  pub merging-asked : stage ≡ 3 → afterMerging stage (jobIn bytes ix c) us ts room (mergedIn c m gone) ≡ stageBytes room (pairRows (boundariesIn c m) (groupsIn c m))
+  unfolding afterMerging jobIn
+  merging-asked e =
+      let size : length (boundariesIn c m) ≡ length (facesIn bytes ix c) = faces-cut (m .boundaries) (G .boundaries-size) ∙ opened-faces bytes ix c (G .paired .opened) in
+      rw (eq-eqb stage 3 e) (ap (stageBytes room) (sym (pair-rows (mergedIn c m gone) (length (facesIn bytes ix c)) size)))
+
+  module _ (other : stage ≡ 3 → ⊥) where
+    keeping-follows : afterMerging stage (jobIn bytes ix c) us ts room (mergedIn c m gone)
+        ≡ (vertexLoops (answersIn bytes ix c) (pointsIn bytes c) (numbersIn c m) (loopsIn bytes ix c) >>= λ ks. afterKeeping stage (jobIn bytes ix c) room (walksOf us ts (mergedIn c m gone) ks))
+    unfolding afterMerging jobIn
+    keeping-follows = rw (ne-eqb stage 3 other, G .numbered) refl
+
+    module _ (r : Keeping) (t : List ℕ) (e : keptOf r t ≡ vertexLoops (answersIn bytes ix c) (pointsIn bytes c) (numbersIn c m) (loopsIn bytes ix c)) where
+      pub keep-refused : (n p : ℕ) → r ≡ Unkept n p → afterMerging stage (jobIn bytes ix c) us ts room (mergedIn c m gone) ≡ refuse n p
+      keep-refused n p q = keeping-follows ∙ bind-stop _ (sym e ∙ ap (λ x. keptOf x t) q)
+
+      pub kept-from : (k : ℕ) → UpTo (c .loops) r → r ≡ Keeps k → Kept bytes ix c us ts m t k
+      kept-from k U q = record { grouped = G; vertices = sym e ∙ ap (λ x. keptOf x t) q; few = subst (UpTo (c .loops)) q U }
+
+    pub keep-on : (t : List ℕ) (k : ℕ) → Kept bytes ix c us ts m t k → afterKeeping stage (jobIn bytes ix c) room (walkedIn c m us ts gone k t) ≡ afterMerging stage (jobIn bytes ix c) us ts room (mergedIn c m gone)
+    keep-on t k K = sym (keeping-follows ∙ bind-on (λ ks. afterKeeping stage (jobIn bytes ix c) room (walksOf us ts (mergedIn c m gone) ks)) (K .vertices))
+
+-- VERTEX LOOPS
+
+pub keeping-asked : (stage : ℕ) (j : Job) (room : ℕ) (c : Counts) (m : Faces) (us : List Use) (ts : List ℕ) (rm : List Bool) (k : ℕ) (t : List ℕ) → stage ≡ 4
+    → afterKeeping stage j room (walkedIn c m us ts rm k t) ≡ stageBytes room (keptRows t k)
+unfolding afterKeeping walksOf keptIn
+keeping-asked stage j room c m us ts rm k t e = rw (eq-eqb stage 4 e) (ap (stageBytes room) (sym (kept-rows t k)))
+
+pub keeping-on : (stage : ℕ) (j : Job) (room : ℕ) (w : Walked) → (stage ≡ 4 → ⊥) → afterWalks stage j room w ≡ afterKeeping stage j room w
+unfolding afterKeeping
+keeping-on stage j room w n = rw (ne-eqb stage 4 n) refl
+
+-- WALKS
+
+module _ (bytes ix : List ℕ) (c : Counts) (us : List Use) (ts : List ℕ) (m : Faces) (kept : List ℕ) (k : ℕ) (rm : List Bool) (R : Removed bytes ix c us ts m kept k rm) where
+  pub removed-size : length rm ≡ length us
+  removed-size = ap length (R .removed) ∙ length-removedUses us ts (groupsIn c m)
+
+  pub removed-few : length rm ≤ 2048
+  removed-few = omega (arith, removed-size, paired-few bytes ix c us ts (R .keeps .grouped .paired))
+
+pub walks-asked : (stage : ℕ) (j : Job) (room : ℕ) (c : Counts) (m : Faces) (us : List Use) (ts : List ℕ) (rm : List Bool) (k : ℕ) (t : List ℕ) → stage ≡ 5
+    → afterWalks stage j room (walkedIn c m us ts rm k t) ≡ stageBytes room (walkRows rm (successors us ts rm) (passedCounts us ts rm))
+unfolding afterWalks walksOf
+walks-asked stage j room c m us ts rm k t e = rw (eq-eqb stage 5 e) (ap (stageBytes room) (sym (walk-rows (walksOf us ts (mergedIn c m rm) (keptIn k t)))))
+
+pub loops-asked : (stage : ℕ) (j : Job) (room : ℕ) (c : Counts) (m : Faces) (us : List Use) (ts : List ℕ) (rm : List Bool) (k : ℕ) (t : List ℕ) → numbersIn c m ≡ groupNumbers (groupsIn c m) → stage ≡ 6
+    → afterWalks stage j room (walkedIn c m us ts rm k t) ≡ stageBytes room (roundRows us (numbersIn c m) (loopsOf (circuits rm (successors us ts rm))))
+unfolding afterWalks walksOf
+loops-asked stage j room c m us ts rm k t numbered e =
+    rw (e, numbered) (ap (stageBytes room) (sym (round-rows (walksOf us ts (mergedIn c m rm) (keptIn k t)) (loopsOf (circuits rm (successors us ts rm))))))
+
+-- the walks' successors lead round
+pub walks-known : (bytes ix : List ℕ) (c : Counts) (us : List Use) (ts : List ℕ) (m : Faces) (kept : List ℕ) (k : ℕ) (rm : List Bool) (ss : List ℕ)
+    → Removed bytes ix c us ts m kept k rm → ss ≡ successors us ts rm → length ss ≡ length us → Walks c m us rm ss
+walks-known bytes ix c us ts m kept k rm ss R e size = record {
+  permuted = subst (λ n. Permuted n rm ss) (sym size) (settled-permuted bytes ix c us ts m rm ss kept g (record { grouped = R .keeps .grouped; removed = R .removed; vertices = R .keeps .vertices; few = R .keeps .few; follows = e; gone = refl; passed = refl }));
+  few = omega (arith, size, paired-few bytes ix c us ts (R .keeps .grouped .paired));
+  faces = opened-limited bytes ix c (R .keeps .grouped .paired .opened) .faces;
+  numbers-size = R .keeps .grouped .numbers-size;
+}
+  where
+    g : Figures
+    g = record { removed = length (keep (λ gone. gone) rm); passed = sumOf (λ n. n) (passedCounts us ts rm); kept = k }
+
+-- demand 3 holds of the walks
+pub promised : (bytes : List ℕ) → Promised bytes
+promised bytes j w l s = ground fullTable bytes j w l s .walks
+
+-- the walks follow the vertex loops
+pub removed-ends : (stage : ℕ) (j : Job) (c : Counts) (m : Faces) (us : List Use) (ts : List ℕ) (k : ℕ) (t before after : List ℕ) (r : Ending) (rm gone : List Bool) → rm ≡ gone → (stage ≡ 4 → ⊥)
+    → Ends (afterWalks stage j (length before) (walkedIn c m us ts rm k t)) before after r → Ends (afterKeeping stage j (length before) (walkedIn c m us ts gone k t)) before after r
+removed-ends stage j c m us ts k t before after r rm gone e n E =
+    ends-same before after r (ap (λ x. afterWalks stage j (length before) (walkedIn c m us ts x k t)) e ∙ keeping-on stage j (length before) (walkedIn c m us ts gone k t) n) E
+
+-- a stage that is not the first is a later one
+pub asked-later : (first next stage : ℕ) → next ≡ suc first → Asked first stage → (stage ≡ first → ⊥) → Asked next stage
+asked-later first next stage e a n = (omega (arith, a .0, n), a .1)
+
+pub asked-loops : (stage : ℕ) → Asked 5 stage → (stage ≡ 5 → ⊥) → stage ≡ 6
+asked-loops stage a n = omega (arith, a .0, a .1, n)
+
+-- loops over tables as they come back
+pub following-back : (k : ℕ) (w w′ s s′ : List ℕ) → w ≡ w′ → s ≡ s′ → Following k w′ s′ → Following k w s
+following-back k w w′ s s′ e q F = subst (λ x. Following k x s) (sym e) (subst (Following k w′) (sym q) F)
+
+pub loops-back : (k : ℕ) (w w′ s s′ : List ℕ) → w ≡ w′ → s ≡ s′ → loopsOn k w s ≡ loopsOn k w′ s′
+loops-back k w w′ s s′ e q = λ i. loopsOn k (e i) (q i)

@@ -1,0 +1,305 @@
+// Sewing: from a job's bytes to the fields of a single stage. Each stage is done and handed to the next, up to the one
+// that is asked for.
+use edge_uses::link;
+use load::Loaded;
+use load::load;
+use merge_faces::Merging;
+use merge_faces::boundaries;
+use merge_faces::merge_faces;
+use merge_faces::number;
+use merge_faces::remove;
+use pair::pair;
+use progress::Faces;
+use progress::LOOPS;
+use progress::MERGE;
+use progress::PAIR;
+use progress::READ;
+use progress::VERTEX_LOOPS;
+use progress::WALK;
+use read::read;
+use rules::Counts;
+use rules::Ending;
+use stages_out::write_kept;
+use stages_out::write_loops;
+use stages_out::write_pairs;
+use stages_out::write_read;
+use stages_out::write_twins;
+use stages_out::write_walk;
+use vertex_loops::Keeping;
+use vertex_loops::vertex_loops;
+use walk::loops;
+use walk::successors;
+ghost use mathlib.Core.Path.{_≡_};
+ghost use Prim.Native.Nat.{ℕ, _*_, _≤_, _<_};
+ghost use mathlib.Core.Bool.{Bool};
+ghost use lib.ListN.{length, take};
+ghost use Rattle.rules.specs.Read.{usesOf};
+ghost use Rattle.rules.specs.Rules.{ordinary};
+ghost use Rattle.rules.specs.GroupLaws.{Lowest};
+ghost use Rattle.rules.specs.Merge.{removedUses};
+ghost use Rattle.rules.specs.Walk.{circuits, loopsOf};
+ghost use Rattle.rules.specs.Sew.{Ends};
+ghost use Rattle.rules.specs.Stage.{readStage, pairStage, mergeStage, vertexLoopStage, walkStage, loopStage};
+ghost use Rattle.job.specs.Lists.{jobIn};
+ghost use Rattle.uses.specs.Table.{usesIn};
+ghost use Rattle.stages_out.specs.Rows.{Staged, roundRows};
+ghost use Rattle.progress.specs.Chain.{afterReading, afterPairing, afterMerging, afterKeeping, afterWalks, staged};
+ghost use Rattle.progress.specs.Known.{Opened, Paired, Grouped, groupsIn, numbersIn, mergedIn, walkedIn};
+ghost use Rattle.sewing.specs.Steps.{Asked, Read, FacesOf, Kept, Removed, Walks, Promised};
+
+// The stage `loops` of walks that are known by their successors.
+fn put_loops(
+    c: Counts,
+    m: Faces,
+    uses: &[u32],
+    removed: &[bool],
+    succ: &[u32],
+    out: &mut [u8],
+) -> Ending
+    requires { ⌜ Walks c m (usesIn (now uses)) (now removed) (now succ) ⌝ }
+    ensures { λ r. ⌜ Staged (roundRows (usesIn (now (uses .entry))) (numbersIn c m) (loopsOf (circuits (now (removed .entry)) (now (succ .entry))))) (now (out .entry)) (now (out .exit)) r ⌝ }
+{
+    let n = succ.len();
+    let numbers = m.numbers;
+    let mut ways = [0u32; 2048];
+    let mut stretches = [0u32; 4096];
+    let k = loops(removed, succ, &mut ways[..n], &mut stretches[..2 * n]);
+    write_loops(
+        uses,
+        &numbers[..c.faces],
+        &ways[..n],
+        &stretches[..2 * n],
+        k,
+        out,
+    )
+}
+
+// The walks, from the uses that are removed on.
+fn on_removed(
+    stage: usize,
+    job: &[u8],
+    index: &[u32],
+    c: Counts,
+    m: Faces,
+    uses: &[u32],
+    twins: &[u32],
+    removed: &[bool],
+    kept: &[u32],
+    k: usize,
+    out: &mut [u8],
+) -> Ending
+    requires { ⌜ Removed (now job) (now index) c (usesIn (now uses)) (now twins) m (now kept) k (now removed) × Asked 5 stage ⌝ }
+    ensures { λ r. ⌜ Ends (afterWalks stage (jobIn (now (job .entry)) (now (index .entry)) c) (length (now (out .entry))) (walkedIn c m (usesIn (now (uses .entry))) (now (twins .entry)) (now (removed .entry)) k (now (kept .entry)))) (now (out .entry)) (now (out .exit)) r ⌝ }
+{
+    let n = removed.len();
+    let mut succ = [0u32; 2048];
+    let mut passed = [0u32; 2048];
+    successors(uses, twins, removed, &mut succ[..n], &mut passed[..n]);
+    if stage == WALK {
+        return write_walk(removed, &succ[..n], &passed[..n], out);
+    }
+    put_loops(c, m, uses, removed, &succ[..n], out)
+}
+
+// The uses removed, once the vertex loops are kept.
+fn on_kept(
+    stage: usize,
+    job: &[u8],
+    index: &[u32],
+    c: Counts,
+    m: Faces,
+    uses: &[u32],
+    twins: &[u32],
+    kept: &[u32],
+    k: usize,
+    out: &mut [u8],
+) -> Ending
+    requires { ⌜ Kept (now job) (now index) c (usesIn (now uses)) (now twins) m (now kept) k × Asked 4 stage ⌝ }
+    ensures { λ r. ⌜ Ends (afterKeeping stage (jobIn (now (job .entry)) (now (index .entry)) c) (length (now (out .entry))) (walkedIn c m (usesIn (now (uses .entry))) (now (twins .entry)) (removedUses (usesIn (now (uses .entry))) (now (twins .entry)) (groupsIn c m)) k (now (kept .entry)))) (now (out .entry)) (now (out .exit)) r ⌝ }
+{
+    if stage == VERTEX_LOOPS {
+        return write_kept(kept, k, out);
+    }
+    let n = twins.len();
+    let groups = m.groups;
+    let mut removed = [false; 2048];
+    remove(uses, twins, &groups[..c.faces], &mut removed[..n]);
+    on_removed(
+        stage,
+        job,
+        index,
+        c,
+        m,
+        uses,
+        twins,
+        &removed[..n],
+        kept,
+        k,
+        out,
+    )
+}
+
+// The vertex loops, once the faces are merged.
+fn on_merged(
+    stage: usize,
+    job: &[u8],
+    index: &[u32],
+    c: Counts,
+    m: Faces,
+    uses: &[u32],
+    twins: &[u32],
+    out: &mut [u8],
+) -> Ending
+    requires { ⌜ Grouped (now job) (now index) c (usesIn (now uses)) (now twins) m × Asked 3 stage ⌝ }
+    ensures { λ r. ⌜ Ends (afterMerging stage (jobIn (now (job .entry)) (now (index .entry)) c) (usesIn (now (uses .entry))) (now (twins .entry)) (length (now (out .entry))) (mergedIn c m (removedUses (usesIn (now (uses .entry))) (now (twins .entry)) (groupsIn c m)))) (now (out .entry)) (now (out .exit)) r ⌝ }
+{
+    if stage == MERGE {
+        let labels = m.boundaries;
+        let groups = m.groups;
+        return write_pairs(&labels[..c.faces], &groups[..c.faces], out);
+    }
+    let numbers = m.numbers;
+    let mut kept = [0u32; 2048];
+    let r = vertex_loops(job, index, c, &numbers[..c.faces], &mut kept);
+    match r {
+        Keeping::Refused(n, p) => Ending::Refused(n, p),
+        Keeping::Done(k) => on_kept(stage, job, index, c, m, uses, twins, &kept, k, out),
+    }
+}
+
+// The boundaries, numbers and lowest members that belong to merged groups.
+fn faces_of(n: usize, uses: &[u32], twins: &[u32], groups: [u32; 256]) -> Faces
+    requires { ⌜ (n ≤ 256) × (length groups ≡ 256) × Lowest (take n groups) ⌝ }
+    ensures { λ r. ⌜ FacesOf n (usesIn (now (uses .entry))) (now (twins .entry)) groups r ⌝ }
+{
+    let mut labels = [0u32; 256];
+    let mut numbers = [0u32; 256];
+    let mut members = [0u32; 256];
+    boundaries(uses, twins, &mut labels[..n]);
+    let merged = number(&groups[..n], &mut members[..n], &mut numbers[..n]);
+    Faces {
+        merged,
+        boundaries: labels,
+        groups,
+        numbers,
+        members,
+    }
+}
+
+// The faces merged, once the uses are paired.
+fn on_paired(
+    stage: usize,
+    job: &[u8],
+    index: &[u32],
+    c: Counts,
+    uses: &[u32],
+    twins: &[u32],
+    out: &mut [u8],
+) -> Ending
+    requires { ⌜ Paired (now job) (now index) c (usesIn (now uses)) (now twins) × Asked 2 stage ⌝ }
+    ensures { λ r. ⌜ Ends (afterPairing stage (jobIn (now (job .entry)) (now (index .entry)) c) (usesIn (now (uses .entry))) (length (now (out .entry))) (now (twins .entry))) (now (out .entry)) (now (out .exit)) r ⌝ }
+{
+    if stage == PAIR {
+        return write_twins(twins, out);
+    }
+    let mut groups = [0u32; 256];
+    let r = merge_faces(job, index, c, uses, twins, &mut groups[..c.faces]);
+    match r {
+        Merging::Refused(n, p) => Ending::Refused(n, p),
+        Merging::Done => {
+            let m = faces_of(c.faces, uses, twins, groups);
+            on_merged(stage, job, index, c, m, uses, twins, out)
+        }
+    }
+}
+
+// The uses paired, once they are read.
+fn on_read(
+    stage: usize,
+    job: &[u8],
+    index: &[u32],
+    c: Counts,
+    uses: &[u32],
+    out: &mut [u8],
+) -> Ending
+    requires { ⌜ Read (now job) (now index) c (usesIn (now uses)) × Asked 1 stage ⌝ }
+    ensures { λ r. ⌜ Ends (afterReading stage (jobIn (now (job .entry)) (now (index .entry)) c) (length (now (out .entry))) (usesIn (now (uses .entry)))) (now (out .entry)) (now (out .exit)) r ⌝ }
+{
+    if stage == READ {
+        return write_read(uses, out);
+    }
+    let mut firsts = [0u32; 1024];
+    let mut nexts = [0u32; 2048];
+    link(uses, &mut firsts[..c.edges], &mut nexts[..c.uses]);
+    let p = pair(job, index, c, uses, &firsts[..c.edges], &nexts[..c.uses]);
+    if p.refusal != 0 {
+        return Ending::Refused(p.refusal, p.place);
+    }
+    let twins = p.twins;
+    on_paired(stage, job, index, c, uses, &twins[..c.uses], out)
+}
+
+// The uses read, once the job is loaded.
+fn on_loaded(stage: usize, job: &[u8], index: &[u32], c: Counts, out: &mut [u8]) -> Ending
+    requires { ⌜ Opened (now job) (now index) c × Asked 1 stage ⌝ }
+    ensures { λ r. ⌜ Ends (afterReading stage (jobIn (now (job .entry)) (now (index .entry)) c) (length (now (out .entry))) (usesOf (jobIn (now (job .entry)) (now (index .entry)) c))) (now (out .entry)) (now (out .exit)) r ⌝ }
+{
+    let mut uses = [0u32; 8192];
+    read(job, index, c, &mut uses[..4 * c.uses]);
+    on_read(stage, job, index, c, &uses[..4 * c.uses], out)
+}
+
+// The stages in order, up to the one that is asked for.
+fn run(stage: usize, job: &[u8], out: &mut [u8]) -> Ending
+    requires { ⌜ Asked 1 stage ⌝ }
+    ensures { λ r. ⌜ Ends (staged stage (now (job .entry)) (length (now (out .entry)))) (now (out .entry)) (now (out .exit)) r ⌝ }
+{
+    let mut index = [0u32; 7424];
+    let r = load(job, &mut index);
+    match r {
+        Loaded::Refused(n, p) => Ending::Refused(n, p),
+        Loaded::Done(c) => on_loaded(stage, job, &index, c, out),
+    }
+}
+
+// The stage `read`.
+pub fn read_stage(job: &[u8], out: &mut [u8]) -> Ending
+    ensures { λ r. ⌜ Ends (readStage (now (job .entry)) (length (now (out .entry)))) (now (out .entry)) (now (out .exit)) r ⌝ }
+{
+    run(READ, job, out)
+}
+
+// The stage `pair`.
+pub fn pair_stage(job: &[u8], out: &mut [u8]) -> Ending
+    ensures { λ r. ⌜ Ends (pairStage (now (job .entry)) (length (now (out .entry)))) (now (out .entry)) (now (out .exit)) r ⌝ }
+{
+    run(PAIR, job, out)
+}
+
+// The stage `merge`.
+pub fn merge_stage(job: &[u8], out: &mut [u8]) -> Ending
+    ensures { λ r. ⌜ Ends (mergeStage ordinary (now (job .entry)) (length (now (out .entry)))) (now (out .entry)) (now (out .exit)) r ⌝ }
+{
+    run(MERGE, job, out)
+}
+
+// The stage `vertex-loops`.
+pub fn vertex_loop_stage(job: &[u8], out: &mut [u8]) -> Ending
+    ensures { λ r. ⌜ Ends (vertexLoopStage ordinary (now (job .entry)) (length (now (out .entry)))) (now (out .entry)) (now (out .exit)) r ⌝ }
+{
+    run(VERTEX_LOOPS, job, out)
+}
+
+// The stage `walk`. Its walks are those of which demand 3 speaks, so what it says of walks holds of them.
+pub fn walk_stage(job: &[u8], out: &mut [u8]) -> Ending
+    ensures { λ r. ⌜ Ends (walkStage ordinary (now (job .entry)) (length (now (out .entry)))) (now (out .entry)) (now (out .exit)) r × Promised (now (job .entry)) ⌝ }
+{
+    run(WALK, job, out)
+}
+
+// The stage `loops`.
+pub fn loop_stage(job: &[u8], out: &mut [u8]) -> Ending
+    ensures { λ r. ⌜ Ends (loopStage ordinary (now (job .entry)) (length (now (out .entry)))) (now (out .entry)) (now (out .exit)) r × Promised (now (job .entry)) ⌝ }
+{
+    run(LOOPS, job, out)
+}
