@@ -33,7 +33,7 @@ usage: judge run --seed S --jobs N
        judge table --seed S OUT
        judge program [--listing PATH] [--stage PATH]
                      (--seed S --jobs N | --vectors FILE | --parts DIR)
-       judge bench FILE..";
+       judge bench [--program PATH] FILE..";
 
 fn main() {
     let args: Vec<String> = std::env::args().skip(1).collect();
@@ -67,7 +67,7 @@ fn obey(command: &str, rest: &[String]) -> Result<bool, Failed> {
             let known = ["listing", "stage", "seed", "jobs", "vectors", "parts"];
             program::program(&Args::parse(rest, &known)?)
         }
-        "bench" => bench::bench(&Args::parse(rest, &[])?.others).map(|()| true),
+        "bench" => bench::bench(&Args::parse(rest, &["program"])?).map(|()| true),
         _ => Err(format!("{command}: no such command")),
     }
 }
