@@ -26,7 +26,7 @@ ghost use Rattle.walk.specs.Walks.{loopsIn, Following};
 ghost use Rattle.stages_out.specs.Rows.{Staged, walkRow, walkRows, pairRows, keptRows, roundRow, roundRows, endOf};
 
 // Two numbers as fields at a place; gives the place after them.
-fn put_two(out: &mut [u8], at: usize, a: usize, b: usize) -> usize
+pub fn put_two(out: &mut [u8], at: usize, a: usize, b: usize) -> usize
     requires { ⌜ at < 2 ^ 59 ⌝ }
     ensures { λ r. ⌜ Wrote (now (out .entry)) at (fieldBytes (a ∷ b ∷ [])) (now (out .exit)) r ⌝ }
 {
