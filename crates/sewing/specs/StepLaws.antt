@@ -9,6 +9,7 @@ use lib.Seq.{take-at, take-append-le, length-take-le, length-front}
 use lib.Dec.{eqb}
 use borrow.Author.Tests.{eq-eqb, ne-eqb}
 use Rattle.lists.specs.Lists.{below, keep, sumOf}
+use Rattle.lists.specs.Tests.{cond-true, cond-false}
 use Rattle.lists.specs.Members.{keep-length}
 use Rattle.lists.specs.Runs.{length-below}
 use Rattle.rules.specs.declared.Counts.{Counts}
@@ -27,7 +28,9 @@ use Rattle.rules.specs.Pair.{pair}
 use Rattle.rules.specs.Merge.{boundaries, Merged, mergedFaces, mergeFaces, mergedGroups, removedUses}
 use Rattle.rules.specs.VertexLoops.{vertexLoops}
 use Rattle.rules.specs.Walk.{successors, passedCounts, circuits, loopsOf}
-use Rattle.rules.specs.Sew.{Walked, walksOf, written, ended, Ends}
+use Rattle.rules.specs.Frame.{framedAll}
+use Rattle.rules.specs.Body.{emptyBody, bodyRecords}
+use Rattle.rules.specs.Sew.{Walked, walksOf, fitting, written, ended, Ends}
 use Rattle.rules.specs.Stage.{useFields, groupFields, keptFields, keptUses, walkFields, loopFields, stageBytes}
 use Rattle.theorems.specs.Demand3.{Settled, WalksHold}
 use Rattle.theorems.specs.Ground.{ground}
@@ -50,10 +53,10 @@ use Rattle.vertex_loops.specs.Kept.{keptIn, keptOf, UpTo}
 use Rattle.stages_out.specs.Rows.{Staged, walkRows, walk-rows, pairRows, pair-rows, keptRows, kept-rows, roundRows, round-rows}
 use Rattle.progress.specs.declared.Faces.{Faces}
 use Rattle.progress.specs.declared.Figures.{Figures}
-use Rattle.progress.specs.Chain.{afterWalks, afterKeeping, afterMerging, afterPairing, afterReading, staged}
-use Rattle.progress.specs.Known.{Opened, Paired, boundariesIn, groupsIn, numbersIn, Grouped, mergedIn, walkedIn}
+use Rattle.progress.specs.Chain.{afterLoops, afterWalks, afterKeeping, afterMerging, afterPairing, afterReading, staged, sewnBy}
+use Rattle.progress.specs.Known.{Opened, Paired, boundariesIn, groupsIn, numbersIn, Grouped, mergedIn, walkedIn, Settled as SettledIn}
 use Rattle.progress.specs.KnownLaws.{opened-counted, opened-loaded, opened-edges, opened-faces, opened-limited, paired-few, paired-uses, paired-size, groups-are-lowest, groups-length, grouped-merges, settled-permuted}
-use Rattle.sewing.specs.Steps.{Asked, Read as ReadIn, FacesOf, Kept, Removed, Walks, Promised}
+use Rattle.sewing.specs.Steps.{Read as ReadIn, FacesOf, Kept, Removed, Walks, Promised}
 
 -- ENDS
 
@@ -146,6 +149,27 @@ load-refused bytes ix r stage room n p L e =
 pub load-on : (bytes ix : List ℕ) (c : Counts) (stage room : ℕ) → Opened bytes ix c → afterReading stage (jobIn bytes ix c) room (usesOf (jobIn bytes ix c)) ≡ staged stage bytes room
 unfolding staged
 load-on bytes ix c stage room O = sym (bind-on (λ j. afterReading stage j room (usesOf j)) (opened-loaded bytes ix c O))
+
+-- sewing a loaded job
+abbrev sewnFrom : ℕ → Job → Outcome (List ℕ)
+sewnFrom room j = cond (eqb (length (j .faces)) 0) (fitting room (framedAll (bodyRecords emptyBody))) (afterReading 12 j room (usesOf j))
+
+pub sew-refused : (bytes ix : List ℕ) (r : Loaded) (room n p : ℕ) → LoadedAs bytes ix r → r ≡ Stopped n p → sewnBy bytes room ≡ refuse n p
+unfolding sewnBy
+sew-refused bytes ix r room n p L e =
+    let stop : loading bytes ≡ refuse n p = subst (LoadedAs bytes ix) e L in
+    bind-stop (sewnFrom room) (bind-stop (λ s. ok (s .job)) stop)
+
+module _ (bytes ix : List ℕ) (c : Counts) (room : ℕ) (O : Opened bytes ix c) where
+  sew-on : sewnBy bytes room ≡ sewnFrom room (jobIn bytes ix c)
+  unfolding sewnBy
+  sew-on = bind-on (sewnFrom room) (opened-loaded bytes ix c O)
+
+  pub sew-empty : c .faces ≡ 0 → fitting room (framedAll (bodyRecords emptyBody)) ≡ sewnBy bytes room
+  sew-empty z = sym (sew-on ∙ cond-true _ _ _ (eq-eqb (length (jobIn bytes ix c .faces)) 0 (sym (opened-counted bytes ix c O .faces) ∙ z)))
+
+  pub sew-solid : (c .faces ≡ 0 → ⊥) → afterReading 12 (jobIn bytes ix c) room (usesOf (jobIn bytes ix c)) ≡ sewnBy bytes room
+  sew-solid n = sym (sew-on ∙ cond-false _ _ _ (ne-eqb (length (jobIn bytes ix c .faces)) 0 (λ z. n (opened-counted bytes ix c O .faces ∙ z))))
 
 -- READING
 
@@ -313,7 +337,7 @@ keeping-on stage j room w n = rw (ne-eqb stage 4 n) refl
 
 -- WALKS
 
-module _ (bytes ix : List ℕ) (c : Counts) (us : List Use) (ts : List ℕ) (m : Faces) (kept : List ℕ) (k : ℕ) (rm : List Bool) (R : Removed bytes ix c us ts m kept k rm) where
+module _ (bytes ix : List ℕ) (c : Counts) (us : List Use) (ts : List ℕ) (m : Faces) (kept : List ℕ) (k : ℕ) (rm : List Bool) (many : ℕ) (R : Removed bytes ix c us ts m kept k rm many) where
   pub removed-size : length rm ≡ length us
   removed-size = ap length (R .removed) ∙ length-removedUses us ts (groupsIn c m)
 
@@ -331,18 +355,34 @@ unfolding afterWalks walksOf
 loops-asked stage j room c m us ts rm k t numbered e =
     rw (e, numbered) (ap (stageBytes room) (sym (round-rows (walksOf us ts (mergedIn c m rm) (keptIn k t)) (loopsOf (circuits rm (successors us ts rm))))))
 
--- the walks' successors lead round
-pub walks-known : (bytes ix : List ℕ) (c : Counts) (us : List Use) (ts : List ℕ) (m : Faces) (kept : List ℕ) (k : ℕ) (rm : List Bool) (ss : List ℕ)
-    → Removed bytes ix c us ts m kept k rm → ss ≡ successors us ts rm → length ss ≡ length us → Walks c m us rm ss
-walks-known bytes ix c us ts m kept k rm ss R e size = record {
-  permuted = subst (λ n. Permuted n rm ss) (sym size) (settled-permuted bytes ix c us ts m rm ss kept g (record { grouped = R .keeps .grouped; removed = R .removed; vertices = R .keeps .vertices; few = R .keeps .few; follows = e; gone = refl; passed = refl }));
-  few = omega (arith, size, paired-few bytes ix c us ts (R .keeps .grouped .paired));
-  faces = opened-limited bytes ix c (R .keeps .grouped .paired .opened) .faces;
-  numbers-size = R .keeps .grouped .numbers-size;
-}
-  where
-    g : Figures
-    g = record { removed = length (keep (λ gone. gone) rm); passed = sumOf (λ n. n) (passedCounts us ts rm); kept = k }
+-- what is known once the successors are
+module _ (bytes ix : List ℕ) (c : Counts) (us : List Use) (ts : List ℕ) (m : Faces) (kept : List ℕ) (k : ℕ) (rm : List Bool) (many : ℕ) (R : Removed bytes ix c us ts m kept k rm many) (ss : List ℕ) (e : ss ≡ successors us ts rm) where
+  pub settled-from : (total : ℕ) → total ≡ sumOf (λ n. n) (passedCounts us ts rm) → SettledIn bytes ix c us ts m rm ss kept (record { removed = many; passed = total; kept = k })
+  settled-from total q = record {
+    grouped = R .keeps .grouped;
+    removed = R .removed;
+    vertices = R .keeps .vertices;
+    few = R .keeps .few;
+    follows = e;
+    gone = R .many;
+    passed = q;
+  }
+
+  -- they lead round
+  pub walks-known : length ss ≡ length us → Walks c m us rm ss
+  walks-known size = record {
+    permuted =
+        subst (λ n. Permuted n rm ss) (sym size)
+        (settled-permuted bytes ix c us ts m rm ss kept (record { removed = many; passed = sumOf (λ n. n) (passedCounts us ts rm); kept = k }) (settled-from (sumOf (λ n. n) (passedCounts us ts rm)) refl));
+    few = omega (arith, size, paired-few bytes ix c us ts (R .keeps .grouped .paired));
+    faces = opened-limited bytes ix c (R .keeps .grouped .paired .opened) .faces;
+    numbers-size = R .keeps .grouped .numbers-size;
+  }
+
+-- what follows the loops
+pub walks-on : (stage : ℕ) (j : Job) (room : ℕ) (w : Walked) → (stage ≡ 5 → ⊥) → (stage ≡ 6 → ⊥) → afterLoops stage j room w ≡ afterWalks stage j room w
+unfolding afterWalks
+walks-on stage j room w a b = rw (ne-eqb stage 5 a, ne-eqb stage 6 b) refl
 
 -- demand 3 holds of the walks
 pub promised : (bytes : List ℕ) → Promised bytes
@@ -353,13 +393,6 @@ pub removed-ends : (stage : ℕ) (j : Job) (c : Counts) (m : Faces) (us : List U
     → Ends (afterWalks stage j (length before) (walkedIn c m us ts rm k t)) before after r → Ends (afterKeeping stage j (length before) (walkedIn c m us ts gone k t)) before after r
 removed-ends stage j c m us ts k t before after r rm gone e n E =
     ends-same before after r (ap (λ x. afterWalks stage j (length before) (walkedIn c m us ts x k t)) e ∙ keeping-on stage j (length before) (walkedIn c m us ts gone k t) n) E
-
--- a stage that is not the first is a later one
-pub asked-later : (first next stage : ℕ) → next ≡ suc first → Asked first stage → (stage ≡ first → ⊥) → Asked next stage
-asked-later first next stage e a n = (omega (arith, a .0, n), a .1)
-
-pub asked-loops : (stage : ℕ) → Asked 5 stage → (stage ≡ 5 → ⊥) → stage ≡ 6
-asked-loops stage a n = omega (arith, a .0, a .1, n)
 
 -- loops over tables as they come back
 pub following-back : (k : ℕ) (w w′ s s′ : List ℕ) → w ≡ w′ → s ≡ s′ → Following k w′ s′ → Following k w s

@@ -4,6 +4,7 @@ use mathlib.Core.Path.{_≡_}
 use mathlib.Core.List.{List}
 use mathlib.Core.Bool.{Bool}
 use lib.ListN.{length, take}
+use Rattle.lists.specs.Lists.{keep}
 use Rattle.rules.specs.declared.Counts.{Counts}
 use Rattle.rules.specs.declared.Use.{Use}
 use Rattle.rules.specs.Outcome.{ok}
@@ -21,10 +22,6 @@ use Rattle.job.specs.Lists.{pointsIn, loopsIn, answersIn, jobIn}
 use Rattle.vertex_loops.specs.Kept.{keptIn}
 use Rattle.progress.specs.declared.Faces.{Faces}
 use Rattle.progress.specs.Known.{Opened, Grouped, groupsIn, numbersIn}
-
--- the stage is one from the first on, through the loops
-abbrev pub Asked : ℕ → ℕ → Type 0
-Asked first stage = (first ≤ stage) × (stage ≤ 6)
 
 -- the uses are read
 pub record Read (bytes ix : List ℕ) (c : Counts) (us : List Use) : Type 0 where
@@ -49,9 +46,10 @@ pub record Kept (bytes ix : List ℕ) (c : Counts) (us : List Use) (ts : List �
   pub few : k ≤ c .loops
 
 -- the uses are removed
-pub record Removed (bytes ix : List ℕ) (c : Counts) (us : List Use) (ts : List ℕ) (m : Faces) (kept : List ℕ) (k : ℕ) (rm : List Bool) : Type 0 where
+pub record Removed (bytes ix : List ℕ) (c : Counts) (us : List Use) (ts : List ℕ) (m : Faces) (kept : List ℕ) (k : ℕ) (rm : List Bool) (gone : ℕ) : Type 0 where
   pub keeps : Kept bytes ix c us ts m kept k
   pub removed : rm ≡ removedUses us ts (groupsIn c m)
+  pub many : gone ≡ length (keep (λ g. g) rm)
 
 -- the walks are known by their successors
 pub record Walks (c : Counts) (m : Faces) (us : List Use) (rm : List Bool) (ss : List ℕ) : Type 0 where

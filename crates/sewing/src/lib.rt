@@ -1,5 +1,6 @@
-// Sewing: from a job's bytes to the fields of a single stage. Each stage is done and handed to the next, up to the one
-// that is asked for.
+// Sewing: from a job's bytes to the body or to the fields of a single stage. Each stage is done and handed to the next, up
+// to the one that is asked for.
+use body::put_empty;
 use edge_uses::link;
 use load::Loaded;
 use load::load;
@@ -9,14 +10,22 @@ use merge_faces::merge_faces;
 use merge_faces::number;
 use merge_faces::remove;
 use pair::pair;
+use progress::BODY;
+use progress::EDGES;
+use progress::FANS;
 use progress::Faces;
+use progress::Figures;
+use progress::JOINING;
 use progress::LOOPS;
+use progress::LUMPS;
 use progress::MERGE;
 use progress::PAIR;
 use progress::READ;
+use progress::SHELLS;
 use progress::VERTEX_LOOPS;
 use progress::WALK;
 use read::read;
+use rebuild::rebuild;
 use rules::Counts;
 use rules::Ending;
 use stages_out::write_kept;
@@ -34,18 +43,21 @@ ghost use Prim.Native.Nat.{ℕ, _*_, _≤_, _<_};
 ghost use mathlib.Core.Bool.{Bool};
 ghost use lib.ListN.{length, take};
 ghost use Rattle.rules.specs.Read.{usesOf};
-ghost use Rattle.rules.specs.Rules.{ordinary};
+ghost use Rattle.rules.specs.Frame.{framedAll};
+ghost use Rattle.rules.specs.Rules.{ordinary, fullTable};
 ghost use Rattle.rules.specs.GroupLaws.{Lowest};
 ghost use Rattle.rules.specs.Merge.{removedUses};
 ghost use Rattle.rules.specs.Walk.{circuits, loopsOf};
-ghost use Rattle.rules.specs.Sew.{Ends};
-ghost use Rattle.rules.specs.Stage.{readStage, pairStage, mergeStage, vertexLoopStage, walkStage, loopStage};
+ghost use Rattle.rules.specs.Body.{emptyBody, bodyRecords};
+ghost use Rattle.rules.specs.Sew.{fitting, sewn, Ends};
+ghost use Rattle.rules.specs.Stage.{readStage, pairStage, mergeStage, vertexLoopStage, walkStage, loopStage, fanStage, edgeStage, joiningStage, shellStage, lumpStage};
+ghost use Rattle.theorems.specs.Demand3.{Demand3};
 ghost use Rattle.job.specs.Lists.{jobIn};
 ghost use Rattle.uses.specs.Table.{usesIn};
 ghost use Rattle.stages_out.specs.Rows.{Staged, roundRows};
-ghost use Rattle.progress.specs.Chain.{afterReading, afterPairing, afterMerging, afterKeeping, afterWalks, staged};
-ghost use Rattle.progress.specs.Known.{Opened, Paired, Grouped, groupsIn, numbersIn, mergedIn, walkedIn};
-ghost use Rattle.sewing.specs.Steps.{Asked, Read, FacesOf, Kept, Removed, Walks, Promised};
+ghost use Rattle.progress.specs.Chain.{afterReading, afterPairing, afterMerging, afterKeeping, afterWalks, afterLoops, staged, sewnBy};
+ghost use Rattle.progress.specs.Known.{Opened, Paired, Grouped, groupsIn, numbersIn, mergedIn, walkedIn, Settled};
+ghost use Rattle.sewing.specs.Steps.{Read, FacesOf, Kept, Removed, Walks, Promised};
 
 // The stage `loops` of walks that are known by their successors.
 fn put_loops(
@@ -86,19 +98,41 @@ fn on_removed(
     removed: &[bool],
     kept: &[u32],
     k: usize,
+    gone: usize,
     out: &mut [u8],
 ) -> Ending
-    requires { ⌜ Removed (now job) (now index) c (usesIn (now uses)) (now twins) m (now kept) k (now removed) × Asked 5 stage ⌝ }
+    requires { ⌜ Removed (now job) (now index) c (usesIn (now uses)) (now twins) m (now kept) k (now removed) gone ⌝ }
     ensures { λ r. ⌜ Ends (afterWalks stage (jobIn (now (job .entry)) (now (index .entry)) c) (length (now (out .entry))) (walkedIn c m (usesIn (now (uses .entry))) (now (twins .entry)) (now (removed .entry)) k (now (kept .entry)))) (now (out .entry)) (now (out .exit)) r ⌝ }
 {
     let n = removed.len();
     let mut succ = [0u32; 2048];
     let mut passed = [0u32; 2048];
-    successors(uses, twins, removed, &mut succ[..n], &mut passed[..n]);
+    let total = successors(uses, twins, removed, &mut succ[..n], &mut passed[..n]);
     if stage == WALK {
         return write_walk(removed, &succ[..n], &passed[..n], out);
     }
-    put_loops(c, m, uses, removed, &succ[..n], out)
+    if stage == LOOPS {
+        return put_loops(c, m, uses, removed, &succ[..n], out);
+    }
+    let g = Figures {
+        removed: gone,
+        passed: total,
+        kept: k,
+    };
+    rebuild(
+        stage,
+        job,
+        index,
+        c,
+        m,
+        uses,
+        twins,
+        removed,
+        &succ[..n],
+        kept,
+        g,
+        out,
+    )
 }
 
 // The uses removed, once the vertex loops are kept.
@@ -114,7 +148,7 @@ fn on_kept(
     k: usize,
     out: &mut [u8],
 ) -> Ending
-    requires { ⌜ Kept (now job) (now index) c (usesIn (now uses)) (now twins) m (now kept) k × Asked 4 stage ⌝ }
+    requires { ⌜ Kept (now job) (now index) c (usesIn (now uses)) (now twins) m (now kept) k ⌝ }
     ensures { λ r. ⌜ Ends (afterKeeping stage (jobIn (now (job .entry)) (now (index .entry)) c) (length (now (out .entry))) (walkedIn c m (usesIn (now (uses .entry))) (now (twins .entry)) (removedUses (usesIn (now (uses .entry))) (now (twins .entry)) (groupsIn c m)) k (now (kept .entry)))) (now (out .entry)) (now (out .exit)) r ⌝ }
 {
     if stage == VERTEX_LOOPS {
@@ -123,7 +157,7 @@ fn on_kept(
     let n = twins.len();
     let groups = m.groups;
     let mut removed = [false; 2048];
-    remove(uses, twins, &groups[..c.faces], &mut removed[..n]);
+    let gone = remove(uses, twins, &groups[..c.faces], &mut removed[..n]);
     on_removed(
         stage,
         job,
@@ -135,6 +169,7 @@ fn on_kept(
         &removed[..n],
         kept,
         k,
+        gone,
         out,
     )
 }
@@ -150,7 +185,7 @@ fn on_merged(
     twins: &[u32],
     out: &mut [u8],
 ) -> Ending
-    requires { ⌜ Grouped (now job) (now index) c (usesIn (now uses)) (now twins) m × Asked 3 stage ⌝ }
+    requires { ⌜ Grouped (now job) (now index) c (usesIn (now uses)) (now twins) m ⌝ }
     ensures { λ r. ⌜ Ends (afterMerging stage (jobIn (now (job .entry)) (now (index .entry)) c) (usesIn (now (uses .entry))) (now (twins .entry)) (length (now (out .entry))) (mergedIn c m (removedUses (usesIn (now (uses .entry))) (now (twins .entry)) (groupsIn c m)))) (now (out .entry)) (now (out .exit)) r ⌝ }
 {
     if stage == MERGE {
@@ -196,7 +231,7 @@ fn on_paired(
     twins: &[u32],
     out: &mut [u8],
 ) -> Ending
-    requires { ⌜ Paired (now job) (now index) c (usesIn (now uses)) (now twins) × Asked 2 stage ⌝ }
+    requires { ⌜ Paired (now job) (now index) c (usesIn (now uses)) (now twins) ⌝ }
     ensures { λ r. ⌜ Ends (afterPairing stage (jobIn (now (job .entry)) (now (index .entry)) c) (usesIn (now (uses .entry))) (length (now (out .entry))) (now (twins .entry))) (now (out .entry)) (now (out .exit)) r ⌝ }
 {
     if stage == PAIR {
@@ -222,7 +257,7 @@ fn on_read(
     uses: &[u32],
     out: &mut [u8],
 ) -> Ending
-    requires { ⌜ Read (now job) (now index) c (usesIn (now uses)) × Asked 1 stage ⌝ }
+    requires { ⌜ Read (now job) (now index) c (usesIn (now uses)) ⌝ }
     ensures { λ r. ⌜ Ends (afterReading stage (jobIn (now (job .entry)) (now (index .entry)) c) (length (now (out .entry))) (usesIn (now (uses .entry)))) (now (out .entry)) (now (out .exit)) r ⌝ }
 {
     if stage == READ {
@@ -241,7 +276,7 @@ fn on_read(
 
 // The uses read, once the job is loaded.
 fn on_loaded(stage: usize, job: &[u8], index: &[u32], c: Counts, out: &mut [u8]) -> Ending
-    requires { ⌜ Opened (now job) (now index) c × Asked 1 stage ⌝ }
+    requires { ⌜ Opened (now job) (now index) c ⌝ }
     ensures { λ r. ⌜ Ends (afterReading stage (jobIn (now (job .entry)) (now (index .entry)) c) (length (now (out .entry))) (usesOf (jobIn (now (job .entry)) (now (index .entry)) c))) (now (out .entry)) (now (out .exit)) r ⌝ }
 {
     let mut uses = [0u32; 8192];
@@ -251,7 +286,6 @@ fn on_loaded(stage: usize, job: &[u8], index: &[u32], c: Counts, out: &mut [u8])
 
 // The stages in order, up to the one that is asked for.
 fn run(stage: usize, job: &[u8], out: &mut [u8]) -> Ending
-    requires { ⌜ Asked 1 stage ⌝ }
     ensures { λ r. ⌜ Ends (staged stage (now (job .entry)) (length (now (out .entry)))) (now (out .entry)) (now (out .exit)) r ⌝ }
 {
     let mut index = [0u32; 7424];
@@ -302,4 +336,63 @@ pub fn loop_stage(job: &[u8], out: &mut [u8]) -> Ending
     ensures { λ r. ⌜ Ends (loopStage ordinary (now (job .entry)) (length (now (out .entry)))) (now (out .entry)) (now (out .exit)) r × Promised (now (job .entry)) ⌝ }
 {
     run(LOOPS, job, out)
+}
+
+// The stage `fans`.
+pub fn fan_stage(job: &[u8], out: &mut [u8]) -> Ending
+    ensures { λ r. ⌜ Ends (fanStage ordinary (now (job .entry)) (length (now (out .entry)))) (now (out .entry)) (now (out .exit)) r ⌝ }
+{
+    run(FANS, job, out)
+}
+
+// The stage `edges`.
+pub fn edge_stage(job: &[u8], out: &mut [u8]) -> Ending
+    ensures { λ r. ⌜ Ends (edgeStage ordinary (now (job .entry)) (length (now (out .entry)))) (now (out .entry)) (now (out .exit)) r ⌝ }
+{
+    run(EDGES, job, out)
+}
+
+// The stage `joining`.
+pub fn joining_stage(job: &[u8], out: &mut [u8]) -> Ending
+    ensures { λ r. ⌜ Ends (joiningStage ordinary (now (job .entry)) (length (now (out .entry)))) (now (out .entry)) (now (out .exit)) r ⌝ }
+{
+    run(JOINING, job, out)
+}
+
+// The stage `shells`.
+pub fn shell_stage(job: &[u8], out: &mut [u8]) -> Ending
+    ensures { λ r. ⌜ Ends (shellStage ordinary (now (job .entry)) (length (now (out .entry)))) (now (out .entry)) (now (out .exit)) r ⌝ }
+{
+    run(SHELLS, job, out)
+}
+
+// The stage `lumps`.
+pub fn lump_stage(job: &[u8], out: &mut [u8]) -> Ending
+    ensures { λ r. ⌜ Ends (lumpStage ordinary (now (job .entry)) (length (now (out .entry)))) (now (out .entry)) (now (out .exit)) r ⌝ }
+{
+    run(LUMPS, job, out)
+}
+
+// The body of a loaded job; one that selects no face is Empty.
+fn sew_loaded(job: &[u8], index: &[u32], c: Counts, out: &mut [u8]) -> Ending
+    requires { ⌜ Opened (now job) (now index) c ⌝ }
+    ensures { λ r. ⌜ Ends (sewnBy (now (job .entry)) (length (now (out .entry)))) (now (out .entry)) (now (out .exit)) r ⌝ }
+{
+    if c.faces == 0 {
+        return put_empty(out);
+    }
+    on_loaded(BODY, job, index, c, out)
+}
+
+// Sewing: the body's records from the output's start on, or a refusal and the output untouched. What demand 3 says holds
+// of the job.
+pub fn sew(job: &[u8], out: &mut [u8]) -> Ending
+    ensures { λ r. ⌜ Ends (sewn ordinary (now (job .entry)) (length (now (out .entry)))) (now (out .entry)) (now (out .exit)) r × Demand3 fullTable (now (job .entry)) ⌝ }
+{
+    let mut index = [0u32; 7424];
+    let r = load(job, &mut index);
+    match r {
+        Loaded::Refused(n, p) => Ending::Refused(n, p),
+        Loaded::Done(c) => sew_loaded(job, &index, c, out),
+    }
 }

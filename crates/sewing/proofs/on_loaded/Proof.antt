@@ -22,45 +22,45 @@ use Rattle.sewing.proofs.on_read.Reads as on-read-reads
 
 -- src/lib.rt:248:37
 mul-uses : tie.Need-mul-uses
-mul-uses c = omega (arith, opened-limited (c .before .before .before .before .args .job .now) (c .before .before .before .before .args .index .now) (c .before .before .before .before .args .c) (c .before .before .before .before .pre .0) .uses)
+mul-uses c = omega (arith, opened-limited (c .before .before .before .before .args .job .now) (c .before .before .before .before .args .index .now) (c .before .before .before .before .args .c) (c .before .before .before .before .pre) .uses)
 
 -- src/lib.rt:248:25
 array-borrow-prefix-uses : tie.Need-array-borrow-prefix-uses
-array-borrow-prefix-uses c = omega (arith, opened-limited (c .before .before .before .before .args .job .now) (c .before .before .before .before .args .index .now) (c .before .before .before .before .args .c) (c .before .before .before .before .pre .0) .uses)
+array-borrow-prefix-uses c = omega (arith, opened-limited (c .before .before .before .before .args .job .now) (c .before .before .before .before .args .index .now) (c .before .before .before .before .args .c) (c .before .before .before .before .pre) .uses)
 
 -- src/lib.rt:248:25
 slice-aggregate-read : tie.Need-slice-aggregate-read
 unfolding zeros
-slice-aggregate-read c = sym (length-take-le (4 * c .before .before .before .before .before .args .c .uses) (zeros 8192) (omega (arith, zeros-long 8192, opened-limited (c .before .before .before .before .before .args .job .now) (c .before .before .before .before .before .args .index .now) (c .before .before .before .before .before .args .c) (c .before .before .before .before .before .pre .0) .uses)))
+slice-aggregate-read c = sym (length-take-le (4 * c .before .before .before .before .before .args .c .uses) (zeros 8192) (omega (arith, zeros-long 8192, opened-limited (c .before .before .before .before .before .args .job .now) (c .before .before .before .before .before .args .index .now) (c .before .before .before .before .before .args .c) (c .before .before .before .before .before .pre) .uses)))
 
 -- src/lib.rt:248:5
 read-requires : tie.Need-read-requires
 unfolding zeros
-read-requires c κs = let L = opened-limited (c .before .before .before .before .before .args .job .now) (c .before .before .before .before .before .args .index .now) (c .before .before .before .before .before .args .c) (c .before .before .before .before .before .pre .0) in
-    (L .loops, L .faces, L .uses, length-take-le (4 * c .before .before .before .before .before .args .c .uses) (zeros 8192) (omega (arith, zeros-long 8192, L .uses)), opened-counted (c .before .before .before .before .before .args .job .now) (c .before .before .before .before .before .args .index .now) (c .before .before .before .before .before .args .c) (c .before .before .before .before .before .pre .0) .uses)
+read-requires c κs = let L = opened-limited (c .before .before .before .before .before .args .job .now) (c .before .before .before .before .before .args .index .now) (c .before .before .before .before .before .args .c) (c .before .before .before .before .before .pre) in
+    (L .loops, L .faces, L .uses, length-take-le (4 * c .before .before .before .before .before .args .c .uses) (zeros 8192) (omega (arith, zeros-long 8192, L .uses)), opened-counted (c .before .before .before .before .before .args .job .now) (c .before .before .before .before .before .args .index .now) (c .before .before .before .before .before .args .c) (c .before .before .before .before .before .pre) .uses)
 
 -- src/lib.rt:249:43
 mul-uses-2 : tie.Need-mul-uses-2
-mul-uses-2 c = omega (arith, opened-limited (c .before .before .before .before .before .before .before .before .args .job .now) (c .before .before .before .before .before .before .before .before .args .index .now) (c .before .before .before .before .before .before .before .before .args .c) (c .before .before .before .before .before .before .before .before .pre .0) .uses)
+mul-uses-2 c = omega (arith, opened-limited (c .before .before .before .before .before .before .before .before .args .job .now) (c .before .before .before .before .before .before .before .before .args .index .now) (c .before .before .before .before .before .before .before .before .args .c) (c .before .before .before .before .before .before .before .before .pre) .uses)
 
 -- src/lib.rt:249:35
 array-share-prefix-uses : tie.Need-array-share-prefix-uses
 unfolding zeros
 array-share-prefix-uses c = let a = c .before .before .before .before .before .before .before .before .args in
-    back-room (4 * a .c .uses) 8192 (omega (arith, opened-limited (a .job .now) (a .index .now) (a .c) (c .before .before .before .before .before .before .before .before .pre .0) .uses)) (c .before .before .read .last .1 .1 .1 .0) (c .before .before .read .kept .1 .1 .1 .0)
+    back-room (4 * a .c .uses) 8192 (omega (arith, opened-limited (a .job .now) (a .index .now) (a .c) (c .before .before .before .before .before .before .before .before .pre) .uses)) (c .before .before .read .last .1 .1 .1 .0) (c .before .before .read .kept .1 .1 .1 .0)
 
 -- src/lib.rt:249:35
 slice-aggregate-on-read : tie.Need-slice-aggregate-on-read
 unfolding zeros
 slice-aggregate-on-read c = let a = c .before .before .before .before .before .before .before .before .before .args in
-    sym (back-size (4 * a .c .uses) 8192 (omega (arith, opened-limited (a .job .now) (a .index .now) (a .c) (c .before .before .before .before .before .before .before .before .before .pre .0) .uses)) (c .before .before .before .read .last .1 .1 .1 .0) (c .before .before .before .read .kept .1 .1 .1 .0))
+    sym (back-size (4 * a .c .uses) 8192 (omega (arith, opened-limited (a .job .now) (a .index .now) (a .c) (c .before .before .before .before .before .before .before .before .before .pre) .uses)) (c .before .before .before .read .last .1 .1 .1 .0) (c .before .before .before .read .kept .1 .1 .1 .0))
 
 -- src/lib.rt:249:5
 on-read-requires : tie.Need-on-read-requires
 unfolding zeros
 on-read-requires c κs = let a = c .before .before .before .before .before .before .before .before .before .before .args in
-    let L = opened-limited (a .job .now) (a .index .now) (a .c) (c .before .before .before .before .before .before .before .before .before .before .pre .0) in
-    (record { opened = c .before .before .before .before .before .before .before .before .before .before .pre .0; uses = ap usesIn (front-back (4 * a .c .uses) (zeros 8192) (c .before .before .before .before .read .last .1 .1 .1 .0) (c .before .before .before .before .read .kept .1 .1 .1 .0) (omega (arith, zeros-long 8192, L .uses))) ∙ c .before .before .before .before .read .ensures }, c .before .before .before .before .before .before .before .before .before .before .pre .1)
+    let L = opened-limited (a .job .now) (a .index .now) (a .c) (c .before .before .before .before .before .before .before .before .before .before .pre) in
+    (record { opened = c .before .before .before .before .before .before .before .before .before .before .pre; uses = ap usesIn (front-back (4 * a .c .uses) (zeros 8192) (c .before .before .before .before .read .last .1 .1 .1 .0) (c .before .before .before .before .read .kept .1 .1 .1 .0) (omega (arith, zeros-long 8192, L .uses))) ∙ c .before .before .before .before .read .ensures })
 
 -- src/lib.rt:243:1
 same-length : tie.Need-same-length
@@ -71,7 +71,7 @@ returns : tie.Need-returns
 unfolding zeros
 returns c = let a = c .before .before .before .before .before .before .before .before .before .before .before .before .before .args in
     ends-same (a .out .now) (c .before .before .on-read .last .1 .1 .1 .1 .1 .0) (c .before .before .on-read .result)
-    (ap (afterReading (a .stage) (jobIn (a .job .now) (a .index .now) (a .c)) (length (a .out .now))) (ap usesIn (back-is (4 * a .c .uses) 8192 (omega (arith, opened-limited (a .job .now) (a .index .now) (a .c) (c .before .before .before .before .before .before .before .before .before .before .before .before .before .pre .0) .uses)) (c .before .before .before .before .before .before .before .read .last .1 .1 .1 .0) (c .before .before .before .before .before .before .before .read .kept .1 .1 .1 .0)) ∙ c .before .before .before .before .before .before .before .read .ensures))
+    (ap (afterReading (a .stage) (jobIn (a .job .now) (a .index .now) (a .c)) (length (a .out .now))) (ap usesIn (back-is (4 * a .c .uses) 8192 (omega (arith, opened-limited (a .job .now) (a .index .now) (a .c) (c .before .before .before .before .before .before .before .before .before .before .before .before .before .pre) .uses)) (c .before .before .before .before .before .before .before .read .last .1 .1 .1 .0) (c .before .before .before .before .before .before .before .read .kept .1 .1 .1 .0)) ∙ c .before .before .before .before .before .before .before .read .ensures))
     (c .before .before .on-read .ensures)
 
 pub on-loaded-spec : {M : Type 1} → statement M

@@ -1,4 +1,3 @@
-use Rattle.sewing.specs.StepLaws.{asked-later}
 use Rattle.sewing.specs.StepLaws.{ends-refused, ends-same, ends-staged, zeros, lent-size, back-is, back-long, pairing-asked, merge-refused, groups-lowest, grouped-from, merge-on}
 use Rattle.progress.specs.KnownLaws.{opened-limited, paired-few, paired-size}
 use Rattle.rules.specs.Rules.{fullTable}
@@ -24,7 +23,7 @@ use Rattle.stages_out.proofs.write_twins.Reads as write-twins-reads
 
 -- src/lib.rt:203:9
 write-twins-requires : tie.Need-write-twins-requires
-write-twins-requires c κs = omega (arith, paired-size (c .before .before .before .before .before .before .before .args .job .now) (c .before .before .before .before .before .before .before .args .index .now) (c .before .before .before .before .before .before .before .args .c) (usesIn (c .before .before .before .before .before .before .before .args .uses .now)) (c .before .before .before .before .before .before .before .args .twins .now) (c .before .before .before .before .before .before .before .pre .0), opened-limited (c .before .before .before .before .before .before .before .args .job .now) (c .before .before .before .before .before .before .before .args .index .now) (c .before .before .before .before .before .before .before .args .c) (c .before .before .before .before .before .before .before .pre .0 .opened) .uses)
+write-twins-requires c κs = omega (arith, paired-size (c .before .before .before .before .before .before .before .args .job .now) (c .before .before .before .before .before .before .before .args .index .now) (c .before .before .before .before .before .before .before .args .c) (usesIn (c .before .before .before .before .before .before .before .args .uses .now)) (c .before .before .before .before .before .before .before .args .twins .now) (c .before .before .before .before .before .before .before .pre), opened-limited (c .before .before .before .before .before .before .before .args .job .now) (c .before .before .before .before .before .before .before .args .index .now) (c .before .before .before .before .before .before .before .args .c) (c .before .before .before .before .before .before .before .pre .opened) .uses)
 
 -- src/lib.rt:203:9
 same-length : tie.Need-same-length
@@ -38,19 +37,19 @@ returns c = let a = c .before .before .before .before .before .before .before .b
 
 -- src/lib.rt:206:53
 array-borrow-prefix-groups : tie.Need-array-borrow-prefix-groups
-array-borrow-prefix-groups c = opened-limited (c .before .before .before .before .before .before .args .job .now) (c .before .before .before .before .before .before .args .index .now) (c .before .before .before .before .before .before .args .c) (c .before .before .before .before .before .before .pre .0 .opened) .faces
+array-borrow-prefix-groups c = opened-limited (c .before .before .before .before .before .before .args .job .now) (c .before .before .before .before .before .before .args .index .now) (c .before .before .before .before .before .before .args .c) (c .before .before .before .before .before .before .pre .opened) .faces
 
 -- src/lib.rt:206:53
 slice-aggregate-merge-faces : tie.Need-slice-aggregate-merge-faces
 unfolding zeros
-slice-aggregate-merge-faces c = sym (lent-size (c .before .before .before .before .before .before .before .args .c .faces) 256 (opened-limited (c .before .before .before .before .before .before .before .args .job .now) (c .before .before .before .before .before .before .before .args .index .now) (c .before .before .before .before .before .before .before .args .c) (c .before .before .before .before .before .before .before .pre .0 .opened) .faces))
+slice-aggregate-merge-faces c = sym (lent-size (c .before .before .before .before .before .before .before .args .c .faces) 256 (opened-limited (c .before .before .before .before .before .before .before .args .job .now) (c .before .before .before .before .before .before .before .args .index .now) (c .before .before .before .before .before .before .before .args .c) (c .before .before .before .before .before .before .before .pre .opened) .faces))
 
 -- src/lib.rt:206:9
 merge-faces-requires : tie.Need-merge-faces-requires
 unfolding zeros
 merge-faces-requires c κs = let a = c .before .before .before .before .before .before .before .args in
-    let L = opened-limited (a .job .now) (a .index .now) (a .c) (c .before .before .before .before .before .before .before .pre .0 .opened) in
-    (c .before .before .before .before .before .before .before .pre .0 .opened .indexed, L .faces, lent-size (a .c .faces) 256 (L .faces), paired-few (a .job .now) (a .index .now) (a .c) (usesIn (a .uses .now)) (a .twins .now) (c .before .before .before .before .before .before .before .pre .0))
+    let L = opened-limited (a .job .now) (a .index .now) (a .c) (c .before .before .before .before .before .before .before .pre .opened) in
+    (c .before .before .before .before .before .before .before .pre .opened .indexed, L .faces, lent-size (a .c .faces) 256 (L .faces), paired-few (a .job .now) (a .index .now) (a .c) (usesIn (a .uses .now)) (a .twins .now) (c .before .before .before .before .before .before .before .pre))
 
 -- src/lib.rt:208:26
 enum-known-r : tie.Need-enum-known-r
@@ -64,27 +63,27 @@ enum-told c = search needs
 faces-of-requires : tie.Need-faces-of-requires
 unfolding zeros
 faces-of-requires c κs = let a = c .before .before .before .before .before .before .before .before .before .before .before .args in
-    let L = opened-limited (a .job .now) (a .index .now) (a .c) (c .before .before .before .before .before .before .before .before .before .before .before .pre .0 .opened) in
+    let L = opened-limited (a .job .now) (a .index .now) (a .c) (c .before .before .before .before .before .before .before .before .before .before .before .pre .opened) in
     let l = c .before .before .before .merge-faces .last .1 .1 .1 .1 .1 .0 in
     let e = c .before .before .before .merge-faces .kept .1 .1 .1 .1 .1 .0 in (
       L .faces,
       back-long (a .c .faces) 256 (L .faces) l e,
-      groups-lowest (a .job .now) (a .index .now) (a .c) (usesIn (a .uses .now)) (a .twins .now) (c .before .before .before .before .before .before .before .before .before .before .before .pre .0) (a .stage) (length (a .out .now)) (c .before .before .before .before .before .if1 .left) (c .before .before .before .merge-faces .result) l (c .before .before .before .merge-faces .ensures) _ (back-is (a .c .faces) 256 (L .faces) l e) (c .enum-told .given .1),
+      groups-lowest (a .job .now) (a .index .now) (a .c) (usesIn (a .uses .now)) (a .twins .now) (c .before .before .before .before .before .before .before .before .before .before .before .pre) (a .stage) (length (a .out .now)) (c .before .before .before .before .before .if1 .left) (c .before .before .before .merge-faces .result) l (c .before .before .before .merge-faces .ensures) _ (back-is (a .c .faces) 256 (L .faces) l e) (c .enum-told .given .1),
     )
 
 -- src/lib.rt:211:13
 on-merged-requires : tie.Need-on-merged-requires
 unfolding zeros
 on-merged-requires c κs = let a = c .before .before .before .before .before .before .before .before .before .before .before .before .before .args in
-    let L = opened-limited (a .job .now) (a .index .now) (a .c) (c .before .before .before .before .before .before .before .before .before .before .before .before .before .pre .0 .opened) in
+    let L = opened-limited (a .job .now) (a .index .now) (a .c) (c .before .before .before .before .before .before .before .before .before .before .before .before .before .pre .opened) in
     let l = c .before .before .before .before .before .merge-faces .last .1 .1 .1 .1 .1 .0 in
     let e = c .before .before .before .before .before .merge-faces .kept .1 .1 .1 .1 .1 .0 in
-    (grouped-from (a .job .now) (a .index .now) (a .c) (usesIn (a .uses .now)) (a .twins .now) (c .before .before .before .before .before .before .before .before .before .before .before .before .before .pre .0) (a .stage) (length (a .out .now)) (c .before .before .before .before .before .before .before .if1 .left) (c .before .before .before .before .before .merge-faces .result) l (c .before .before .before .before .before .merge-faces .ensures) _ (back-is (a .c .faces) 256 (L .faces) l e) (c .before .before .enum-told .given .1) (c .before .faces-of .result) (back-long (a .c .faces) 256 (L .faces) l e) (c .before .faces-of .ensures), asked-later 2 3 (a .stage) refl (c .before .before .before .before .before .before .before .before .before .before .before .before .before .pre .1) (c .before .before .before .before .before .before .before .if1 .left))
+    (grouped-from (a .job .now) (a .index .now) (a .c) (usesIn (a .uses .now)) (a .twins .now) (c .before .before .before .before .before .before .before .before .before .before .before .before .before .pre) (a .stage) (length (a .out .now)) (c .before .before .before .before .before .before .before .if1 .left) (c .before .before .before .before .before .merge-faces .result) l (c .before .before .before .before .before .merge-faces .ensures) _ (back-is (a .c .faces) 256 (L .faces) l e) (c .before .before .enum-told .given .1) (c .before .faces-of .result) (back-long (a .c .faces) 256 (L .faces) l e) (c .before .faces-of .ensures))
 
 -- src/lib.rt:190:1
 returns-2 : tie.Need-returns-2
 returns-2 c = let a = c .before .before .before .before .before .before .before .before .before .before .before .before .args in
-    ends-refused (a .out .now) (merge-refused (a .job .now) (a .index .now) (a .c) (usesIn (a .uses .now)) (a .twins .now) (c .before .before .before .before .before .before .before .before .before .before .before .before .pre .0) (a .stage) (length (a .out .now)) (c .before .before .before .before .before .before .if1 .left) (c .before .before .before .before .merge-faces .result) (c .before .before .before .before .merge-faces .last .1 .1 .1 .1 .1 .0) (c .before .before .before .before .merge-faces .ensures) _ _ (c .before .r .given .1))
+    ends-refused (a .out .now) (merge-refused (a .job .now) (a .index .now) (a .c) (usesIn (a .uses .now)) (a .twins .now) (c .before .before .before .before .before .before .before .before .before .before .before .before .pre) (a .stage) (length (a .out .now)) (c .before .before .before .before .before .before .if1 .left) (c .before .before .before .before .merge-faces .result) (c .before .before .before .before .merge-faces .last .1 .1 .1 .1 .1 .0) (c .before .before .before .before .merge-faces .ensures) _ _ (c .before .r .given .1))
 
 -- src/lib.rt:190:1
 same-length-2 : tie.Need-same-length-2
@@ -94,12 +93,12 @@ same-length-2 c = search needs
 returns-3 : tie.Need-returns-3
 unfolding zeros
 returns-3 c = let a = c .before .before .before .before .before .before .before .before .before .before .before .before .before .before .before .before .args in
-    let L = opened-limited (a .job .now) (a .index .now) (a .c) (c .before .before .before .before .before .before .before .before .before .before .before .before .before .before .before .before .pre .0 .opened) in
+    let L = opened-limited (a .job .now) (a .index .now) (a .c) (c .before .before .before .before .before .before .before .before .before .before .before .before .before .before .before .before .pre .opened) in
     let l = c .before .before .before .before .before .before .before .before .merge-faces .last .1 .1 .1 .1 .1 .0 in
     let e = c .before .before .before .before .before .before .before .before .merge-faces .kept .1 .1 .1 .1 .1 .0 in
-    let G = grouped-from (a .job .now) (a .index .now) (a .c) (usesIn (a .uses .now)) (a .twins .now) (c .before .before .before .before .before .before .before .before .before .before .before .before .before .before .before .before .pre .0) (a .stage) (length (a .out .now)) (c .before .before .before .before .before .before .before .before .before .before .if1 .left) (c .before .before .before .before .before .before .before .before .merge-faces .result) l (c .before .before .before .before .before .before .before .before .merge-faces .ensures) _ (back-is (a .c .faces) 256 (L .faces) l e) (c .before .before .before .before .before .enum-told .given .1) (c .before .before .before .before .faces-of .result) (back-long (a .c .faces) 256 (L .faces) l e) (c .before .before .before .before .faces-of .ensures) in
+    let G = grouped-from (a .job .now) (a .index .now) (a .c) (usesIn (a .uses .now)) (a .twins .now) (c .before .before .before .before .before .before .before .before .before .before .before .before .before .before .before .before .pre) (a .stage) (length (a .out .now)) (c .before .before .before .before .before .before .before .before .before .before .if1 .left) (c .before .before .before .before .before .before .before .before .merge-faces .result) l (c .before .before .before .before .before .before .before .before .merge-faces .ensures) _ (back-is (a .c .faces) 256 (L .faces) l e) (c .before .before .before .before .before .enum-told .given .1) (c .before .before .before .before .faces-of .result) (back-long (a .c .faces) 256 (L .faces) l e) (c .before .before .before .before .faces-of .ensures) in
     ends-same (a .out .now) (c .before .before .on-merged .last .1 .1 .1 .1 .1 .1 .1 .0) (c .before .before .on-merged .result)
-    (merge-on (a .job .now) (a .index .now) (a .c) (usesIn (a .uses .now)) (a .twins .now) (c .before .before .before .before .before .before .before .before .before .before .before .before .before .before .before .before .pre .0) (a .stage) (length (a .out .now)) (c .before .before .before .before .before .before .before .before .before .before .if1 .left) (c .before .before .before .before .faces-of .result) G) (c .before .before .on-merged .ensures)
+    (merge-on (a .job .now) (a .index .now) (a .c) (usesIn (a .uses .now)) (a .twins .now) (c .before .before .before .before .before .before .before .before .before .before .before .before .before .before .before .before .pre) (a .stage) (length (a .out .now)) (c .before .before .before .before .before .before .before .before .before .before .if1 .left) (c .before .before .before .before .faces-of .result) G) (c .before .before .on-merged .ensures)
 
 pub on-paired-spec : {M : Type 1} → statement M
 on-paired-spec =

@@ -1,4 +1,3 @@
-use Rattle.sewing.specs.StepLaws.{asked-later}
 use mathlib.Core.List.{_++_}
 use lib.ListN.{drop}
 use Rattle.sewing.specs.StepLaws.{back-room, linked-back}
@@ -26,7 +25,7 @@ use Rattle.stages_out.proofs.write_read.Reads as write-read-reads
 
 -- src/lib.rt:229:9
 write-read-requires : tie.Need-write-read-requires
-write-read-requires c κs = read-few (c .before .before .before .before .before .before .args .job .now) (c .before .before .before .before .before .before .args .index .now) (c .before .before .before .before .before .before .args .c) (usesIn (c .before .before .before .before .before .before .args .uses .now)) (c .before .before .before .before .before .before .pre .0)
+write-read-requires c κs = read-few (c .before .before .before .before .before .before .args .job .now) (c .before .before .before .before .before .before .args .index .now) (c .before .before .before .before .before .before .args .c) (usesIn (c .before .before .before .before .before .before .args .uses .now)) (c .before .before .before .before .before .before .pre)
 
 -- src/lib.rt:229:9
 same-length : tie.Need-same-length
@@ -40,79 +39,79 @@ returns c = let a = c .before .before .before .before .before .before .before .b
 
 -- src/lib.rt:233:16
 array-borrow-prefix-firsts : tie.Need-array-borrow-prefix-firsts
-array-borrow-prefix-firsts c = opened-limited (c .before .before .before .before .before .args .job .now) (c .before .before .before .before .before .args .index .now) (c .before .before .before .before .before .args .c) (c .before .before .before .before .before .pre .0 .opened) .edges
+array-borrow-prefix-firsts c = opened-limited (c .before .before .before .before .before .args .job .now) (c .before .before .before .before .before .args .index .now) (c .before .before .before .before .before .args .c) (c .before .before .before .before .before .pre .opened) .edges
 
 -- src/lib.rt:233:16
 slice-aggregate-link : tie.Need-slice-aggregate-link
 unfolding zeros
-slice-aggregate-link c = sym (lent-size (c .before .before .before .before .before .before .args .c .edges) 1024 (opened-limited (c .before .before .before .before .before .before .args .job .now) (c .before .before .before .before .before .before .args .index .now) (c .before .before .before .before .before .before .args .c) (c .before .before .before .before .before .before .pre .0 .opened) .edges))
+slice-aggregate-link c = sym (lent-size (c .before .before .before .before .before .before .args .c .edges) 1024 (opened-limited (c .before .before .before .before .before .before .args .job .now) (c .before .before .before .before .before .before .args .index .now) (c .before .before .before .before .before .before .args .c) (c .before .before .before .before .before .before .pre .opened) .edges))
 
 -- src/lib.rt:233:40
 array-borrow-prefix-nexts : tie.Need-array-borrow-prefix-nexts
-array-borrow-prefix-nexts c = opened-limited (c .before .before .before .before .before .before .args .job .now) (c .before .before .before .before .before .before .args .index .now) (c .before .before .before .before .before .before .args .c) (c .before .before .before .before .before .before .pre .0 .opened) .uses
+array-borrow-prefix-nexts c = opened-limited (c .before .before .before .before .before .before .args .job .now) (c .before .before .before .before .before .before .args .index .now) (c .before .before .before .before .before .before .args .c) (c .before .before .before .before .before .before .pre .opened) .uses
 
 -- src/lib.rt:233:40
 slice-aggregate-link-2 : tie.Need-slice-aggregate-link-2
 unfolding zeros
-slice-aggregate-link-2 c = sym (lent-size (c .before .before .before .before .before .before .before .args .c .uses) 2048 (opened-limited (c .before .before .before .before .before .before .before .args .job .now) (c .before .before .before .before .before .before .before .args .index .now) (c .before .before .before .before .before .before .before .args .c) (c .before .before .before .before .before .before .before .pre .0 .opened) .uses))
+slice-aggregate-link-2 c = sym (lent-size (c .before .before .before .before .before .before .before .args .c .uses) 2048 (opened-limited (c .before .before .before .before .before .before .before .args .job .now) (c .before .before .before .before .before .before .before .args .index .now) (c .before .before .before .before .before .before .before .args .c) (c .before .before .before .before .before .before .before .pre .opened) .uses))
 
 -- src/lib.rt:233:5
 link-requires : tie.Need-link-requires
 unfolding zeros
 link-requires c κs = let a = c .before .before .before .before .before .before .before .args in
-    let L = opened-limited (a .job .now) (a .index .now) (a .c) (c .before .before .before .before .before .before .before .pre .0 .opened) in
+    let L = opened-limited (a .job .now) (a .index .now) (a .c) (c .before .before .before .before .before .before .before .pre .opened) in
     let size = lent-size (a .c .uses) 2048 (L .uses) in
-    (zeros-lent (a .c .edges) 1024 (L .edges), size ∙ sym (read-count (a .job .now) (a .index .now) (a .c) (usesIn (a .uses .now)) (c .before .before .before .before .before .before .before .pre .0)), omega (arith, size, L .uses))
+    (zeros-lent (a .c .edges) 1024 (L .edges), size ∙ sym (read-count (a .job .now) (a .index .now) (a .c) (usesIn (a .uses .now)) (c .before .before .before .before .before .before .before .pre)), omega (arith, size, L .uses))
 
 -- src/lib.rt:234:39
 array-share-prefix-firsts : tie.Need-array-share-prefix-firsts
 unfolding zeros
 array-share-prefix-firsts c = let a = c .before .before .before .before .before .before .before .before .before .before .args in
-    back-room (a .c .edges) 1024 (opened-limited (a .job .now) (a .index .now) (a .c) (c .before .before .before .before .before .before .before .before .before .before .pre .0 .opened) .edges) (c .before .before .link .last .1 .0) (c .before .before .link .kept .1 .0)
+    back-room (a .c .edges) 1024 (opened-limited (a .job .now) (a .index .now) (a .c) (c .before .before .before .before .before .before .before .before .before .before .pre .opened) .edges) (c .before .before .link .last .1 .0) (c .before .before .link .kept .1 .0)
 
 -- src/lib.rt:234:39
 slice-aggregate-pair : tie.Need-slice-aggregate-pair
 unfolding zeros
-slice-aggregate-pair c = sym (back-size (c .before .before .before .before .before .before .before .before .before .before .before .args .c .edges) 1024 (opened-limited (c .before .before .before .before .before .before .before .before .before .before .before .args .job .now) (c .before .before .before .before .before .before .before .before .before .before .before .args .index .now) (c .before .before .before .before .before .before .before .before .before .before .before .args .c) (c .before .before .before .before .before .before .before .before .before .before .before .pre .0 .opened) .edges) (c .before .before .before .link .last .1 .0) (c .before .before .before .link .kept .1 .0))
+slice-aggregate-pair c = sym (back-size (c .before .before .before .before .before .before .before .before .before .before .before .args .c .edges) 1024 (opened-limited (c .before .before .before .before .before .before .before .before .before .before .before .args .job .now) (c .before .before .before .before .before .before .before .before .before .before .before .args .index .now) (c .before .before .before .before .before .before .before .before .before .before .before .args .c) (c .before .before .before .before .before .before .before .before .before .before .before .pre .opened) .edges) (c .before .before .before .link .last .1 .0) (c .before .before .before .link .kept .1 .0))
 
 -- src/lib.rt:234:59
 array-share-prefix-nexts : tie.Need-array-share-prefix-nexts
 unfolding zeros
 array-share-prefix-nexts c = let a = c .before .before .before .before .before .before .before .before .before .before .before .args in
-    back-room (a .c .uses) 2048 (opened-limited (a .job .now) (a .index .now) (a .c) (c .before .before .before .before .before .before .before .before .before .before .before .pre .0 .opened) .uses) (c .before .before .before .link .last .1 .1 .0) (c .before .before .before .link .kept .1 .1 .0)
+    back-room (a .c .uses) 2048 (opened-limited (a .job .now) (a .index .now) (a .c) (c .before .before .before .before .before .before .before .before .before .before .before .pre .opened) .uses) (c .before .before .before .link .last .1 .1 .0) (c .before .before .before .link .kept .1 .1 .0)
 
 -- src/lib.rt:234:59
 slice-aggregate-pair-2 : tie.Need-slice-aggregate-pair-2
 unfolding zeros
-slice-aggregate-pair-2 c = sym (back-size (c .before .before .before .before .before .before .before .before .before .before .before .before .args .c .uses) 2048 (opened-limited (c .before .before .before .before .before .before .before .before .before .before .before .before .args .job .now) (c .before .before .before .before .before .before .before .before .before .before .before .before .args .index .now) (c .before .before .before .before .before .before .before .before .before .before .before .before .args .c) (c .before .before .before .before .before .before .before .before .before .before .before .before .pre .0 .opened) .uses) (c .before .before .before .before .link .last .1 .1 .0) (c .before .before .before .before .link .kept .1 .1 .0))
+slice-aggregate-pair-2 c = sym (back-size (c .before .before .before .before .before .before .before .before .before .before .before .before .args .c .uses) 2048 (opened-limited (c .before .before .before .before .before .before .before .before .before .before .before .before .args .job .now) (c .before .before .before .before .before .before .before .before .before .before .before .before .args .index .now) (c .before .before .before .before .before .before .before .before .before .before .before .before .args .c) (c .before .before .before .before .before .before .before .before .before .before .before .before .pre .opened) .uses) (c .before .before .before .before .link .last .1 .1 .0) (c .before .before .before .before .link .kept .1 .1 .0))
 
 -- src/lib.rt:234:9
 pair-requires : tie.Need-pair-requires
 unfolding zeros
 pair-requires c κs = let a = c .before .before .before .before .before .before .before .before .before .before .before .before .args in
-    let L = opened-limited (a .job .now) (a .index .now) (a .c) (c .before .before .before .before .before .before .before .before .before .before .before .before .pre .0 .opened) in
+    let L = opened-limited (a .job .now) (a .index .now) (a .c) (c .before .before .before .before .before .before .before .before .before .before .before .before .pre .opened) in
     let firsts = back-is (a .c .edges) 1024 (L .edges) (c .before .before .before .before .link .last .1 .0) (c .before .before .before .before .link .kept .1 .0) in
     let nexts = back-is (a .c .uses) 2048 (L .uses) (c .before .before .before .before .link .last .1 .1 .0) (c .before .before .before .before .link .kept .1 .1 .0) in
-    (c .before .before .before .before .before .before .before .before .before .before .before .before .pre .0 .opened .indexed, linked-back (usesIn (a .uses .now)) (take (a .c .edges) (c .before .before .before .before .link .last .1 .0 ++ drop (a .c .edges) (zeros 1024))) (c .before .before .before .before .link .last .1 .0) (take (a .c .uses) (c .before .before .before .before .link .last .1 .1 .0 ++ drop (a .c .uses) (zeros 2048))) (c .before .before .before .before .link .last .1 .1 .0) firsts nexts (c .before .before .before .before .link .ensures), read-few (a .job .now) (a .index .now) (a .c) (usesIn (a .uses .now)) (c .before .before .before .before .before .before .before .before .before .before .before .before .pre .0), back-size (a .c .edges) 1024 (L .edges) (c .before .before .before .before .link .last .1 .0) (c .before .before .before .before .link .kept .1 .0), L .edges)
+    (c .before .before .before .before .before .before .before .before .before .before .before .before .pre .opened .indexed, linked-back (usesIn (a .uses .now)) (take (a .c .edges) (c .before .before .before .before .link .last .1 .0 ++ drop (a .c .edges) (zeros 1024))) (c .before .before .before .before .link .last .1 .0) (take (a .c .uses) (c .before .before .before .before .link .last .1 .1 .0 ++ drop (a .c .uses) (zeros 2048))) (c .before .before .before .before .link .last .1 .1 .0) firsts nexts (c .before .before .before .before .link .ensures), read-few (a .job .now) (a .index .now) (a .c) (usesIn (a .uses .now)) (c .before .before .before .before .before .before .before .before .before .before .before .before .pre), back-size (a .c .edges) 1024 (L .edges) (c .before .before .before .before .link .last .1 .0) (c .before .before .before .before .link .kept .1 .0), L .edges)
 
 -- src/lib.rt:236:9
 returns-2 : tie.Need-returns-2
 returns-2 c = let a = c .before .before .before .before .before .before .before .before .before .before .before .before .before .before .before .args in
-    ends-refused (a .out .now) (pairs-refused (a .job .now) (a .index .now) (a .c) (usesIn (a .uses .now)) (c .before .before .before .before .before .before .before .before .before .before .before .before .before .before .before .pre .0) (a .stage) (length (a .out .now)) (c .before .before .before .before .before .before .before .before .before .before .if1 .left) (c .before .before .pair .result) (c .before .before .pair .ensures .0) (c .if2 .taken))
+    ends-refused (a .out .now) (pairs-refused (a .job .now) (a .index .now) (a .c) (usesIn (a .uses .now)) (c .before .before .before .before .before .before .before .before .before .before .before .before .before .before .before .pre) (a .stage) (length (a .out .now)) (c .before .before .before .before .before .before .before .before .before .before .if1 .left) (c .before .before .pair .result) (c .before .before .pair .ensures .0) (c .if2 .taken))
 
 -- src/lib.rt:239:43
 array-share-prefix-twins : tie.Need-array-share-prefix-twins
-array-share-prefix-twins c = omega (arith, c .before .before .before .pair .ensures .1, opened-limited (c .before .before .before .before .before .before .before .before .before .before .before .before .before .before .before .before .args .job .now) (c .before .before .before .before .before .before .before .before .before .before .before .before .before .before .before .before .args .index .now) (c .before .before .before .before .before .before .before .before .before .before .before .before .before .before .before .before .args .c) (c .before .before .before .before .before .before .before .before .before .before .before .before .before .before .before .before .pre .0 .opened) .uses)
+array-share-prefix-twins c = omega (arith, c .before .before .before .pair .ensures .1, opened-limited (c .before .before .before .before .before .before .before .before .before .before .before .before .before .before .before .before .args .job .now) (c .before .before .before .before .before .before .before .before .before .before .before .before .before .before .before .before .args .index .now) (c .before .before .before .before .before .before .before .before .before .before .before .before .before .before .before .before .args .c) (c .before .before .before .before .before .before .before .before .before .before .before .before .before .before .before .before .pre .opened) .uses)
 
 -- src/lib.rt:239:43
 slice-aggregate-on-paired : tie.Need-slice-aggregate-on-paired
 slice-aggregate-on-paired c = let a = c .before .before .before .before .before .before .before .before .before .before .before .before .before .before .before .before .before .args in
-    sym (length-take-le (a .c .uses) (c .before .before .before .before .pair .result .twins) (omega (arith, c .before .before .before .before .pair .ensures .1, opened-limited (a .job .now) (a .index .now) (a .c) (c .before .before .before .before .before .before .before .before .before .before .before .before .before .before .before .before .before .pre .0 .opened) .uses)))
+    sym (length-take-le (a .c .uses) (c .before .before .before .before .pair .result .twins) (omega (arith, c .before .before .before .before .pair .ensures .1, opened-limited (a .job .now) (a .index .now) (a .c) (c .before .before .before .before .before .before .before .before .before .before .before .before .before .before .before .before .before .pre .opened) .uses)))
 
 -- src/lib.rt:239:5
 on-paired-requires : tie.Need-on-paired-requires
 on-paired-requires c κs = let a = c .before .before .before .before .before .before .before .before .before .before .before .before .before .before .before .before .before .before .args in
-    (pairs-made (a .job .now) (a .index .now) (a .c) (usesIn (a .uses .now)) (c .before .before .before .before .before .before .before .before .before .before .before .before .before .before .before .before .before .before .pre .0) (a .stage) (length (a .out .now)) (c .before .before .before .before .before .before .before .before .before .before .before .before .before .if1 .left) (c .before .before .before .before .before .pair .result) (c .before .before .before .before .before .pair .ensures .0) (c .before .before .before .if2 .left), asked-later 1 2 (a .stage) refl (c .before .before .before .before .before .before .before .before .before .before .before .before .before .before .before .before .before .before .pre .1) (c .before .before .before .before .before .before .before .before .before .before .before .before .before .if1 .left))
+    (pairs-made (a .job .now) (a .index .now) (a .c) (usesIn (a .uses .now)) (c .before .before .before .before .before .before .before .before .before .before .before .before .before .before .before .before .before .before .pre) (a .stage) (length (a .out .now)) (c .before .before .before .before .before .before .before .before .before .before .before .before .before .if1 .left) (c .before .before .before .before .before .pair .result) (c .before .before .before .before .before .pair .ensures .0) (c .before .before .before .if2 .left))
 
 -- src/lib.rt:217:1
 same-length-2 : tie.Need-same-length-2
@@ -121,9 +120,9 @@ same-length-2 c = search needs
 -- src/lib.rt:217:1
 returns-3 : tie.Need-returns-3
 returns-3 c = let a = c .before .before .before .before .before .before .before .before .before .before .before .before .before .before .before .before .before .before .before .before .before .args in
-    let P = pairs-made (a .job .now) (a .index .now) (a .c) (usesIn (a .uses .now)) (c .before .before .before .before .before .before .before .before .before .before .before .before .before .before .before .before .before .before .before .before .before .pre .0) (a .stage) (length (a .out .now)) (c .before .before .before .before .before .before .before .before .before .before .before .before .before .before .before .before .if1 .left) (c .before .before .before .before .before .before .before .before .pair .result) (c .before .before .before .before .before .before .before .before .pair .ensures .0) (c .before .before .before .before .before .before .if2 .left) in
+    let P = pairs-made (a .job .now) (a .index .now) (a .c) (usesIn (a .uses .now)) (c .before .before .before .before .before .before .before .before .before .before .before .before .before .before .before .before .before .before .before .before .before .pre) (a .stage) (length (a .out .now)) (c .before .before .before .before .before .before .before .before .before .before .before .before .before .before .before .before .if1 .left) (c .before .before .before .before .before .before .before .before .pair .result) (c .before .before .before .before .before .before .before .before .pair .ensures .0) (c .before .before .before .before .before .before .if2 .left) in
     ends-same (a .out .now) (c .before .before .on-paired .last .1 .1 .1 .1 .1 .1 .0) (c .before .before .on-paired .result)
-    (pairs-on (a .job .now) (a .index .now) (a .c) (usesIn (a .uses .now)) (c .before .before .before .before .before .before .before .before .before .before .before .before .before .before .before .before .before .before .before .before .before .pre .0) (a .stage) (length (a .out .now)) (c .before .before .before .before .before .before .before .before .before .before .before .before .before .before .before .before .if1 .left) (c .before .before .before .before .before .before .before .before .pair .result) (c .before .before .before .before .before .before .before .before .pair .ensures .0) (take (a .c .uses) (c .before .before .before .before .before .before .before .before .pair .result .twins)) P) (c .before .before .on-paired .ensures)
+    (pairs-on (a .job .now) (a .index .now) (a .c) (usesIn (a .uses .now)) (c .before .before .before .before .before .before .before .before .before .before .before .before .before .before .before .before .before .before .before .before .before .pre) (a .stage) (length (a .out .now)) (c .before .before .before .before .before .before .before .before .before .before .before .before .before .before .before .before .if1 .left) (c .before .before .before .before .before .before .before .before .pair .result) (c .before .before .before .before .before .before .before .before .pair .ensures .0) (take (a .c .uses) (c .before .before .before .before .before .before .before .before .pair .result .twins)) P) (c .before .before .on-paired .ensures)
 
 pub on-read-spec : {M : Type 1} → statement M
 on-read-spec =

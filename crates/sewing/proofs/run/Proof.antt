@@ -31,7 +31,7 @@ slice-aggregate-on-loaded c = search needs
 
 -- src/lib.rt:261:28
 on-loaded-requires : tie.Need-on-loaded-requires
-on-loaded-requires c κs = (opened-from (c .before .before .before .before .before .before .before .before .before .before .args .job .now) (c .before .before .before .before .before .before .load .last .1 .0) (c .before .before .before .before .before .before .load .result) _ (c .before .before .before .before .before .before .load .ensures) (c .before .before .before .r2 .given .1), c .before .before .before .before .before .before .before .before .before .before .pre)
+on-loaded-requires c κs = (opened-from (c .before .before .before .before .before .before .before .before .before .before .args .job .now) (c .before .before .before .before .before .before .load .last .1 .0) (c .before .before .before .before .before .before .load .result) _ (c .before .before .before .before .before .before .load .ensures) (c .before .before .before .r2 .given .1))
 
 -- src/lib.rt:253:1
 returns : tie.Need-returns

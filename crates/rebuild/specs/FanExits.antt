@@ -1,0 +1,153 @@
+-- After the fans: the stage `fans`, test 31, then edges and loops.
+use Prim.Native.Nat.{ℕ, _*_, _≤_}
+use native.Mathlib.Omega.{arith}
+use mathlib.Core.Path.{_≡_, refl, sym, ap, subst, subst₂, _∙_}
+use mathlib.Core.List.{List, _++_, flatMap}
+use mathlib.Core.Bool.{Bool}
+use lib.ListN.{length, take, drop}
+use lib.Seq.{length-take-le}
+use Rattle.lists.specs.Lists.{below, keep}
+use Rattle.rules.specs.declared.Counts.{Counts}
+use Rattle.rules.specs.declared.Use.{Use}
+use Rattle.rules.specs.declared.Ending.{Ending}
+use Rattle.rules.specs.declared.Ending.the-variants.{Refused as Stopped}
+use Rattle.rules.specs.Outcome.{refuse}
+use Rattle.rules.specs.OutcomeLaws.{bind-on, bind-stop}
+use Rattle.rules.specs.Job.{Job}
+use Rattle.rules.specs.Walk.{successors, circuits, loopsOf}
+use Rattle.rules.specs.Fans.{keptWithEnds, fans as fansBy}
+use Rattle.rules.specs.Contact.{pointsClear}
+use Rattle.rules.specs.Edges.{edgesOf, faceLoops}
+use Rattle.rules.specs.Sew.{walksOf, Fanned, fansOf, Joined, unjoined, Ends}
+use Rattle.rules.specs.Stage.{fanFields, stageBytes}
+use Rattle.job.specs.Lists.{edgesIn, jobIn}
+use Rattle.contact.specs.declared.Clear.{Clear}
+use Rattle.contact.specs.declared.Clear.the-variants.{Done, Refused}
+use Rattle.contact.specs.Clear.{clearOf}
+use Rattle.maximal_edges.specs.Joined.{edgesIn as rowsTo, stateIn}
+use Rattle.stages_out.specs.Rows.{Staged}
+use Rattle.result_out.specs.Rows.{fanRows}
+use Rattle.progress.specs.declared.Faces.{Faces}
+use Rattle.progress.specs.declared.Figures.{Figures}
+use Rattle.progress.specs.Chain.{afterFans, afterEdges}
+use Rattle.progress.specs.Known.{boundariesIn, numbersIn, walkedIn, Settled}
+use Rattle.progress.specs.KnownLaws.{settled-ground}
+use Rattle.rebuild.specs.Parts.{zeros, zeros-size, lent-part, lent-first}
+use Rattle.rebuild.specs.Ended.{Ended, first-ended}
+use Rattle.rebuild.specs.Sizes.{Fanning, Holds, Tables, settled-few, settled-room, settled-twins, settled-succ, linable, fanned-names, fanned-holds}
+use Rattle.rebuild.specs.Lined.{Lined}
+use Rattle.rebuild.specs.Endings.{ends-as, ends-refused, asked, unasked}
+
+module _ {bytes ix : List ℕ} {c : Counts} {us : List Use} {ts : List ℕ} {m : Faces} {rm : List Bool} {ss kept : List ℕ} {g : Figures} {fans names starts : List ℕ}
+    (F : Fanning bytes ix c us ts m rm ss kept g fans names starts) (stage : ℕ) (out : List ℕ) where
+  abbrev S : Settled bytes ix c us ts m rm ss kept g
+  S = F .settled
+
+  abbrev j : Job
+  j = jobIn bytes ix c
+
+  abbrev f : Fanned
+  f = fansOf j (walkedIn c m us ts rm (g .kept) kept)
+
+  abbrev H : Holds c us ts m kept g names starts f
+  H = fanned-holds F
+
+  -- the edges and loops before any change
+  abbrev x : Joined
+  x = record { fan = f; joining = unjoined j f }
+
+  fans-same : fans ≡ fansBy (edgesIn bytes c) us ts rm (successors us ts rm)
+  fans-same = F .fans-are ∙ ap (fansBy (edgesIn bytes c) us ts rm) (S .follows)
+
+  -- the fields of the stage
+  fan-fields : fanRows (edgesIn bytes c) us rm fans starts ≡ flatMap (fanFields f) (keep (keptWithEnds (j .edges) (f .walk .uses) (f .walk .merge .removed)) (below (length (f .walk .uses))))
+  unfolding fanRows jobIn walksOf fansOf
+  fan-fields = λ i. fanRows (edgesIn bytes c) us rm (fans-same i) (F .starts-are i)
+
+  fans-asked : stage ≡ 7 → afterFans stage j (length out) f ≡ stageBytes (length out) (fanRows (edgesIn bytes c) us rm fans starts)
+  unfolding afterFans
+  fans-asked e = asked stage 7 _ _ e ∙ ap (stageBytes (length out)) (sym fan-fields)
+
+  pub fans-written : (after : List ℕ) (r : Ending) → stage ≡ 7 → Staged (fanRows (edgesIn bytes c) us rm fans starts) out after r → Ends (afterFans stage j (length out) f) out after r
+  fans-written after r e s = ends-as (afterFans stage j (length out) f) (stageBytes (length out) (fanRows (edgesIn bytes c) us rm fans starts)) out after r (fans-asked e) s
+
+  -- 31 as the code puts it
+  stand-apart : (r : Clear) → clearOf r ≡ pointsClear 31 us starts (boundariesIn c m) names → clearOf r ≡ pointsClear 31 (f .walk .uses) (f .starts) (f .walk .merge .boundaries) (f .names)
+  stand-apart r e = e ∙ (λ i. pointsClear 31 (H .uses i) (H .starts-are i) (H .boundaries i) (H .names-are i))
+
+  fans-stop : (r : Clear) (n p : ℕ) → (stage ≡ 7 → ⊥) → clearOf r ≡ pointsClear 31 us starts (boundariesIn c m) names → r ≡ Refused n p → afterFans stage j (length out) f ≡ refuse n p
+  unfolding afterFans
+  fans-stop r n p other e q = unasked stage 7 _ _ other ∙ bind-stop (λ _. afterEdges stage j (length out) x) (sym (stand-apart r e) ∙ ap clearOf q)
+
+  fans-next : (r : Clear) → (stage ≡ 7 → ⊥) → clearOf r ≡ pointsClear 31 us starts (boundariesIn c m) names → r ≡ Done → afterFans stage j (length out) f ≡ afterEdges stage j (length out) x
+  unfolding afterFans
+  fans-next r other e q = unasked stage 7 _ _ other ∙ bind-on (λ _. afterEdges stage j (length out) x) (sym (stand-apart r e) ∙ ap clearOf q)
+
+  pub fans-refused : (r : Clear) (n p : ℕ) → (stage ≡ 7 → ⊥) → clearOf r ≡ pointsClear 31 us starts (boundariesIn c m) names → r ≡ Refused n p → Ends (afterFans stage j (length out) f) out out (Stopped n p)
+  fans-refused r n p other e q = ends-refused (afterFans stage j (length out) f) out n p (fans-stop r n p other e q)
+
+  pub fans-on : (after : List ℕ) (z : Ending) (r : Clear) → (stage ≡ 7 → ⊥) → clearOf r ≡ pointsClear 31 us starts (boundariesIn c m) names → r ≡ Done → Ends (afterEdges stage j (length out) x) out after z
+      → Ends (afterFans stage j (length out) f) out after z
+  fans-on after z r other e q s = ends-as (afterFans stage j (length out) f) (afterEdges stage j (length out) x) out after z (fans-next r other e q) s
+
+  -- EDGES
+
+  module _ (rows items stretches faces : List ℕ) (edges loops : ℕ) (L : Lined (edgesIn bytes c) us ts rm (numbersIn c m) ss fans rows items stretches faces edges loops) where
+    -- the tables of edges and loops stand for those before any change
+    drawn : stateIn rows edges items (take (2 * loops) stretches) (take loops faces) 0 0 ≡ unjoined j f
+    unfolding stateIn unjoined fansOf walksOf jobIn
+    drawn = λ i. record {
+      edges = (L .edges-are ∙ (λ k. edgesOf (edgesIn bytes c) us ts rm (S .grouped .numbered k) (S .follows k) (fans-same k))) i;
+      loops = (L .loops-are ∙ (λ k. faceLoops us ts rm (S .grouped .numbered k) (loopsOf (circuits rm (S .follows k))))) i;
+      joins = 0;
+      rings = 0;
+    }
+
+    -- their ends are fans or none
+    drawn-ended : Ended names (rowsTo rows edges)
+    unfolding walksOf jobIn
+    drawn-ended =
+        subst₂ Ended (sym (fanned-names F)) (sym (L .edges-are ∙ (λ k. edgesOf (edgesIn bytes c) us ts rm (S .grouped .numbered k) (S .follows k) (fans-same k))))
+        (first-ended j (walkedIn c m us ts rm (g .kept) kept) (settled-ground bytes ix c us ts m rm ss kept g S))
+
+    drawn-tables : length rows ≡ 14336 → length items ≡ length ss → length stretches ≡ 2 * length ss → length faces ≡ length ss → Tables names rows edges items (take (2 * loops) stretches) (take loops faces)
+    drawn-tables er ei es ef = record {
+      rows-size = er;
+      few = omega (arith, L .few-edges);
+      laid = L .laid;
+      loops = omega (arith, length-take-le loops faces (omega (arith, ef, L .few-loops)), length-take-le (2 * loops) stretches (omega (arith, es, L .few-loops)));
+      items-few = omega (arith, ei, settled-succ S, settled-few S);
+      faces-few = omega (arith, length-take-le loops faces (omega (arith, ef, L .few-loops)), L .few-loops, settled-succ S, settled-few S);
+      ended = drawn-ended;
+    }
+
+    -- the tables as the code cuts them
+    module _ (er : length rows ≡ length (zeros 14336)) (ei : length items ≡ length (take (length ts) (zeros 2048))) (es : length stretches ≡ length (take (2 * length ts) (zeros 4096)))
+        (ef : length faces ≡ length (take (length ts) (zeros 2048))) where
+      twice : 2 * length ts ≤ 4096
+      twice = omega (arith, settled-room S)
+
+      fit : loops ≤ length ts
+      fit = omega (arith, L .few-loops, settled-succ S, settled-twins S)
+
+      as-cut : (P : List ℕ → List ℕ → List ℕ → Type 0) → P items (take (2 * loops) stretches) (take loops faces)
+          → P (take (length ts) (items ++ drop (length ts) (zeros 2048))) (take (2 * loops) (stretches ++ drop (2 * length ts) (zeros 4096))) (take loops (faces ++ drop (length ts) (zeros 2048)))
+      as-cut P p =
+          subst (λ a. P a (take (2 * loops) (stretches ++ drop (2 * length ts) (zeros 4096))) (take loops (faces ++ drop (length ts) (zeros 2048)))) (sym (lent-part 2048 (length ts) items ei (settled-room S)))
+          (subst₂ (P items) (sym (lent-first 4096 (2 * length ts) stretches es twice (2 * loops) (omega (arith, fit)))) (sym (lent-first 2048 (length ts) faces ef (settled-room S) loops fit)) p)
+
+      pub drawn-cut : Tables names rows edges (take (length ts) (items ++ drop (length ts) (zeros 2048))) (take (2 * loops) (stretches ++ drop (2 * length ts) (zeros 4096))) (take loops (faces ++ drop (length ts) (zeros 2048)))
+      drawn-cut =
+          as-cut (Tables names rows edges)
+          (drawn-tables (er ∙ zeros-size 14336) (ei ∙ linable S .items-size) (es ∙ linable S .stretches-size) (ef ∙ linable S .faces-size))
+
+      pub edges-on : (after : List ℕ) (r : Ending)
+          → ((h : Fanned) → Holds c us ts m kept g names starts h
+          → Ends (afterEdges stage j (length out) (record {
+            fan = h;
+            joining = stateIn rows edges (take (length ts) (items ++ drop (length ts) (zeros 2048))) (take (2 * loops) (stretches ++ drop (2 * length ts) (zeros 4096))) (take loops (faces ++ drop (length ts) (zeros 2048))) 0 0;
+          })) out after r)
+          → Ends (afterEdges stage j (length out) x) out after r
+      edges-on after r each =
+          subst (λ s. Ends (afterEdges stage j (length out) (record { fan = f; joining = s })) out after r)
+          (sym (as-cut (λ a b d. stateIn rows edges items (take (2 * loops) stretches) (take loops faces) 0 0 ≡ stateIn rows edges a b d 0 0) refl) ∙ drawn) (each f H)

@@ -1,0 +1,13 @@
+pub mod Parts
+pub mod Halves
+pub mod Lined
+pub mod Ended
+pub mod Sizes
+pub mod Endings
+pub mod LoopExits
+pub mod FanExits
+pub mod Homes
+pub mod JoinExits
+pub mod ShellExits
+pub mod Lumped
+pub mod BodyExits

@@ -1,0 +1,560 @@
+// The second half of sewing, from the walks to the body. Each function makes one stage's tables, ends where that stage was
+// asked for or something is refused, and else hands the tables on: of the walks `uses`, `twins`, `removed`, `succ` and
+// `kept`; of the fans `fans`, `names` and `starts`; the edges as `rows`, the loops as `items`, `stretches` and `faces`; the
+// shells as `table`.
+use body::Totals;
+use body::put_body;
+use contact::Clear;
+use contact::edges_clear;
+use contact::points_clear;
+use edge_uses::link;
+use fans::fan_names;
+use fans::start_points;
+use maximal_edges::Joining;
+use maximal_edges::Joins;
+use maximal_edges::maximal_edges;
+use progress::EDGES;
+use progress::FANS;
+use progress::Faces;
+use progress::Figures;
+use progress::JOINING;
+use progress::LUMPS;
+use progress::SHELLS;
+use result_out::write_fans;
+use result_out::write_joining;
+use result_out::write_lumps;
+use result_out::write_shells;
+use rules::Counts;
+use rules::Ending;
+use shells::Nesting;
+use shells::lump_labels;
+use shells::nest;
+use uses::count;
+ghost use mathlib.Core.Path.{_≡_};
+ghost use Prim.Native.Nat.{_≤_};
+ghost use lib.ListN.{length};
+ghost use Rattle.rules.specs.Contact.{edgesClear};
+ghost use Rattle.rules.specs.Sew.{Fanned, fansOf, unjoined, Ends};
+ghost use Rattle.job.specs.Lists.{edgesIn, jobIn};
+ghost use Rattle.uses.specs.Table.{usesIn};
+ghost use Rattle.contact.specs.Clear.{clearOf, LowLabels};
+ghost use Rattle.shells.specs.Table.{shellsIn, nestedIn, Shelled};
+ghost use Rattle.maximal_edges.specs.Joined.{stateIn};
+ghost use Rattle.progress.specs.Chain.{afterLoops, afterFans, afterEdges, afterJoining, afterShells, afterNesting};
+ghost use Rattle.progress.specs.Known.{boundariesIn, numbersIn, membersIn, walkedIn, Settled};
+ghost use Rattle.rebuild.specs.Sizes.{Fanning, Sizes, Holds, Tables};
+ghost use Rattle.rebuild.specs.Lined.{Linable, Lined};
+ghost use Rattle.rebuild.specs.Homes.{LowHomes};
+ghost use Rattle.rebuild.specs.Lumped.{Lumped, lumpTests};
+ghost use Rattle.rebuild.specs.ShellExits.{Shellable, Shells};
+
+// CONTACT TESTS
+
+// 30 by boundary, 33 by lump: the uses of each edge are chained first.
+fn clear_edges(number: usize, c: Counts, uses: &[u32], twins: &[u32], labels: &[u32]) -> Clear
+    requires { ⌜ (c .edges ≤ 1024) × (length (usesIn (now uses)) ≤ 2048) × LowLabels (now labels) ⌝ }
+    ensures { λ r. ⌜ clearOf r ≡ edgesClear number (usesIn (now (uses .entry))) (now (twins .entry)) (now (labels .entry)) (c .edges) ⌝ }
+{
+    let n = count(uses);
+    let mut firsts = [0u32; 1024];
+    let mut nexts = [0u32; 2048];
+    link(uses, &mut firsts[..c.edges], &mut nexts[..n]);
+    edges_clear(number, uses, twins, &firsts[..c.edges], &nexts[..n], labels)
+}
+
+// THE BODY
+
+// 32, then 33: the selected faces labelled by lump.
+fn lumps_clear(
+    c: Counts,
+    m: Faces,
+    uses: &[u32],
+    twins: &[u32],
+    names: &[u32],
+    starts: &[u32],
+    table: &[u32],
+) -> Clear
+    requires { ⌜ Lumped c (usesIn (now uses)) m (now names) (now table) ⌝ }
+    ensures { λ r. ⌜ clearOf r ≡ lumpTests c m (usesIn (now (uses .entry))) (now (twins .entry)) (now (names .entry)) (now (starts .entry)) (now (table .entry)) ⌝ }
+{
+    let boundaries = m.boundaries;
+    let mut labels = [0u32; 256];
+    lump_labels(&boundaries[..c.faces], table, &mut labels[..c.faces]);
+    let t = points_clear(32, uses, starts, &labels[..c.faces], names);
+    match t {
+        Clear::Refused(number, place) => Clear::Refused(number, place),
+        Clear::Done => clear_edges(33, c, uses, twins, &labels[..c.faces]),
+    }
+}
+
+// The stage `lumps`, the tests by lump, then the body: n shells, and edges after the joins and rings of k.
+fn on_nested(
+    stage: usize,
+    job: &[u8],
+    index: &[u32],
+    c: Counts,
+    m: Faces,
+    uses: &[u32],
+    twins: &[u32],
+    kept: &[u32],
+    g: Figures,
+    names: &[u32],
+    starts: &[u32],
+    rows: &[u32],
+    k: Joins,
+    items: &[u32],
+    stretches: &[u32],
+    faces: &[u32],
+    table: &[u32],
+    n: usize,
+    out: &mut [u8],
+) -> Ending
+    requires { ⌜ Sizes (now job) (now index) c (usesIn (now uses)) m (now names) g × Tables (now names) (now rows) (k .edges) (now items) (now stretches) (now faces) × Shelled (boundariesIn c m) (membersIn m) n (now table) × LowHomes n (now table) ⌝ }
+    ensures { λ r. ⌜ ((f : Fanned) → Holds c (usesIn (now (uses .entry))) (now (twins .entry)) m (now (kept .entry)) g (now (names .entry)) (now (starts .entry)) f → Ends (afterNesting stage (jobIn (now (job .entry)) (now (index .entry)) c) (record { fan = f; joining = stateIn (now (rows .entry)) (k .edges) (now (items .entry)) (now (stretches .entry)) (now (faces .entry)) (k .joins) (k .rings) }) (length (now (out .entry))) (nestedIn (boundariesIn c m) (membersIn m) n (now (table .entry)))) (now (out .entry)) (now (out .exit)) r) ⌝ }
+{
+    let boundaries = m.boundaries;
+    let members = m.members;
+    if stage == LUMPS {
+        return write_lumps(&boundaries[..c.faces], &members[..m.merged], table, n, out);
+    }
+    let t = lumps_clear(c, m, uses, twins, names, starts, table);
+    match t {
+        Clear::Refused(number, place) => {
+            return Ending::Refused(number, place);
+        }
+        Clear::Done => {}
+    }
+    let totals = Totals {
+        uses: count(uses),
+        removed: g.removed,
+        passed: g.passed,
+        joins: k.joins,
+        rings: k.rings,
+    };
+    put_body(
+        totals,
+        job,
+        index,
+        c,
+        starts,
+        &rows[..7 * k.edges],
+        items,
+        stretches,
+        faces,
+        &members[..m.merged],
+        kept,
+        g.kept,
+        &boundaries[..c.faces],
+        table,
+        n,
+        out,
+    )
+}
+
+// SHELLS
+
+// The shells of the boundaries, each with its merged faces.
+fn make_shells(job: &[u8], index: &[u32], c: Counts, m: Faces, table: &mut [u32]) -> Nesting
+    requires { ⌜ Shellable (now job) (now index) c m (now table) ⌝ }
+    ensures { λ r. ⌜ Shells (now (job .entry)) (now (index .entry)) c m (now (table .exit)) r ⌝ }
+{
+    let boundaries = m.boundaries;
+    let members = m.members;
+    shells::shells(
+        job,
+        index,
+        c,
+        &boundaries[..c.faces],
+        &members[..m.merged],
+        table,
+    )
+}
+
+// The stage `shells`, then the nesting of n shells.
+fn on_shelled(
+    stage: usize,
+    job: &[u8],
+    index: &[u32],
+    c: Counts,
+    m: Faces,
+    uses: &[u32],
+    twins: &[u32],
+    kept: &[u32],
+    g: Figures,
+    names: &[u32],
+    starts: &[u32],
+    rows: &[u32],
+    k: Joins,
+    items: &[u32],
+    stretches: &[u32],
+    faces: &[u32],
+    table: &mut [u32],
+    n: usize,
+    out: &mut [u8],
+) -> Ending
+    requires { ⌜ Sizes (now job) (now index) c (usesIn (now uses)) m (now names) g × Tables (now names) (now rows) (k .edges) (now items) (now stretches) (now faces) × Shelled (boundariesIn c m) (membersIn m) n (now table) ⌝ }
+    ensures { λ r. ⌜ ((f : Fanned) → Holds c (usesIn (now (uses .entry))) (now (twins .entry)) m (now (kept .entry)) g (now (names .entry)) (now (starts .entry)) f → Ends (afterShells stage (jobIn (now (job .entry)) (now (index .entry)) c) (record { fan = f; joining = stateIn (now (rows .entry)) (k .edges) (now (items .entry)) (now (stretches .entry)) (now (faces .entry)) (k .joins) (k .rings) }) (length (now (out .entry))) (shellsIn (boundariesIn c m) (membersIn m) n (now (table .entry)))) (now (out .entry)) (now (out .exit)) r) ⌝ }
+{
+    if stage == SHELLS {
+        let boundaries = m.boundaries;
+        let members = m.members;
+        return write_shells(&boundaries[..c.faces], &members[..m.merged], table, n, out);
+    }
+    let r = nest(job, index, c, table, n);
+    match r {
+        Nesting::Refused(number, place) => Ending::Refused(number, place),
+        Nesting::Done(all) => on_nested(
+            stage,
+            job,
+            index,
+            c,
+            m,
+            uses,
+            twins,
+            kept,
+            g,
+            names,
+            starts,
+            rows,
+            k,
+            items,
+            stretches,
+            faces,
+            table,
+            all,
+            out,
+        ),
+    }
+}
+
+// The stage `joining`, after the joins and rings of k, then the shells.
+fn on_joined(
+    stage: usize,
+    job: &[u8],
+    index: &[u32],
+    c: Counts,
+    m: Faces,
+    uses: &[u32],
+    twins: &[u32],
+    kept: &[u32],
+    g: Figures,
+    names: &[u32],
+    starts: &[u32],
+    rows: &[u32],
+    k: Joins,
+    items: &[u32],
+    stretches: &[u32],
+    faces: &[u32],
+    out: &mut [u8],
+) -> Ending
+    requires { ⌜ Sizes (now job) (now index) c (usesIn (now uses)) m (now names) g × Tables (now names) (now rows) (k .edges) (now items) (now stretches) (now faces) ⌝ }
+    ensures { λ r. ⌜ ((f : Fanned) → Holds c (usesIn (now (uses .entry))) (now (twins .entry)) m (now (kept .entry)) g (now (names .entry)) (now (starts .entry)) f → Ends (afterJoining stage (jobIn (now (job .entry)) (now (index .entry)) c) (length (now (out .entry))) (record { fan = f; joining = stateIn (now (rows .entry)) (k .edges) (now (items .entry)) (now (stretches .entry)) (now (faces .entry)) (k .joins) (k .rings) })) (now (out .entry)) (now (out .exit)) r) ⌝ }
+{
+    if stage == JOINING {
+        return write_joining(
+            k.joins,
+            k.rings,
+            rows,
+            k.edges,
+            items,
+            stretches,
+            faces,
+            out,
+        );
+    }
+    let mut table = [0u32; 1024];
+    let r = make_shells(job, index, c, m, &mut table);
+    match r {
+        Nesting::Refused(number, place) => Ending::Refused(number, place),
+        Nesting::Done(n) => on_shelled(
+            stage,
+            job,
+            index,
+            c,
+            m,
+            uses,
+            twins,
+            kept,
+            g,
+            names,
+            starts,
+            rows,
+            k,
+            items,
+            stretches,
+            faces,
+            &mut table,
+            n,
+            out,
+        ),
+    }
+}
+
+// JOINING
+
+// The stage `edges`, of `count` edges, then joining.
+fn on_edged(
+    stage: usize,
+    job: &[u8],
+    index: &[u32],
+    c: Counts,
+    m: Faces,
+    uses: &[u32],
+    twins: &[u32],
+    kept: &[u32],
+    g: Figures,
+    names: &[u32],
+    starts: &[u32],
+    rows: &mut [u32],
+    count: usize,
+    items: &mut [u32],
+    stretches: &mut [u32],
+    faces: &[u32],
+    out: &mut [u8],
+) -> Ending
+    requires { ⌜ Sizes (now job) (now index) c (usesIn (now uses)) m (now names) g × Tables (now names) (now rows) count (now items) (now stretches) (now faces) × (count ≤ 1024) ⌝ }
+    ensures { λ r. ⌜ ((f : Fanned) → Holds c (usesIn (now (uses .entry))) (now (twins .entry)) m (now (kept .entry)) g (now (names .entry)) (now (starts .entry)) f → Ends (afterEdges stage (jobIn (now (job .entry)) (now (index .entry)) c) (length (now (out .entry))) (record { fan = f; joining = stateIn (now (rows .entry)) count (now (items .entry)) (now (stretches .entry)) (now (faces .entry)) 0 0 })) (now (out .entry)) (now (out .exit)) r) ⌝ }
+{
+    if stage == EDGES {
+        return write_joining(0, 0, rows, count, items, stretches, faces, out);
+    }
+    let r = maximal_edges(job, index, c, starts, names, rows, count, items, stretches);
+    match r {
+        Joining::Refused(number, place) => Ending::Refused(number, place),
+        Joining::Done(k) => on_joined(
+            stage,
+            job,
+            index,
+            c,
+            m,
+            uses,
+            twins,
+            kept,
+            g,
+            names,
+            starts,
+            rows,
+            k,
+            items,
+            stretches,
+            faces,
+            out,
+        ),
+    }
+}
+
+// EDGES AND LOOPS
+
+// How many edges and loops there are.
+struct Lengths {
+    edges: usize,
+    loops: usize,
+}
+
+// The loops of the walks as items of edges: the edges, the items of all loops, the stretch and the merged face of each loop.
+fn make_edges(
+    job: &[u8],
+    c: Counts,
+    m: Faces,
+    uses: &[u32],
+    twins: &[u32],
+    removed: &[bool],
+    succ: &[u32],
+    fans: &[u32],
+    rows: &mut [u32],
+    items: &mut [u32],
+    stretches: &mut [u32],
+    faces: &mut [u32],
+) -> Lengths
+    requires { ⌜ (c .vertices ≤ 1024) × (c .edges ≤ 1024) × (c .faces ≤ length (m .numbers)) × Linable (now twins) (now removed) (now succ) (now rows) (now items) (now stretches) (now faces) ⌝ }
+    ensures { λ r. ⌜ Lined (edgesIn (now (job .entry)) c) (usesIn (now (uses .entry))) (now (twins .entry)) (now (removed .entry)) (numbersIn c m) (now (succ .entry)) (now (fans .entry)) (now (rows .exit)) (now (items .exit)) (now (stretches .exit)) (now (faces .exit)) (r .edges) (r .loops) ⌝ }
+{
+    let n = twins.len();
+    let numbers = m.numbers;
+    let mut owns = [0u32; 2048];
+    let loops = walk::loops(removed, succ, items, stretches);
+    edges::loop_faces(
+        uses,
+        &numbers[..c.faces],
+        items,
+        stretches,
+        &mut faces[..loops],
+    );
+    let edges = edges::edges(
+        job,
+        c,
+        uses,
+        twins,
+        removed,
+        &numbers[..c.faces],
+        succ,
+        fans,
+        rows,
+        &mut owns[..n],
+    );
+    edges::items(uses, &owns[..n], items);
+    Lengths { edges, loops }
+}
+
+// The fans do not touch: their edges and loops, then the stage `edges`.
+fn on_apart(
+    stage: usize,
+    job: &[u8],
+    index: &[u32],
+    c: Counts,
+    m: Faces,
+    uses: &[u32],
+    twins: &[u32],
+    removed: &[bool],
+    succ: &[u32],
+    kept: &[u32],
+    g: Figures,
+    fans: &[u32],
+    names: &[u32],
+    starts: &[u32],
+    out: &mut [u8],
+) -> Ending
+    requires { ⌜ Fanning (now job) (now index) c (usesIn (now uses)) (now twins) m (now removed) (now succ) (now kept) g (now fans) (now names) (now starts) ⌝ }
+    ensures { λ r. ⌜ Ends (afterEdges stage (jobIn (now (job .entry)) (now (index .entry)) c) (length (now (out .entry))) (record { fan = fansOf (jobIn (now (job .entry)) (now (index .entry)) c) (walkedIn c m (usesIn (now (uses .entry))) (now (twins .entry)) (now (removed .entry)) (g .kept) (now (kept .entry))); joining = unjoined (jobIn (now (job .entry)) (now (index .entry)) c) (fansOf (jobIn (now (job .entry)) (now (index .entry)) c) (walkedIn c m (usesIn (now (uses .entry))) (now (twins .entry)) (now (removed .entry)) (g .kept) (now (kept .entry)))) })) (now (out .entry)) (now (out .exit)) r ⌝ }
+{
+    let n = twins.len();
+    let mut rows = [0u32; 14336];
+    let mut items = [0u32; 2048];
+    let mut stretches = [0u32; 4096];
+    let mut faces = [0u32; 2048];
+    let k = make_edges(
+        job,
+        c,
+        m,
+        uses,
+        twins,
+        removed,
+        succ,
+        fans,
+        &mut rows,
+        &mut items[..n],
+        &mut stretches[..2 * n],
+        &mut faces[..n],
+    );
+    on_edged(
+        stage,
+        job,
+        index,
+        c,
+        m,
+        uses,
+        twins,
+        kept,
+        g,
+        names,
+        starts,
+        &mut rows,
+        k.edges,
+        &mut items[..n],
+        &mut stretches[..2 * k.loops],
+        &faces[..k.loops],
+        out,
+    )
+}
+
+// FANS
+
+// The stage `fans`, then 31.
+fn on_fanned(
+    stage: usize,
+    job: &[u8],
+    index: &[u32],
+    c: Counts,
+    m: Faces,
+    uses: &[u32],
+    twins: &[u32],
+    removed: &[bool],
+    succ: &[u32],
+    kept: &[u32],
+    g: Figures,
+    fans: &[u32],
+    names: &[u32],
+    starts: &[u32],
+    out: &mut [u8],
+) -> Ending
+    requires { ⌜ Fanning (now job) (now index) c (usesIn (now uses)) (now twins) m (now removed) (now succ) (now kept) g (now fans) (now names) (now starts) ⌝ }
+    ensures { λ r. ⌜ Ends (afterFans stage (jobIn (now (job .entry)) (now (index .entry)) c) (length (now (out .entry))) (fansOf (jobIn (now (job .entry)) (now (index .entry)) c) (walkedIn c m (usesIn (now (uses .entry))) (now (twins .entry)) (now (removed .entry)) (g .kept) (now (kept .entry))))) (now (out .entry)) (now (out .exit)) r ⌝ }
+{
+    if stage == FANS {
+        return write_fans(job, c, uses, removed, fans, starts, out);
+    }
+    let boundaries = m.boundaries;
+    let t = points_clear(31, uses, starts, &boundaries[..c.faces], names);
+    match t {
+        Clear::Refused(number, place) => Ending::Refused(number, place),
+        Clear::Done => on_apart(
+            stage,
+            job,
+            index,
+            c,
+            m,
+            uses,
+            twins,
+            removed,
+            succ,
+            kept,
+            g,
+            fans,
+            names,
+            starts,
+            out,
+        ),
+    }
+}
+
+// The stages from 30 on: the fans, and what follows them.
+pub fn rebuild(
+    stage: usize,
+    job: &[u8],
+    index: &[u32],
+    c: Counts,
+    m: Faces,
+    uses: &[u32],
+    twins: &[u32],
+    removed: &[bool],
+    succ: &[u32],
+    kept: &[u32],
+    g: Figures,
+    out: &mut [u8],
+) -> Ending
+    requires { ⌜ Settled (now job) (now index) c (usesIn (now uses)) (now twins) m (now removed) (now succ) (now kept) g ⌝ }
+    ensures { λ r. ⌜ Ends (afterLoops stage (jobIn (now (job .entry)) (now (index .entry)) c) (length (now (out .entry))) (walkedIn c m (usesIn (now (uses .entry))) (now (twins .entry)) (now (removed .entry)) (g .kept) (now (kept .entry)))) (now (out .entry)) (now (out .exit)) r ⌝ }
+{
+    let boundaries = m.boundaries;
+    let t = clear_edges(30, c, uses, twins, &boundaries[..c.faces]);
+    match t {
+        Clear::Refused(number, place) => {
+            return Ending::Refused(number, place);
+        }
+        Clear::Done => {}
+    }
+    let n = twins.len();
+    let mut fans = [0u32; 2048];
+    let mut names = [0u32; 2048];
+    let mut starts = [0u32; 2048];
+    fans::fans(job, c, uses, twins, removed, succ, &mut fans[..n]);
+    let k = fan_names(job, c, uses, removed, &fans[..n], &mut names[..n]);
+    start_points(job, c, uses, &mut starts[..n]);
+    on_fanned(
+        stage,
+        job,
+        index,
+        c,
+        m,
+        uses,
+        twins,
+        removed,
+        succ,
+        kept,
+        g,
+        &fans[..n],
+        &names[..k],
+        &starts[..n],
+        out,
+    )
+}
