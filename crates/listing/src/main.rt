@@ -1,0 +1,24 @@
+// Reads a job from standard input, sews it, and prints a line for each record of the body, or the refusal.
+use programs::Input;
+
+// One byte more than a job may have: a longer job is refused by its length.
+const JOB: usize = 65537;
+
+// A body of 65,536 bytes has at most three characters a byte.
+const PAGE: usize = 196608;
+
+fn main() {
+    let mut job = [0u8; JOB];
+    let input = programs::read_to_end(libc::STDIN_FILENO, &mut job);
+    let Input::Bytes(n) = input else {
+        os::fail(b"standard input");
+        return;
+    };
+    let mut out = io::large_buffer();
+    let ending = sewing::sew(lines::front(&job, n), &mut out);
+    let mut page = [0u8; PAGE];
+    let length = lines::put_listing(&mut page, &out, ending);
+    if !io::write_all(libc::STDOUT_FILENO, lines::front(&page, length)) {
+        os::fail(b"standard output");
+    }
+}
