@@ -10,7 +10,7 @@ use job::CHAIN;
 use rules::Counts;
 use rules::Kind;
 ghost use mathlib.Core.Path.{_≡_};
-ghost use Prim.Native.Nat.{ℕ, _+_, _<_};
+ghost use Prim.Native.Nat.{_+_, _<_};
 ghost use Rattle.rules.specs.Fields.{le16};
 ghost use Rattle.rules.specs.Kinds.{kindOf};
 ghost use Rattle.rules.specs.Load.{answeredBefore};

@@ -6,7 +6,7 @@ use rules::Counts;
 ghost use mathlib.Core.Path.{_≡_};
 ghost use mathlib.Core.List.{[], _∷_};
 ghost use mathlib.Core.Logic.{_≢_};
-ghost use Prim.Native.Nat.{ℕ, _<_};
+ghost use Prim.Native.Nat.{_<_};
 ghost use Rattle.rules.specs.Questions.{isUndecided, find as findAnswer, ask as asks, askYes, askSame, askRadial};
 ghost use Rattle.job.specs.Lists.{answersIn};
 ghost use Rattle.answers.specs.Question.{keyOf, Shaped};

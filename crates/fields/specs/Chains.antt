@@ -1,9 +1,9 @@
 -- Chains in tables: an entry is a number plus one, `next` gives the entry after a number, and 0 ends a chain.
 -- Entries fall along a chain, so that the entry itself bounds the chain's length and falls in a loop over it.
-use Prim.Native.Nat.{ℕ, zero, suc, _+_, _-_, _<_, _≤_}
+use Prim.Native.Nat.{ℕ, zero, suc, _-_, _<_, _≤_}
 use native.Mathlib.Nat.{not-suc-le-zero}
 use native.Mathlib.Omega.{arith}
-use mathlib.Core.Path.{_≡_, refl, sym, ap, _∙_}
+use mathlib.Core.Path.{_≡_, refl, ap, _∙_}
 use mathlib.Core.Logic.{⊎-elim}
 use mathlib.Core.List.{List, [], _∷_, List·Memᴰ·not-nil, List·Memᴰ·cases-cons}
 use Rattle.lists.specs.Lists.{_∈_}

@@ -1,11 +1,11 @@
 -- The numbers of a table as fields, one more at a time.
-use Prim.Native.Nat.{ℕ, suc, _+_, _*_, _<_, _≤_}
+use Prim.Native.Nat.{ℕ, _+_, _*_, _<_, _≤_}
 use native.Mathlib.Numerals.{add-one}
 use native.Mathlib.Omega.{arith}
 use mathlib.Core.Path.{_≡_, refl, sym, ap, subst, _∙_}
 use mathlib.Core.List.{List, [], _∷_, _++_, flatMap}
 use lib.ListN.{length, getD, take}
-use lib.Seq.{take-suc, take-length}
+use lib.Seq.{take-suc}
 use Rattle.lists.specs.Members.{flatMap-append}
 use Rattle.rules.specs.Fields.{bytes32, fieldBytes}
 use Rattle.fields.specs.Wrote.{Wrote, wrote-none, wrote-more}

@@ -1,9 +1,9 @@
 // Fields of bytes, and tables of 32-bit numbers, by place. A place past the end reads as 0 and takes no store, as in
 // the definitions, so that no caller has to show that a place exists.
 ghost use mathlib.Core.Path.{_≡_};
-ghost use Prim.Native.Nat.{ℕ, _+_, _*_, _<_, _≤_, _^_};
-ghost use mathlib.Core.List.{List, [], _∷_, _++_};
-ghost use mathlib.Core.Bool.{Bool, false};
+ghost use Prim.Native.Nat.{_+_, _*_, _<_, _^_};
+ghost use mathlib.Core.List.{_++_};
+ghost use mathlib.Core.Bool.{false};
 ghost use lib.ListN.{length, getD, set};
 ghost use Rattle.rules.specs.Fields.{le16, le32, bytes16, bytes32, fieldBytes};
 ghost use Rattle.fields.specs.Wrote.{Wrote};

@@ -1,14 +1,12 @@
 -- The entries of the job's lists, within and past their ends.
 use Prim.Native.Nat.{ℕ, zero, suc, _+_, _*_, _<_, _≤_}
 use native.Mathlib.Omega.{arith}
-use mathlib.Core.Path.{_≡_, refl, sym, ap, _∙_}
-use mathlib.Core.List.{List, [], _∷_, map}
-use mathlib.Core.Bool.{Bool, true, false}
-use lib.ListN.{length, getD, List·getD-eq-default}
+use mathlib.Core.Path.{_≡_, refl}
+use mathlib.Core.List.{List, map}
+use lib.ListN.{getD, List·getD-eq-default}
 use Rattle.lists.specs.Lists.{below}
 use Rattle.lists.specs.Runs.{length-table, getD-table}
 use Rattle.rules.specs.declared.Counts.{Counts}
-use Rattle.rules.specs.declared.Kind.{Kind}
 use Rattle.rules.specs.declared.Kind.the-variants.{Unknown}
 use Rattle.rules.specs.Fields.{le32}
 use Rattle.rules.specs.Job.{noEdge, edgeAt, noFace, faceAt}

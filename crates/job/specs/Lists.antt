@@ -1,7 +1,7 @@
 -- The job's lists as its bytes, the index and the counts have them.
 use Prim.Native.Nat.{ℕ, _+_, _*_, _/_}
-use mathlib.Core.List.{List, [], _∷_, map}
-use mathlib.Core.Bool.{Bool, true, false, cond}
+use mathlib.Core.List.{List, map}
+use mathlib.Core.Bool.{cond}
 use lib.ListN.{getD, drop}
 use lib.Dec.{eqb}
 use Rattle.lists.specs.Lists.{below}

@@ -8,7 +8,7 @@ use rules::Counts;
 use rules::Kind;
 use rules::Sense;
 ghost use mathlib.Core.Path.{_≡_};
-ghost use Prim.Native.Nat.{ℕ, _+_, _*_, _<_, _≤_};
+ghost use Prim.Native.Nat.{_+_, _*_, _<_, _≤_};
 ghost use lib.ListN.{getD};
 ghost use Rattle.rules.specs.Sense.{senseOf, senseNumber, sameSense, reverse as reversed, product as productOf};
 ghost use Rattle.rules.specs.Job.{edgeAt, faceAt, startBy, endBy};

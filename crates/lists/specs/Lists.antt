@@ -1,6 +1,6 @@
 -- Lists as the rules use them: runs of numbers, membership, choice of members, positions, sums, neighbours in a cycle, iterates.
 use Prim.Native.Nat.{ℕ, zero, suc, _+_}
-use mathlib.Core.List.{List, [], _∷_, _++_, List·Memᴰ}
+use mathlib.Core.List.{List, [], _∷_, List·Memᴰ}
 use mathlib.Core.Bool.{Bool, true, false, _&&_, _||_, cond}
 use lib.Dec.{eqb, ltb}
 

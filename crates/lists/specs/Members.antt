@@ -1,7 +1,7 @@
 -- Laws of tests over lists, of the members that pass a test, of positions, and of lists put together.
 use mathlib.Core.Path.{_≡_, refl, sym, ap, ap₂, _∙_, subst}
-use mathlib.Core.Logic.{_⊎_, inl, inr, ⊎-elim}
-use mathlib.Core.Bool.{Bool, true, false, _&&_, _||_, not, cond, false≢true, true≢false}
+use mathlib.Core.Logic.{_⊎_, ⊎-elim}
+use mathlib.Core.Bool.{Bool, true, false, not, cond, false≢true, true≢false}
 use mathlib.Core.List.{List, [], _∷_, _++_, map, flatMap, foldl, List·Memᴰ·head, List·Memᴰ·tail, List·Memᴰ·not-nil, List·Memᴰ·cases-cons, List·Memᴰ·append-cases, Memᴰ·cast, Memᴰ·append-left, Memᴰ·append-right}
 use Prim.Native.Nat.{ℕ, zero, suc, _+_, _-_, _≤_, _<_, zero-le}
 use native.Mathlib.Omega.{arith}
@@ -9,8 +9,8 @@ use lib.Dec.{eqb}
 use lib.ListN.{length, getD, length-append}
 use borrow.Author.Tests.{eqb-true, eqb-false, eq-eqb, ne-eqb}
 use Rattle.lists.specs.Lists.{_∈_, Nodup, has, all, some, keep, positions, position, indexOf, sumOf}
-use Rattle.lists.specs.Tests.{both-ways, or-cases, or-second, and-both, both-and, equal-or-not, cond-true, cond-false}
-use Rattle.lists.specs.Membership.{pigeon, nodup-append, has-in}
+use Rattle.lists.specs.Tests.{or-cases, or-second, and-both, both-and, equal-or-not}
+use Rattle.lists.specs.Membership.{pigeon, nodup-append}
 
 -- ALL AND SOME
 

@@ -1,8 +1,8 @@
 -- Laws of membership, lists without duplicates, and pigeonholes.
-use mathlib.Core.Path.{_≡_, refl, sym, ap, _∙_, subst}
+use mathlib.Core.Path.{_≡_, refl, sym, ap, _∙_}
 use mathlib.Core.Logic.{_⊎_, inl, inr, ⊎-elim}
-use mathlib.Core.Bool.{Bool, true, false, _||_, cond, false≢true, true≢false}
-use mathlib.Core.List.{List, [], _∷_, _++_, List·Memᴰ·head, List·Memᴰ·tail, List·Memᴰ·not-nil, List·Memᴰ·cases-cons, List·Memᴰ·append-cases, Memᴰ·cast, Memᴰ·append-left, Memᴰ·append-right}
+use mathlib.Core.Bool.{true, false, false≢true, true≢false}
+use mathlib.Core.List.{List, [], _∷_, _++_, List·Memᴰ·head, List·Memᴰ·tail, List·Memᴰ·not-nil, List·Memᴰ·cases-cons, List·Memᴰ·append-cases, Memᴰ·cast}
 use Prim.Native.Nat.{ℕ, zero, suc, _+_, _≤_, _<_, zero-le}
 use native.Mathlib.Nat.{le-antisymm}
 use native.Mathlib.Omega.{arith}

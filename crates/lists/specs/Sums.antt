@@ -1,6 +1,5 @@
 -- Laws of sums over lists.
-use mathlib.Core.Path.{_≡_, refl, sym, ap, ap₂, _∙_}
-use mathlib.Core.Logic.{_⊎_, inl, inr, ⊎-elim}
+use mathlib.Core.Path.{_≡_, refl, ap, ap₂, _∙_}
 use mathlib.Core.Bool.{Bool, true, false, cond}
 use mathlib.Core.List.{List, [], _∷_, _++_, map, flatMap, List·Memᴰ·head, List·Memᴰ·tail}
 use Prim.Native.Nat.{ℕ, zero, suc, _+_, _≤_, _<_, zero-le}

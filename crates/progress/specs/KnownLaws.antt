@@ -1,7 +1,7 @@
 -- What follows from what is known: sizes within the limits, labels that are lowest members, and the walks of the definitions.
 use Prim.Native.Nat.{ℕ, _<_, _≤_}
 use native.Mathlib.Omega.{arith}
-use mathlib.Core.Path.{_≡_, refl, sym, ap, subst, _∙_}
+use mathlib.Core.Path.{_≡_, sym, ap, subst, _∙_}
 use mathlib.Core.List.{List}
 use mathlib.Core.Bool.{Bool}
 use lib.ListN.{length}
@@ -9,22 +9,20 @@ use Rattle.rules.specs.declared.Counts.{Counts}
 use Rattle.rules.specs.declared.Use.{Use}
 use Rattle.rules.specs.Outcome.{ok}
 use Rattle.rules.specs.OutcomeLaws.{bind-on}
-use Rattle.rules.specs.Job.{Job}
-use Rattle.rules.specs.Load.{loading, loaded}
-use Rattle.rules.specs.Read.{usesOf, faceOfUse}
+use Rattle.rules.specs.Load.{loaded}
+use Rattle.rules.specs.Read.{faceOfUse}
 use Rattle.rules.specs.GroupLaws.{Lowest}
 use Rattle.rules.specs.Rules.{fullTable, ordinary}
-use Rattle.rules.specs.Pair.{pair, twinOf}
+use Rattle.rules.specs.Pair.{pair}
 use Rattle.rules.specs.Merge.{boundaries, mergeFaces, removedUses, mergedGroups}
 use Rattle.rules.specs.VertexLoops.{vertexLoops}
-use Rattle.rules.specs.Walk.{successors}
-use Rattle.rules.specs.Sew.{Walked, walksOf, walked}
+use Rattle.rules.specs.Sew.{walksOf, walked}
 use Rattle.theorems.specs.Sound.{Counted, Limited, Sound}
 use Rattle.theorems.specs.Linked.{Twins, Linked}
 use Rattle.theorems.specs.Loading.{loading-counted, loaded-sound}
 use Rattle.theorems.specs.Reading.{use-face-below}
 use Rattle.theorems.specs.Pairing.{pairs-fully}
-use Rattle.theorems.specs.Connected.{boundaries-length, boundaries-lowest}
+use Rattle.theorems.specs.Connected.{boundaries-lowest}
 use Rattle.theorems.specs.Merging.{merged-length, merged-lowest, length-removedUses}
 use Rattle.theorems.specs.Circuits.{Permuted, linked-permuted}
 use Rattle.theorems.specs.Demand3.{Settled as SettledRules}
@@ -33,7 +31,7 @@ use Rattle.job.specs.Lists.{pointsIn, edgesIn, facesIn, loopsIn, answersIn, job
 use Rattle.vertex_loops.specs.Kept.{keptIn}
 use Rattle.progress.specs.declared.Faces.{Faces}
 use Rattle.progress.specs.declared.Figures.{Figures}
-use Rattle.progress.specs.Known.{Opened, Paired, boundariesIn, groupsIn, numbersIn, membersIn, Grouped, mergedIn, walkedIn, Settled}
+use Rattle.progress.specs.Known.{Opened, Paired, boundariesIn, groupsIn, Grouped, mergedIn, walkedIn, Settled}
 
 -- LOADED
 

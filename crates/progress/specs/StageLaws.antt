@@ -6,8 +6,7 @@ use mathlib.Core.Bool.{Bool, true, false, cond}
 use lib.ListN.{length}
 use lib.Dec.{eqb}
 use Rattle.lists.specs.Lists.{below, keep}
-use Rattle.lists.specs.Tests.{cond-false}
-use Rattle.rules.specs.Outcome.{Outcome, ok, refuse, _>>=_}
+use Rattle.rules.specs.Outcome.{Outcome, ok, _>>=_}
 use Rattle.rules.specs.OutcomeLaws.{bind-then, bind-same}
 use Rattle.rules.specs.Frame.{framedAll}
 use Rattle.rules.specs.Job.{Job}
@@ -19,9 +18,9 @@ use Rattle.rules.specs.Merge.{Merged, mergeFaces, mergedFaces}
 use Rattle.rules.specs.VertexLoops.{vertexLoops}
 use Rattle.rules.specs.Contact.{edgesClear, pointsClear}
 use Rattle.rules.specs.Fans.{keptWithEnds}
-use Rattle.rules.specs.Join.{Joining, maximalEdges}
+use Rattle.rules.specs.Join.{maximalEdges}
 use Rattle.rules.specs.Walk.{loopsOf}
-use Rattle.rules.specs.Shells.{Shell, Nested, nested, lumps}
+use Rattle.rules.specs.Shells.{Nested, nested, lumps}
 use Rattle.rules.specs.Body.{Body, emptyBody, bodyRecords}
 use Rattle.rules.specs.Sew.{Walked, walksOf, walked, Fanned, fansOf, fanned, Joined, unjoined, edged, throughJoining, shellsOf, lumpsClear, bodyOf, solid, rebuild, fitting, sewn}
 use Rattle.rules.specs.Stage.{readStage, pairStage, mergeStage, vertexLoopStage, walkStage, loopStage, fanStage, edgeStage, joiningStage, shellStage, lumpStage, groupFields, keptFields, keptUses, walkFields, loopFields, fanFields, joiningFields, shellFields, lumpFields, stageBytes}

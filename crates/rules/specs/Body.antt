@@ -2,9 +2,8 @@
 use Prim.Native.Nat.{ℕ, suc}
 use mathlib.Core.List.{List, [], _∷_, _++_, map, flatMap, foldl}
 use mathlib.Core.Bool.{Bool, true, false, _||_, cond}
-use lib.ListN.{length, getD}
 use lib.Dec.{eqb}
-use Rattle.lists.specs.Lists.{has, keep, indexOf, sumOf}
+use Rattle.lists.specs.Lists.{has, keep, indexOf}
 use Rattle.rules.specs.declared.Sense.{Sense}
 use Rattle.rules.specs.declared.Edge.{Edge}
 use Rattle.rules.specs.declared.Face.{Face}

@@ -1,8 +1,8 @@
 -- Contact tests, for any labelling of the selected faces: by boundary for 30 and 31, by lump for 33 and 32.
 use Prim.Native.Nat.{ℕ}
 use mathlib.Core.List.{List, [], _∷_, map}
-use mathlib.Core.Bool.{Bool, true, false, _&&_, cond}
-use lib.ListN.{length, getD}
+use mathlib.Core.Bool.{Bool, _&&_, cond}
+use lib.ListN.{length}
 use lib.Dec.{eqb, ltb}
 use Rattle.lists.specs.Lists.{below, keep, some, repeats, least}
 use Rattle.rules.specs.declared.Use.{Use}

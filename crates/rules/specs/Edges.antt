@@ -1,7 +1,7 @@
 -- Edges of the result, one per kept pair, and the loops as items of them.
 use Prim.Native.Nat.{ℕ, min, max}
 use mathlib.Core.List.{List, [], _∷_, map}
-use mathlib.Core.Bool.{Bool, true, false, _&&_, not, cond}
+use mathlib.Core.Bool.{Bool, true, _&&_, not, cond}
 use lib.ListN.{length, getD}
 use lib.Dec.{ltb}
 use Rattle.lists.specs.Lists.{below, keep, indexOf}

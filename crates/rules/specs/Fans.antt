@@ -1,14 +1,14 @@
 -- Fans: the kept uses with ends round each corner.
 use Prim.Native.Nat.{ℕ}
-use mathlib.Core.List.{List, [], _∷_, map, foldl}
-use mathlib.Core.Bool.{Bool, true, false, _&&_, not, cond}
+use mathlib.Core.List.{List, map, foldl}
+use mathlib.Core.Bool.{Bool, _&&_, not, cond}
 use lib.ListN.{length, getD}
 use Rattle.lists.specs.Lists.{below, keep}
 use Rattle.rules.specs.declared.Edge.{Edge}
 use Rattle.rules.specs.declared.Use.{Use}
 use Rattle.rules.specs.Job.{ring}
 use Rattle.rules.specs.Read.{useAt, edgeOfUse, useStart}
-use Rattle.rules.specs.Groups.{alone, labelOf, joined, isLowest}
+use Rattle.rules.specs.Groups.{alone, joined, isLowest}
 use Rattle.rules.specs.Pair.{twinOf}
 use Rattle.rules.specs.Merge.{isRemoved}
 use Rattle.rules.specs.Walk.{successor}

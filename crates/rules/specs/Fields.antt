@@ -1,6 +1,6 @@
 -- Fields: unsigned little-endian numbers of two and of four bytes. A byte past the end counts as 0.
 use Prim.Native.Nat.{ℕ, zero, suc, _+_, _*_, _/_, _%_}
-use mathlib.Core.List.{List, [], _∷_, _++_, flatMap}
+use mathlib.Core.List.{List, [], _∷_, flatMap}
 use lib.ListN.{getD, drop}
 
 -- Job records: the two-byte field at a position

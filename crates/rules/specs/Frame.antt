@@ -1,7 +1,7 @@
 -- Framing: each record is a 4-byte payload length, a 2-byte kind, then the payload in 4-byte fields.
 use Prim.Native.Nat.{ℕ, zero, suc, _+_, _*_, _/_}
 use mathlib.Core.List.{List, [], _∷_, _++_, flatMap}
-use mathlib.Core.Bool.{Bool, true, false, _&&_, cond}
+use mathlib.Core.Bool.{Bool, _&&_, cond}
 use lib.ListN.{length, drop}
 use lib.Dec.{leb}
 use Rattle.rules.specs.Fields.{le16, le32, fieldsIn, bytes16, bytes32, fieldBytes}

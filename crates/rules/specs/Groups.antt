@@ -1,7 +1,7 @@
 -- Groups of the numbers below n as a list of labels: a number's label is the lowest member of its group.
 use Prim.Native.Nat.{ℕ, min, max}
-use mathlib.Core.List.{List, [], _∷_, map}
-use mathlib.Core.Bool.{Bool, true, false, cond}
+use mathlib.Core.List.{List, map}
+use mathlib.Core.Bool.{Bool, cond}
 use lib.ListN.{length, getD}
 use lib.Dec.{eqb}
 use Rattle.lists.specs.Lists.{below, keep, indexOf}

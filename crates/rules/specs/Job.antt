@@ -1,7 +1,7 @@
 -- The loaded job.
 use Prim.Native.Nat.{ℕ}
 use mathlib.Core.List.{List, [], _∷_}
-use mathlib.Core.Bool.{Bool, true, false, cond}
+use mathlib.Core.Bool.{Bool}
 use lib.ListN.{getD}
 use lib.Dec.{eqb}
 use Rattle.rules.specs.declared.Sense.{Sense}

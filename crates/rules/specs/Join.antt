@@ -10,7 +10,7 @@ use Rattle.rules.specs.declared.Sense.{Sense}
 use Rattle.rules.specs.declared.Sense.the-variants.{Same, Reversed}
 use Rattle.rules.specs.declared.Item.{Item}
 use Rattle.rules.specs.declared.EdgeData.{EdgeData}
-use Rattle.rules.specs.Outcome.{Outcome, ok, refuse, _>>=_}
+use Rattle.rules.specs.Outcome.{Outcome, ok, _>>=_}
 use Rattle.rules.specs.Sense.{reverse}
 use Rattle.rules.specs.Job.{unset, Answer}
 use Rattle.rules.specs.Questions.{askYes, askSame}

@@ -1,7 +1,7 @@
 -- The listing: a line per record, or the refusal, as text in ASCII.
 use Prim.Native.Nat.{ℕ, zero, suc, _+_, _-_, _/_, _%_}
-use mathlib.Core.List.{List, [], _∷_, _++_, map, flatMap}
-use mathlib.Core.Bool.{Bool, true, false, cond}
+use mathlib.Core.List.{List, [], _∷_, _++_, flatMap}
+use mathlib.Core.Bool.{cond}
 use lib.ListN.{getD, drop, take}
 use lib.Dec.{eqb, ltb}
 use Rattle.rules.specs.Outcome.{Outcome, ok, refuse, _>>=_}

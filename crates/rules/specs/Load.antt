@@ -14,7 +14,7 @@ use Rattle.rules.specs.Outcome.{Outcome, ok, refuse, _>>=_, need, throug
 use Rattle.rules.specs.Sense.{senseOf}
 use Rattle.rules.specs.Fields.{field}
 use Rattle.rules.specs.Frame.{Frame, frames}
-use Rattle.rules.specs.Job.{Content, ofItems, atVertex, Loop, Stretch, Answer, Job, ofRing, startVertex, endVertex, itemsOf}
+use Rattle.rules.specs.Job.{ofItems, atVertex, Loop, Stretch, Answer, Job, ofRing, startVertex, endVertex, itemsOf}
 use Rattle.rules.specs.Questions.{find, isFound}
 use Rattle.rules.specs.Kinds.{kindOf, numberOf, isLoop, isAnswer, rightLength, partOf, rightPosition, limitPassed, fieldsPermitted, questionLength, questionOf}
 

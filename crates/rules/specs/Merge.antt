@@ -1,7 +1,7 @@
 -- Merging: boundaries, merged groups, removed uses. Refusal 22.
 use Prim.Native.Nat.{ℕ}
 use mathlib.Core.List.{List, [], _∷_, map, foldl}
-use mathlib.Core.Bool.{Bool, true, false, _||_, cond}
+use mathlib.Core.Bool.{Bool, false, _||_, cond}
 use lib.ListN.{length, getD}
 use lib.Dec.{eqb, leb}
 use Rattle.lists.specs.Lists.{below}
@@ -12,7 +12,7 @@ use Rattle.rules.specs.Sense.{sameSense}
 use Rattle.rules.specs.Job.{Answer, faceAt}
 use Rattle.rules.specs.Questions.{ask}
 use Rattle.rules.specs.Read.{faceOfUse, storedSense}
-use Rattle.rules.specs.Groups.{alone, labelOf, joined, lowestMembers, groupNumbers}
+use Rattle.rules.specs.Groups.{alone, labelOf, joined, groupNumbers}
 use Rattle.rules.specs.Pair.{twinOf}
 use Rattle.rules.specs.Rules.{Table}
 

@@ -1,7 +1,7 @@
 -- Pairing: the twin of every use. Refusals 10, 11, 12, 13, 23.
-use Prim.Native.Nat.{ℕ, suc, _%_}
+use Prim.Native.Nat.{ℕ, _%_}
 use mathlib.Core.List.{List, [], _∷_}
-use mathlib.Core.Bool.{Bool, true, false, _&&_, not, cond}
+use mathlib.Core.Bool.{Bool, _&&_, not, cond}
 use lib.ListN.{length, getD, set, replicate}
 use lib.Dec.{eqb}
 use Rattle.lists.specs.Lists.{below, has, all, positions, indexOf}

@@ -1,8 +1,7 @@
 -- Questions and their answers: refusals 20, 21 and the values.
 use Prim.Native.Nat.{ℕ}
 use mathlib.Core.List.{List, [], _∷_}
-use mathlib.Core.Bool.{Bool, true, false, _&&_, _||_, cond}
-use lib.ListN.{take, drop}
+use mathlib.Core.Bool.{Bool, true, false, _&&_, cond}
 use lib.Dec.{eqb, leb}
 use Rattle.lists.specs.Lists.{same}
 use Rattle.rules.specs.Outcome.{Outcome, ok, refuse, _>>=_}

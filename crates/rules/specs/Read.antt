@@ -1,7 +1,6 @@
 -- Reading: the uses, by face, loop and traversal, after any reversal by the selected sense.
 use Prim.Native.Nat.{ℕ, suc, _+_}
 use mathlib.Core.List.{List, [], _∷_, _++_, map, reverse as backwards}
-use mathlib.Core.Bool.{Bool, true, false}
 use lib.ListN.{length, getD}
 use Rattle.rules.specs.declared.Sense.{Sense}
 use Rattle.rules.specs.declared.Sense.the-variants.{Same, Reversed}

@@ -1,8 +1,8 @@
 -- Sewing: the stages one after the other, from a job's bytes to the body's bytes or a refusal.
 use Prim.Native.Nat.{ℕ}
 use mathlib.Core.Path.{_≡_}
-use mathlib.Core.List.{List, [], _∷_, _++_}
-use mathlib.Core.Bool.{Bool, true, false, cond}
+use mathlib.Core.List.{List, _++_}
+use mathlib.Core.Bool.{true, cond}
 use lib.ListN.{length, drop}
 use lib.Dec.{eqb, leb}
 use Rattle.lists.specs.Lists.{keep, sumOf}
@@ -11,7 +11,7 @@ use Rattle.rules.specs.declared.KeptVertexLoop.{KeptVertexLoop}
 use Rattle.rules.specs.declared.Ending.{Ending}
 use Rattle.rules.specs.declared.Ending.the-variants.{Written, Refused}
 use Rattle.rules.specs.Outcome.{Outcome, ok, refuse, _>>=_, need}
-use Rattle.rules.specs.Frame.{Record, framedAll}
+use Rattle.rules.specs.Frame.{framedAll}
 use Rattle.rules.specs.Job.{Job}
 use Rattle.rules.specs.Load.{loaded}
 use Rattle.rules.specs.Read.{usesOf}

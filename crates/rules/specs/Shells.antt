@@ -1,8 +1,8 @@
 -- Shells: outer or void, the outer shell that encloses each void, and lumps. Refusal 34.
 use Prim.Native.Nat.{ℕ}
-use mathlib.Core.List.{List, [], _∷_, _++_, map}
-use mathlib.Core.Bool.{Bool, true, false, _&&_, not, cond}
-use lib.ListN.{length, getD}
+use mathlib.Core.List.{List, [], _∷_, map}
+use mathlib.Core.Bool.{Bool, true, _&&_, not, cond}
+use lib.ListN.{getD}
 use lib.Dec.{eqb}
 use Rattle.lists.specs.Lists.{keep, positions, indexOf}
 use Rattle.rules.specs.Outcome.{Outcome, ok, refuse, _>>=_, forEach}

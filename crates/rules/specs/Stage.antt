@@ -1,17 +1,15 @@
 -- Single stages: what each writes, as docs/STAGES.md sets it down, with the refusals up to there.
 use Prim.Native.Nat.{ℕ, suc}
-use mathlib.Core.List.{List, [], _∷_, _++_, map, flatMap}
-use mathlib.Core.Bool.{Bool, true, false, not, cond}
+use mathlib.Core.List.{List, [], _∷_, _++_, flatMap}
+use mathlib.Core.Bool.{Bool, not}
 use lib.ListN.{length, getD}
 use Rattle.lists.specs.Lists.{below, keep}
-use Rattle.rules.specs.declared.Item.{Item}
 use Rattle.rules.specs.declared.Use.{Use}
 use Rattle.rules.specs.declared.KeptVertexLoop.{KeptVertexLoop}
 use Rattle.rules.specs.declared.EdgeData.{EdgeData}
-use Rattle.rules.specs.Outcome.{Outcome, ok, refuse, _>>=_}
+use Rattle.rules.specs.Outcome.{Outcome, _>>=_}
 use Rattle.rules.specs.Sense.{senseNumber}
 use Rattle.rules.specs.Fields.{fieldBytes}
-use Rattle.rules.specs.Job.{Job}
 use Rattle.rules.specs.Load.{loaded}
 use Rattle.rules.specs.Read.{usesOf}
 use Rattle.rules.specs.Groups.{labelOf}
@@ -22,9 +20,9 @@ use Rattle.rules.specs.Walk.{successor, loopsOf}
 use Rattle.rules.specs.Fans.{keptWithEnds, fanPoint}
 use Rattle.rules.specs.Edges.{FaceLoop}
 use Rattle.rules.specs.Join.{Joining}
-use Rattle.rules.specs.Shells.{Shell, Nested, nested, lumps}
+use Rattle.rules.specs.Shells.{Shell, nested, lumps}
 use Rattle.rules.specs.Body.{bodyKind, itemFields}
-use Rattle.rules.specs.Sew.{Walked, walked, Fanned, fanned, Joined, edged, throughJoining, shellsOf, fitting}
+use Rattle.rules.specs.Sew.{Walked, walked, Fanned, fanned, edged, throughJoining, shellsOf, fitting}
 
 -- READ, PAIR, MERGE, VERTEX LOOPS
 

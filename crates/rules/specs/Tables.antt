@@ -1,9 +1,8 @@
 -- Tables of jobs with their expected endings, which antt computes.
-use Prim.Native.Nat.{ℕ, suc, _+_}
-use mathlib.Core.List.{List, [], _∷_, _++_}
-use mathlib.Core.Bool.{Bool, true, false, _&&_, cond}
+use mathlib.Core.List.{List, [], _∷_}
+use mathlib.Core.Bool.{Bool, true, false, _&&_}
 use lib.Dec.{eqb}
-use Rattle.lists.specs.Lists.{same, all, positions}
+use Rattle.lists.specs.Lists.{same}
 use Rattle.rules.specs.Outcome.{Outcome, ok, refuse}
 use Rattle.rules.specs.Frame.{Record, framedAll}
 use Rattle.rules.specs.Rules.{ordinary}

@@ -5,7 +5,7 @@ use mathlib.Core.Bool.{Bool, true, false, cond}
 use lib.ListN.{getD}
 use lib.Dec.{eqb}
 use Rattle.rules.specs.declared.KeptVertexLoop.{KeptVertexLoop}
-use Rattle.rules.specs.Outcome.{Outcome, ok, refuse, _>>=_, throughout}
+use Rattle.rules.specs.Outcome.{Outcome, ok, _>>=_, throughout}
 use Rattle.rules.specs.Job.{Content, ofItems, atVertex, Loop, Answer}
 use Rattle.rules.specs.Questions.{askSame}
 

@@ -1,21 +1,21 @@
 -- The ends of the steps of sewing: a stage that is asked for, a refusal, and what is handed on.
-use Prim.Native.Nat.{ℕ, zero, suc, _*_, _<_, _≤_}
+use Prim.Native.Nat.{ℕ, zero, suc, _≤_}
 use native.Mathlib.Omega.{arith}
 use mathlib.Core.Path.{_≡_, refl, sym, ap, subst, _∙_}
-use mathlib.Core.List.{List, [], _∷_, _++_, flatMap}
+use mathlib.Core.List.{List, _∷_, _++_, flatMap}
 use mathlib.Core.Bool.{Bool, false, cond}
 use lib.ListN.{length, take, drop, replicate, length-replicate}
 use lib.Seq.{take-at, take-append-le, length-take-le, length-front}
 use lib.Dec.{eqb}
 use borrow.Author.Tests.{eq-eqb, ne-eqb}
-use Rattle.lists.specs.Lists.{below, keep, sumOf}
+use Rattle.lists.specs.Lists.{below, sumOf}
 use Rattle.lists.specs.Tests.{cond-true, cond-false}
 use Rattle.lists.specs.Members.{keep-length}
 use Rattle.lists.specs.Runs.{length-below}
 use Rattle.rules.specs.declared.Counts.{Counts}
 use Rattle.rules.specs.declared.Use.{Use}
 use Rattle.rules.specs.declared.Ending.{Ending}
-use Rattle.rules.specs.declared.Ending.the-variants.{Written, Refused}
+use Rattle.rules.specs.declared.Ending.the-variants.{Refused}
 use Rattle.rules.specs.Outcome.{Outcome, ok, refuse, _>>=_}
 use Rattle.rules.specs.OutcomeLaws.{bind-on, bind-stop}
 use Rattle.rules.specs.Job.{Job}
@@ -25,18 +25,17 @@ use Rattle.rules.specs.Groups.{isLowest, lowestMembers, groupNumbers}
 use Rattle.rules.specs.GroupLaws.{Lowest}
 use Rattle.rules.specs.Rules.{fullTable}
 use Rattle.rules.specs.Pair.{pair}
-use Rattle.rules.specs.Merge.{boundaries, Merged, mergedFaces, mergeFaces, mergedGroups, removedUses}
+use Rattle.rules.specs.Merge.{boundaries, mergeFaces, mergedGroups, removedUses}
 use Rattle.rules.specs.VertexLoops.{vertexLoops}
 use Rattle.rules.specs.Walk.{successors, passedCounts, circuits, loopsOf}
 use Rattle.rules.specs.Frame.{framedAll}
 use Rattle.rules.specs.Body.{emptyBody, bodyRecords}
 use Rattle.rules.specs.Sew.{Walked, walksOf, fitting, written, ended, Ends}
-use Rattle.rules.specs.Stage.{useFields, groupFields, keptFields, keptUses, walkFields, loopFields, stageBytes}
-use Rattle.theorems.specs.Demand3.{Settled, WalksHold}
+use Rattle.rules.specs.Stage.{useFields, stageBytes}
 use Rattle.theorems.specs.Ground.{ground}
 use Rattle.theorems.specs.Circuits.{Permuted}
 use Rattle.theorems.specs.Merging.{length-removedUses}
-use Rattle.job.specs.Lists.{pointsIn, edgesIn, facesIn, loopsIn, answersIn, jobIn}
+use Rattle.job.specs.Lists.{pointsIn, facesIn, loopsIn, answersIn, jobIn}
 use Rattle.load.specs.declared.Loaded.{Loaded}
 use Rattle.load.specs.declared.Loaded.the-variants.{Refused as Stopped, Done as Read}
 use Rattle.load.specs.Going.{LoadedAs}
@@ -52,10 +51,9 @@ use Rattle.vertex_loops.specs.declared.Keeping.the-variants.{Done as Keeps, Ref
 use Rattle.vertex_loops.specs.Kept.{keptIn, keptOf, UpTo}
 use Rattle.stages_out.specs.Rows.{Staged, walkRows, walk-rows, pairRows, pair-rows, keptRows, kept-rows, roundRows, round-rows}
 use Rattle.progress.specs.declared.Faces.{Faces}
-use Rattle.progress.specs.declared.Figures.{Figures}
 use Rattle.progress.specs.Chain.{afterLoops, afterWalks, afterKeeping, afterMerging, afterPairing, afterReading, staged, sewnBy}
 use Rattle.progress.specs.Known.{Opened, Paired, boundariesIn, groupsIn, numbersIn, Grouped, mergedIn, walkedIn, Settled as SettledIn}
-use Rattle.progress.specs.KnownLaws.{opened-counted, opened-loaded, opened-edges, opened-faces, opened-limited, paired-few, paired-uses, paired-size, groups-are-lowest, groups-length, grouped-merges, settled-permuted}
+use Rattle.progress.specs.KnownLaws.{opened-counted, opened-loaded, opened-edges, opened-faces, opened-limited, paired-few, paired-size, groups-are-lowest, grouped-merges, settled-permuted}
 use Rattle.sewing.specs.Steps.{Read as ReadIn, FacesOf, Kept, Removed, Walks, Promised}
 
 -- ENDS

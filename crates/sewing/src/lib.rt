@@ -39,24 +39,21 @@ use vertex_loops::vertex_loops;
 use walk::loops;
 use walk::successors;
 ghost use mathlib.Core.Path.{_≡_};
-ghost use Prim.Native.Nat.{ℕ, _*_, _≤_, _<_};
-ghost use mathlib.Core.Bool.{Bool};
+ghost use Prim.Native.Nat.{_*_, _≤_};
 ghost use lib.ListN.{length, take};
 ghost use Rattle.rules.specs.Read.{usesOf};
-ghost use Rattle.rules.specs.Frame.{framedAll};
 ghost use Rattle.rules.specs.Rules.{ordinary, fullTable};
 ghost use Rattle.rules.specs.GroupLaws.{Lowest};
 ghost use Rattle.rules.specs.Merge.{removedUses};
 ghost use Rattle.rules.specs.Walk.{circuits, loopsOf};
-ghost use Rattle.rules.specs.Body.{emptyBody, bodyRecords};
-ghost use Rattle.rules.specs.Sew.{fitting, sewn, Ends};
+ghost use Rattle.rules.specs.Sew.{sewn, Ends};
 ghost use Rattle.rules.specs.Stage.{readStage, pairStage, mergeStage, vertexLoopStage, walkStage, loopStage, fanStage, edgeStage, joiningStage, shellStage, lumpStage};
 ghost use Rattle.theorems.specs.Demand3.{Demand3};
 ghost use Rattle.job.specs.Lists.{jobIn};
 ghost use Rattle.uses.specs.Table.{usesIn};
 ghost use Rattle.stages_out.specs.Rows.{Staged, roundRows};
-ghost use Rattle.progress.specs.Chain.{afterReading, afterPairing, afterMerging, afterKeeping, afterWalks, afterLoops, staged, sewnBy};
-ghost use Rattle.progress.specs.Known.{Opened, Paired, Grouped, groupsIn, numbersIn, mergedIn, walkedIn, Settled};
+ghost use Rattle.progress.specs.Chain.{afterReading, afterPairing, afterMerging, afterKeeping, afterWalks, staged, sewnBy};
+ghost use Rattle.progress.specs.Known.{Opened, Paired, Grouped, groupsIn, numbersIn, mergedIn, walkedIn};
 ghost use Rattle.sewing.specs.Steps.{Read, FacesOf, Kept, Removed, Walks, Promised};
 
 // The stage `loops` of walks that are known by their successors.

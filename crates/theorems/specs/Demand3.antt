@@ -1,9 +1,9 @@
 -- Demand 3 as a proposition about a job's bytes, over the definitions of the rules. The statement is `Demand3` at the end.
 -- Nothing in it is bounded by a budget of the definitions: what "never" and "back" mean is said by numbers of any size.
-use Prim.Native.Nat.{ℕ, zero, suc, _+_, _*_, _<_}
+use Prim.Native.Nat.{ℕ, suc, _+_, _*_, _<_}
 use mathlib.Core.Path.{_≡_}
 use mathlib.Core.List.{List, [], _∷_, flatMap}
-use mathlib.Core.Bool.{Bool, true, false, _&&_, not, cond}
+use mathlib.Core.Bool.{Bool, true, false, _&&_, not}
 use lib.ListN.{length, getD}
 use lib.Dec.{eqb}
 use lib.IntN.{ℤ, pos, _+ℤ_}
@@ -23,9 +23,9 @@ use Rattle.rules.specs.VertexLoops.{vertexLoops}
 use Rattle.rules.specs.Walk.{turn, meets, passing, successor, Circuit, closes, circuitUses, loopsOf}
 use Rattle.rules.specs.Fans.{fanPoint}
 use Rattle.rules.specs.Edges.{FaceLoop}
-use Rattle.rules.specs.Join.{Joining, endsAt, cornersLessEdges, itemEnd, placeIn, Tried, unchanged, changed, atCorner, sweep, maximalEdges}
+use Rattle.rules.specs.Join.{Joining, endsAt, cornersLessEdges, itemEnd, placeIn, Tried, unchanged, changed, atCorner, sweep}
 use Rattle.rules.specs.Body.{bodyKind}
-use Rattle.rules.specs.Sew.{Walked, walksOf, Fanned, fansOf, unjoined, Joined, throughJoining, sewn}
+use Rattle.rules.specs.Sew.{Walked, walksOf, Fanned, fansOf, unjoined, throughJoining, sewn}
 use Rattle.rules.specs.Stage.{keptUses}
 
 -- USES

@@ -2,13 +2,11 @@
 use Prim.Native.Nat.{ℕ}
 use mathlib.Core.Path.{_≡_, refl}
 use mathlib.Core.List.{List, [], _∷_, _++_}
-use mathlib.Core.Bool.{Bool, true, false, _&&_, not}
-use lib.ListN.{length, getD}
-use lib.Dec.{eqb}
+use mathlib.Core.Bool.{Bool, true, false}
+use lib.ListN.{length}
 use Rattle.lists.specs.Lists.{same, all, keep}
 use Rattle.rules.specs.Outcome.{Outcome, ok, refuse, _>>=_}
 use Rattle.rules.specs.Frame.{Record, framedAll}
-use Rattle.rules.specs.Job.{Job}
 use Rattle.rules.specs.Load.{loaded}
 use Rattle.rules.specs.Rules.{ordinary}
 use Rattle.rules.specs.Join.{Joining, corners, activeEdges}

@@ -19,9 +19,8 @@ use Rattle.rules.specs.declared.Sense.the-variants.{Same, Reversed}
 use Rattle.rules.specs.declared.Edge.{Edge}
 use Rattle.rules.specs.declared.Item.{Item}
 use Rattle.rules.specs.declared.Use.{Use}
-use Rattle.rules.specs.Sense.{reverse}
 use Rattle.rules.specs.SenseLaws.{start-reverse, end-reverse}
-use Rattle.rules.specs.Job.{Content, ofItems, atVertex, Job, edgeAt, faceAt, ring, ofRing, startBy, endBy, startVertex, endVertex}
+use Rattle.rules.specs.Job.{Content, ofItems, atVertex, Job, edgeAt, faceAt, ring, ofRing, endBy, startVertex, endVertex}
 use Rattle.rules.specs.Load.{joint, loneRing, jointed}
 use Rattle.rules.specs.Read.{reversedItem, traversed, contentItems, usesOf, useAt, oldSuccessor, edgeOfUse, useStart}
 use Rattle.theorems.specs.Sound.{Sound}

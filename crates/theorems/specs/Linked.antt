@@ -1,10 +1,10 @@
 -- What one stage hands to the theorems of the next: twins, links of the walks, the loops of joining.
-use Prim.Native.Nat.{ℕ, zero, suc, _<_, _≤_, min}
+use Prim.Native.Nat.{ℕ, _<_, _≤_}
 use mathlib.Core.Path.{_≡_}
-use mathlib.Core.List.{List, [], _∷_, map}
+use mathlib.Core.List.{List, [], _∷_}
 use mathlib.Core.Bool.{Bool, true, false, _&&_, cond}
-use lib.ListN.{length, getD}
-use lib.Dec.{eqb, ltb}
+use lib.ListN.{length}
+use lib.Dec.{eqb}
 use Rattle.lists.specs.Lists.{_∈_, keep, sumOf}
 use Rattle.rules.specs.declared.Sense.{Sense}
 use Rattle.rules.specs.declared.Item.{Item}

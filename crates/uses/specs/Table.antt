@@ -1,6 +1,6 @@
 -- The uses as a table of four numbers each.
 use Prim.Native.Nat.{ℕ, _+_, _*_, _/_}
-use mathlib.Core.List.{List, [], _∷_, map}
+use mathlib.Core.List.{List, map}
 use mathlib.Core.Bool.{cond}
 use lib.ListN.{length, getD, set}
 use lib.Dec.{ltb}

@@ -1,7 +1,5 @@
 use lib.ListN.{length}
 use Prim.Native.Nat.{_-_, _≤_}
-use native.Mathlib.Omega.{arith}
-use borrow.Author.Tests.{le-ltb, lt-ltb, le-leb, lt-leb, eq-eqb, ne-eqb, not-true, not-false}
 use borrow.Author.Needs.{needs}
 use Rattle.bench.proofs.number_of.Statement.{statement}
 use Rattle.bench.proofs.number_of.Tie as tie

@@ -1,8 +1,6 @@
 use mathlib.Core.Bool.{false}
 use mathlib.Core.Path.{sym}
 use lib.ListN.{List·getD-eq-default}
-use native.Mathlib.Omega.{arith}
-use borrow.Author.Tests.{le-ltb, lt-ltb, le-leb, lt-leb, eq-eqb, ne-eqb, not-true, not-false}
 use borrow.Author.Needs.{needs}
 use Rattle.fields.proofs.is_set.Statement.{statement}
 use Rattle.fields.proofs.is_set.Tie as tie

@@ -1,7 +1,5 @@
 use mathlib.Core.Path.{sym}
 use lib.Seq.{set-out}
-use native.Mathlib.Omega.{arith}
-use borrow.Author.Tests.{le-ltb, lt-ltb, le-leb, lt-leb, eq-eqb, ne-eqb, not-true, not-false}
 use borrow.Author.Needs.{needs}
 use Rattle.fields.proofs.put_byte.Statement.{statement}
 use Rattle.fields.proofs.put_byte.Tie as tie

@@ -3,7 +3,6 @@ use Prim.Native.Nat.{_*_, _+_}
 use Rattle.rules.specs.Fields.{bytes16, bytes32}
 use Rattle.fields.specs.Wrote.{two-stores, wrote-more}
 use native.Mathlib.Omega.{arith}
-use borrow.Author.Tests.{le-ltb, lt-ltb, le-leb, lt-leb, eq-eqb, ne-eqb, not-true, not-false}
 use borrow.Author.Needs.{needs}
 use Rattle.fields.proofs.put_head.Statement.{statement}
 use Rattle.fields.proofs.put_head.Tie as tie

@@ -6,7 +6,6 @@ use Rattle.rules.specs.Fields.{fieldBytes}
 use Rattle.fields.specs.Wrote.{Wrote}
 use Rattle.fields.specs.Tabled.{Tabled, tabled-start, tabled-step}
 use native.Mathlib.Omega.{arith}
-use borrow.Author.Tests.{le-ltb, lt-ltb, le-leb, lt-leb, eq-eqb, ne-eqb, not-true, not-false}
 use borrow.Author.Needs.{needs}
 use Rattle.fields.proofs.put_table.Statement.{statement}
 use Rattle.fields.proofs.put_table.Tie as tie

@@ -1,9 +1,6 @@
 use Rattle.fields.specs.Wrote.{four-stores}
-use mathlib.Core.Path.{_∙_, sym, ap, refl}
-use native.Mathlib.Numerals.{add-one, add-two, add-three}
+use mathlib.Core.Path.{refl}
 use Rattle.rules.specs.Fields.{bytes32}
-use native.Mathlib.Omega.{arith}
-use borrow.Author.Tests.{le-ltb, lt-ltb, le-leb, lt-leb, eq-eqb, ne-eqb, not-true, not-false}
 use borrow.Author.Needs.{needs}
 use Rattle.fields.proofs.put_word.Statement.{statement}
 use Rattle.fields.proofs.put_word.Tie as tie

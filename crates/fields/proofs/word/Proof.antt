@@ -1,6 +1,4 @@
 use Rattle.rules.specs.Fields.{le32}
-use native.Mathlib.Omega.{arith}
-use borrow.Author.Tests.{le-ltb, lt-ltb, le-leb, lt-leb, eq-eqb, ne-eqb, not-true, not-false}
 use borrow.Author.Needs.{needs}
 use Rattle.fields.proofs.word.Statement.{statement}
 use Rattle.fields.proofs.word.Tie as tie

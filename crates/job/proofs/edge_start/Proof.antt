@@ -1,8 +1,7 @@
 use Rattle.job.specs.Lists.{edgeIn}
 use Rattle.job.specs.ListLaws.{edges-at, edges-past}
-use mathlib.Core.Path.{_≡_, refl, sym, ap, _∙_}
+use mathlib.Core.Path.{sym, ap, _∙_}
 use native.Mathlib.Omega.{arith}
-use borrow.Author.Tests.{le-ltb, lt-ltb, le-leb, lt-leb, eq-eqb, ne-eqb, not-true, not-false}
 use borrow.Author.Needs.{needs}
 use Rattle.job.proofs.edge_start.Statement.{statement}
 use Rattle.job.proofs.edge_start.Tie as tie

@@ -3,9 +3,7 @@ use Rattle.rules.specs.Sense.{senseOf}
 use Rattle.rules.specs.Fields.{le32}
 use Rattle.job.specs.Lists.{faceIn}
 use Rattle.job.specs.ListLaws.{faces-at, faces-past}
-use mathlib.Core.Path.{_≡_, refl, sym, ap, _∙_}
-use native.Mathlib.Omega.{arith}
-use borrow.Author.Tests.{le-ltb, lt-ltb, le-leb, lt-leb, eq-eqb, ne-eqb, not-true, not-false}
+use mathlib.Core.Path.{sym, ap, _∙_}
 use borrow.Author.Needs.{needs}
 use Rattle.job.proofs.face_own.Statement.{statement}
 use Rattle.job.proofs.face_own.Tie as tie

@@ -2,9 +2,8 @@ use Prim.Native.Nat.{_+_}
 use Rattle.rules.specs.Fields.{le32}
 use Rattle.job.specs.Lists.{faceIn}
 use Rattle.job.specs.ListLaws.{faces-at, faces-past}
-use mathlib.Core.Path.{_≡_, refl, sym, ap, _∙_}
+use mathlib.Core.Path.{sym, ap, _∙_}
 use native.Mathlib.Omega.{arith}
-use borrow.Author.Tests.{le-ltb, lt-ltb, le-leb, lt-leb, eq-eqb, ne-eqb, not-true, not-false}
 use borrow.Author.Needs.{needs}
 use Rattle.job.proofs.face_surface.Statement.{statement}
 use Rattle.job.proofs.face_surface.Tie as tie

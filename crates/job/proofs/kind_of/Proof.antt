@@ -1,9 +1,6 @@
 use Rattle.job.specs.ListLaws.{no-kind}
 use Rattle.rules.specs.Kinds.{kindOf}
-use mathlib.Core.Path.{_≡_, refl, sym, ap, _∙_}
-use native.Mathlib.Omega.{arith}
-use borrow.Author.Tests.{le-ltb, lt-ltb, le-leb, lt-leb, eq-eqb, ne-eqb, not-true, not-false}
-use borrow.Author.Needs.{needs}
+use mathlib.Core.Path.{sym}
 use Rattle.job.proofs.kind_of.Statement.{statement}
 use Rattle.job.proofs.kind_of.Tie as tie
 use Rattle.job.proofs.kind_of.Reads as reads

@@ -1,8 +1,6 @@
 use Prim.Native.Nat.{_+_}
 use Rattle.rules.specs.Fields.{le16}
-use mathlib.Core.Path.{_≡_, refl, sym, ap, _∙_}
-use native.Mathlib.Omega.{arith}
-use borrow.Author.Tests.{le-ltb, lt-ltb, le-leb, lt-leb, eq-eqb, ne-eqb, not-true, not-false}
+use mathlib.Core.Path.{ap, _∙_}
 use borrow.Author.Needs.{needs}
 use Rattle.job.proofs.loop_kind.Statement.{statement}
 use Rattle.job.proofs.loop_kind.Tie as tie

@@ -1,7 +1,5 @@
 use Rattle.rules.specs.Fields.{le32}
-use mathlib.Core.Path.{_≡_, refl, sym, ap, _∙_}
-use native.Mathlib.Omega.{arith}
-use borrow.Author.Tests.{le-ltb, lt-ltb, le-leb, lt-leb, eq-eqb, ne-eqb, not-true, not-false}
+use mathlib.Core.Path.{ap, _∙_}
 use borrow.Author.Needs.{needs}
 use Rattle.job.proofs.loop_size.Statement.{statement}
 use Rattle.job.proofs.loop_size.Tie as tie

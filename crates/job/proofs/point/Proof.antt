@@ -1,7 +1,6 @@
 use Rattle.job.specs.ListLaws.{points-at, points-past}
-use mathlib.Core.Path.{_≡_, refl, sym, ap, _∙_}
+use mathlib.Core.Path.{sym, _∙_}
 use native.Mathlib.Omega.{arith}
-use borrow.Author.Tests.{le-ltb, lt-ltb, le-leb, lt-leb, eq-eqb, ne-eqb, not-true, not-false}
 use borrow.Author.Needs.{needs}
 use Rattle.job.proofs.point.Statement.{statement}
 use Rattle.job.proofs.point.Tie as tie

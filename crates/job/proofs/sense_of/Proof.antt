@@ -1,6 +1,4 @@
-use native.Mathlib.Omega.{arith}
-use borrow.Author.Tests.{le-ltb, lt-ltb, le-leb, lt-leb, eq-eqb, ne-eqb, not-true, not-false}
-use borrow.Author.Needs.{needs}
+use borrow.Author.Tests.{eq-eqb, ne-eqb}
 use Rattle.job.proofs.sense_of.Statement.{statement}
 use Rattle.job.proofs.sense_of.Tie as tie
 use Rattle.job.proofs.sense_of.Reads as reads

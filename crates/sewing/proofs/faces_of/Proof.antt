@@ -1,13 +1,8 @@
 use Rattle.sewing.specs.StepLaws.{zeros, lent-size, faces-from}
-use Rattle.job.specs.Lists.{jobIn, answersIn, facesIn}
 use Rattle.uses.specs.Table.{usesIn}
-use mathlib.Core.Path.{refl, sym, ap, subst, _∙_}
+use mathlib.Core.Path.{sym, _∙_}
 use lib.Seq.{length-take-le}
-use lib.ListN.{length, take}
-use Prim.Native.Nat.{_*_}
 use native.Mathlib.Omega.{arith}
-use borrow.Author.Tests.{le-ltb, lt-ltb, le-leb, lt-leb, eq-eqb, ne-eqb, not-true, not-false}
-use borrow.Author.Needs.{needs}
 use Rattle.sewing.proofs.faces_of.Statement.{statement}
 use Rattle.sewing.proofs.faces_of.Tie as tie
 use Rattle.sewing.proofs.faces_of.Reads as reads

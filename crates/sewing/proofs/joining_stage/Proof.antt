@@ -1,8 +1,6 @@
 use Rattle.progress.specs.StageLaws.{stage-joining}
 use Rattle.sewing.specs.StepLaws.{ends-same}
 use lib.ListN.{length}
-use native.Mathlib.Omega.{arith}
-use borrow.Author.Tests.{le-ltb, lt-ltb, le-leb, lt-leb, eq-eqb, ne-eqb, not-true, not-false}
 use borrow.Author.Needs.{needs}
 use Rattle.sewing.proofs.joining_stage.Statement.{statement}
 use Rattle.sewing.proofs.joining_stage.Tie as tie

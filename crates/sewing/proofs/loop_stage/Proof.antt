@@ -1,8 +1,6 @@
 use Rattle.progress.specs.StageLaws.{stage-loops}
 use Rattle.sewing.specs.StepLaws.{ends-same, promised}
 use lib.ListN.{length}
-use native.Mathlib.Omega.{arith}
-use borrow.Author.Tests.{le-ltb, lt-ltb, le-leb, lt-leb, eq-eqb, ne-eqb, not-true, not-false}
 use borrow.Author.Needs.{needs}
 use Rattle.sewing.proofs.loop_stage.Statement.{statement}
 use Rattle.sewing.proofs.loop_stage.Tie as tie

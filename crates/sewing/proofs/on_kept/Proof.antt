@@ -2,19 +2,16 @@ use Rattle.lists.specs.Lists.{keep}
 use mathlib.Core.List.{_++_}
 use lib.ListN.{drop}
 use Rattle.sewing.specs.StepLaws.{flags-back-size, flags-room, twins-few}
-use Rattle.sewing.specs.StepLaws.{ends-same, ends-staged, faces-cut, unsetFlags, flags-size, flags-back, keeping-asked, keeping-on, removed-ends}
+use Rattle.sewing.specs.StepLaws.{ends-staged, faces-cut, unsetFlags, flags-size, flags-back, keeping-asked, removed-ends}
 use Rattle.stages_out.specs.Rows.{keptRows}
 use Rattle.progress.specs.KnownLaws.{opened-limited, paired-size, paired-uses}
-use Rattle.progress.specs.Known.{groupsIn, walkedIn}
+use Rattle.progress.specs.Known.{groupsIn}
 use Rattle.rules.specs.Merge.{removedUses}
-use Rattle.job.specs.Lists.{jobIn, answersIn, facesIn}
+use Rattle.job.specs.Lists.{jobIn}
 use Rattle.uses.specs.Table.{usesIn}
-use mathlib.Core.Path.{refl, sym, ap, subst, _∙_}
-use lib.Seq.{length-take-le}
+use mathlib.Core.Path.{refl, sym, ap, _∙_}
 use lib.ListN.{length, take}
-use Prim.Native.Nat.{_*_}
 use native.Mathlib.Omega.{arith}
-use borrow.Author.Tests.{le-ltb, lt-ltb, le-leb, lt-leb, eq-eqb, ne-eqb, not-true, not-false}
 use borrow.Author.Needs.{needs}
 use Rattle.sewing.proofs.on_kept.Statement.{statement}
 use Rattle.sewing.proofs.on_kept.Tie as tie

@@ -4,14 +4,11 @@ use Rattle.sewing.specs.StepLaws.{ends-same, zeros, zeros-long, front-ba
 use Rattle.progress.specs.KnownLaws.{opened-limited, opened-counted}
 use Rattle.progress.specs.Chain.{afterReading}
 use Rattle.uses.specs.Table.{usesIn}
-use Rattle.rules.specs.Read.{usesOf}
 use Rattle.job.specs.Lists.{jobIn}
-use mathlib.Core.Path.{sym, ap, subst, _∙_}
+use mathlib.Core.Path.{sym, ap, _∙_}
 use lib.Seq.{length-take-le}
-use lib.ListN.{take}
 use Prim.Native.Nat.{_*_}
 use native.Mathlib.Omega.{arith}
-use borrow.Author.Tests.{le-ltb, lt-ltb, le-leb, lt-leb, eq-eqb, ne-eqb, not-true, not-false}
 use borrow.Author.Needs.{needs}
 use Rattle.sewing.proofs.on_loaded.Statement.{statement}
 use Rattle.sewing.proofs.on_loaded.Tie as tie

@@ -1,15 +1,11 @@
 use Rattle.sewing.specs.StepLaws.{ends-refused, ends-same, ends-staged, faces-cut, merging-asked, keep-refused, kept-from, keep-on}
 use Rattle.stages_out.specs.Rows.{pairRows}
 use Rattle.progress.specs.KnownLaws.{opened-limited}
-use Rattle.progress.specs.Known.{boundariesIn, groupsIn, numbersIn}
-use Rattle.job.specs.Lists.{jobIn, answersIn, facesIn}
+use Rattle.progress.specs.Known.{boundariesIn, groupsIn}
 use Rattle.uses.specs.Table.{usesIn}
-use mathlib.Core.Path.{refl, sym, ap, subst, _∙_}
-use lib.Seq.{length-take-le}
-use lib.ListN.{length, take}
-use Prim.Native.Nat.{_*_}
+use mathlib.Core.Path.{refl, sym}
+use lib.ListN.{length}
 use native.Mathlib.Omega.{arith}
-use borrow.Author.Tests.{le-ltb, lt-ltb, le-leb, lt-leb, eq-eqb, ne-eqb, not-true, not-false}
 use borrow.Author.Needs.{needs}
 use Rattle.sewing.proofs.on_merged.Statement.{statement}
 use Rattle.sewing.proofs.on_merged.Tie as tie

@@ -1,16 +1,10 @@
 use Rattle.sewing.specs.StepLaws.{ends-refused, ends-same, ends-staged, zeros, lent-size, back-is, back-long, pairing-asked, merge-refused, groups-lowest, grouped-from, merge-on}
 use Rattle.progress.specs.KnownLaws.{opened-limited, paired-few, paired-size}
-use Rattle.rules.specs.Rules.{fullTable}
-use Rattle.rules.specs.Merge.{mergedGroups}
-use Rattle.job.specs.Lists.{jobIn, answersIn, facesIn}
+use Rattle.job.specs.Lists.{jobIn}
 use Rattle.uses.specs.Table.{usesIn}
-use mathlib.Core.List.{flatMap}
-use mathlib.Core.Path.{refl, sym, ap, subst, _∙_}
-use lib.Seq.{length-take-le}
-use lib.ListN.{length, take}
-use Prim.Native.Nat.{_*_}
+use mathlib.Core.Path.{refl, sym}
+use lib.ListN.{length}
 use native.Mathlib.Omega.{arith}
-use borrow.Author.Tests.{le-ltb, lt-ltb, le-leb, lt-leb, eq-eqb, ne-eqb, not-true, not-false}
 use borrow.Author.Needs.{needs}
 use Rattle.sewing.proofs.on_paired.Statement.{statement}
 use Rattle.sewing.proofs.on_paired.Tie as tie

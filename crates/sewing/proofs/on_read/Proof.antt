@@ -4,15 +4,13 @@ use Rattle.sewing.specs.StepLaws.{back-room, linked-back}
 use Rattle.sewing.specs.StepLaws.{ends-refused, ends-same, ends-staged, zeros, zeros-lent, lent-size, back-is, back-size, read-few, read-count, reading-asked, pairs-refused, pairs-made, pairs-on}
 use Rattle.progress.specs.KnownLaws.{opened-limited}
 use Rattle.rules.specs.Stage.{useFields}
-use Rattle.job.specs.Lists.{jobIn, answersIn, facesIn}
+use Rattle.job.specs.Lists.{jobIn}
 use Rattle.uses.specs.Table.{usesIn}
 use mathlib.Core.List.{flatMap}
-use mathlib.Core.Path.{refl, sym, ap, subst, _∙_}
+use mathlib.Core.Path.{refl, sym, _∙_}
 use lib.Seq.{length-take-le}
 use lib.ListN.{length, take}
-use Prim.Native.Nat.{_*_}
 use native.Mathlib.Omega.{arith}
-use borrow.Author.Tests.{le-ltb, lt-ltb, le-leb, lt-leb, eq-eqb, ne-eqb, not-true, not-false}
 use borrow.Author.Needs.{needs}
 use Rattle.sewing.proofs.on_read.Statement.{statement}
 use Rattle.sewing.proofs.on_read.Tie as tie

@@ -5,13 +5,10 @@ use Rattle.rules.specs.Walk.{successors, passedCounts, circuits, loopsOf}
 use Rattle.lists.specs.Lists.{sumOf}
 use Rattle.job.specs.Lists.{jobIn}
 use Rattle.uses.specs.Table.{usesIn}
-use mathlib.Core.Path.{refl, sym, ap, subst, _∙_}
+use mathlib.Core.Path.{sym, ap, _∙_}
 use mathlib.Core.List.{_++_}
-use lib.Seq.{length-take-le}
 use lib.ListN.{length, take, drop}
-use Prim.Native.Nat.{_*_}
 use native.Mathlib.Omega.{arith}
-use borrow.Author.Tests.{le-ltb, lt-ltb, le-leb, lt-leb, eq-eqb, ne-eqb, not-true, not-false}
 use borrow.Author.Needs.{needs}
 use Rattle.sewing.proofs.on_removed.Statement.{statement}
 use Rattle.sewing.proofs.on_removed.Tie as tie

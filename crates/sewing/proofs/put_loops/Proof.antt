@@ -3,16 +3,14 @@ use Rattle.sewing.specs.StepLaws.{ends-staged, zeros, lent-size, back-is
 use Rattle.stages_out.specs.Rows.{roundRows}
 use Rattle.progress.specs.Known.{numbersIn}
 use Rattle.rules.specs.Walk.{circuits, loopsOf}
-use Rattle.walk.specs.Walks.{loopsIn, Following}
-use Rattle.job.specs.Lists.{jobIn}
+use Rattle.walk.specs.Walks.{loopsIn}
 use Rattle.uses.specs.Table.{usesIn}
-use mathlib.Core.Path.{refl, sym, ap, subst, _∙_}
+use mathlib.Core.Path.{refl, sym, ap, _∙_}
 use mathlib.Core.List.{_++_}
 use lib.Seq.{length-take-le}
 use lib.ListN.{length, take, drop}
 use Prim.Native.Nat.{_*_}
 use native.Mathlib.Omega.{arith}
-use borrow.Author.Tests.{le-ltb, lt-ltb, le-leb, lt-leb, eq-eqb, ne-eqb, not-true, not-false}
 use borrow.Author.Needs.{needs}
 use Rattle.sewing.proofs.put_loops.Statement.{statement}
 use Rattle.sewing.proofs.put_loops.Tie as tie

@@ -1,6 +1,4 @@
 use Rattle.sewing.specs.StepLaws.{ends-refused, ends-same, opened-from, load-refused, load-on}
-use native.Mathlib.Omega.{arith}
-use borrow.Author.Tests.{le-ltb, lt-ltb, le-leb, lt-leb, eq-eqb, ne-eqb, not-true, not-false}
 use borrow.Author.Needs.{needs}
 use Rattle.sewing.proofs.run.Statement.{statement}
 use Rattle.sewing.proofs.run.Tie as tie

@@ -4,8 +4,6 @@ use Rattle.progress.specs.StageLaws.{stage-body}
 use Rattle.rules.specs.Rules.{fullTable}
 use mathlib.Core.Path.{_∙_, sym}
 use lib.ListN.{length}
-use native.Mathlib.Omega.{arith}
-use borrow.Author.Tests.{le-ltb, lt-ltb, le-leb, lt-leb, eq-eqb, ne-eqb, not-true, not-false}
 use borrow.Author.Needs.{needs}
 use Rattle.sewing.proofs.sew.Statement.{statement}
 use Rattle.sewing.proofs.sew.Tie as tie

@@ -1,7 +1,5 @@
 use Rattle.sewing.specs.StepLaws.{ends-same, sew-empty, sew-solid}
 use lib.ListN.{length}
-use native.Mathlib.Omega.{arith}
-use borrow.Author.Tests.{le-ltb, lt-ltb, le-leb, lt-leb, eq-eqb, ne-eqb, not-true, not-false}
 use borrow.Author.Needs.{needs}
 use Rattle.sewing.proofs.sew_loaded.Statement.{statement}
 use Rattle.sewing.proofs.sew_loaded.Tie as tie

@@ -1,8 +1,5 @@
 use Rattle.uses.specs.TableLaws.{length-uses}
-use mathlib.Core.Path.{_≡_, refl, sym, ap, _∙_}
-use native.Mathlib.Omega.{arith}
-use borrow.Author.Tests.{le-ltb, lt-ltb, le-leb, lt-leb, eq-eqb, ne-eqb, not-true, not-false}
-use borrow.Author.Needs.{needs}
+use mathlib.Core.Path.{sym}
 use Rattle.uses.proofs.count.Statement.{statement}
 use Rattle.uses.proofs.count.Tie as tie
 use Rattle.uses.proofs.count.Reads as reads

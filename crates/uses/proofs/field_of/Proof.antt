@@ -1,7 +1,7 @@
 use Rattle.uses.specs.Table.{fieldOf}
-use mathlib.Core.Path.{_≡_, refl, sym, ap, _∙_}
+use mathlib.Core.Path.{_∙_}
 use native.Mathlib.Omega.{arith}
-use borrow.Author.Tests.{le-ltb, lt-ltb, le-leb, lt-leb, eq-eqb, ne-eqb, not-true, not-false}
+use borrow.Author.Tests.{le-ltb, lt-ltb}
 use borrow.Author.Needs.{needs}
 use Rattle.uses.proofs.field_of.Statement.{statement}
 use Rattle.uses.proofs.field_of.Tie as tie

@@ -1,7 +1,4 @@
 use Rattle.uses.specs.TableLaws.{four-puts}
-use mathlib.Core.Path.{_≡_, refl, sym, ap, _∙_}
-use native.Mathlib.Omega.{arith}
-use borrow.Author.Tests.{le-ltb, lt-ltb, le-leb, lt-leb, eq-eqb, ne-eqb, not-true, not-false}
 use borrow.Author.Needs.{needs}
 use Rattle.uses.proofs.put_use.Statement.{statement}
 use Rattle.uses.proofs.put_use.Tie as tie

@@ -1,9 +1,7 @@
 use Rattle.job.specs.Lists.{edgesIn, pointsIn}
 use Rattle.rules.specs.Job.{edgeAt, startBy}
 use lib.ListN.{getD}
-use mathlib.Core.Path.{_≡_, refl, sym, ap, _∙_}
-use native.Mathlib.Omega.{arith}
-use borrow.Author.Tests.{le-ltb, lt-ltb, le-leb, lt-leb, eq-eqb, ne-eqb, not-true, not-false}
+use mathlib.Core.Path.{ap, _∙_}
 use borrow.Author.Needs.{needs}
 use Rattle.uses.proofs.start_point.Statement.{statement}
 use Rattle.uses.proofs.start_point.Tie as tie

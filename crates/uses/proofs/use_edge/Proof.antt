@@ -1,7 +1,5 @@
 use Rattle.uses.specs.TableLaws.{edge-is}
-use mathlib.Core.Path.{_≡_, refl, sym, ap, _∙_}
-use native.Mathlib.Omega.{arith}
-use borrow.Author.Tests.{le-ltb, lt-ltb, le-leb, lt-leb, eq-eqb, ne-eqb, not-true, not-false}
+use mathlib.Core.Path.{sym, _∙_}
 use borrow.Author.Needs.{needs}
 use Rattle.uses.proofs.use_edge.Statement.{statement}
 use Rattle.uses.proofs.use_edge.Tie as tie

@@ -1,8 +1,6 @@
 use Rattle.rules.specs.Sense.{senseOf}
 use Rattle.uses.specs.TableLaws.{sense-is}
-use mathlib.Core.Path.{_≡_, refl, sym, ap, _∙_}
-use native.Mathlib.Omega.{arith}
-use borrow.Author.Tests.{le-ltb, lt-ltb, le-leb, lt-leb, eq-eqb, ne-eqb, not-true, not-false}
+use mathlib.Core.Path.{sym, ap, _∙_}
 use borrow.Author.Needs.{needs}
 use Rattle.uses.proofs.use_sense.Statement.{statement}
 use Rattle.uses.proofs.use_sense.Tie as tie
