@@ -2,3 +2,5 @@ pub mod Chain
 pub mod StageLaws
 pub mod Known
 pub mod KnownLaws
+pub mod Parts
+pub mod Endings

@@ -45,7 +45,7 @@ use Rattle.rebuild.specs.Ended.{FanOrNone, Ended}
 use Rattle.rebuild.specs.Sizes.{Sizes, Holds, Tables}
 use Rattle.rebuild.specs.Homes.{shelled-count, shelled-few}
 use Rattle.rebuild.specs.Lumped.{shellCount, lumpTests}
-use Rattle.rebuild.specs.Endings.{ends-as, ends-refused, asked, unasked}
+use Rattle.progress.specs.Endings.{ends-as, ends-refused, asked, unasked}
 
 -- THE SIZES OF A BODY
 

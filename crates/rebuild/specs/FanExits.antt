@@ -32,11 +32,11 @@ use Rattle.progress.specs.declared.Figures.{Figures}
 use Rattle.progress.specs.Chain.{afterFans, afterEdges}
 use Rattle.progress.specs.Known.{boundariesIn, numbersIn, walkedIn, Settled}
 use Rattle.progress.specs.KnownLaws.{settled-ground}
-use Rattle.rebuild.specs.Parts.{zeros, zeros-size, lent-part, lent-first}
+use Rattle.progress.specs.Parts.{zeros, zeros-size, lent-part, lent-first}
 use Rattle.rebuild.specs.Ended.{Ended, first-ended}
 use Rattle.rebuild.specs.Sizes.{Fanning, Holds, Tables, settled-few, settled-room, settled-twins, settled-succ, linable, fanned-names, fanned-holds}
 use Rattle.rebuild.specs.Lined.{Lined}
-use Rattle.rebuild.specs.Endings.{ends-as, ends-refused, asked, unasked}
+use Rattle.progress.specs.Endings.{ends-as, ends-refused, asked, unasked}
 
 module _ {bytes ix : List ℕ} {c : Counts} {us : List Use} {ts : List ℕ} {m : Faces} {rm : List Bool} {ss kept : List ℕ} {g : Figures} {fans names starts : List ℕ}
     (F : Fanning bytes ix c us ts m rm ss kept g fans names starts) (stage : ℕ) (out : List ℕ) where

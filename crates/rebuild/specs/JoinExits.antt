@@ -25,7 +25,7 @@ use Rattle.progress.specs.declared.Figures.{Figures}
 use Rattle.progress.specs.Chain.{afterEdges, afterJoining}
 use Rattle.rebuild.specs.Ended.{ended-run}
 use Rattle.rebuild.specs.Sizes.{Holds, Tables}
-use Rattle.rebuild.specs.Endings.{ends-as, ends-refused, asked, unasked}
+use Rattle.progress.specs.Endings.{ends-as, ends-refused, asked, unasked}
 
 -- joined, the tables are still such
 pub joined-tables : (bytes ix : List ℕ) (c : Counts) (starts names rows rows′ : List ℕ) (n : ℕ) (items items′ stretches stretches′ faces : List ℕ) (q : Joining) (k : Joins)

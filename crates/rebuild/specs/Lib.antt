@@ -1,9 +1,7 @@
-pub mod Parts
 pub mod Halves
 pub mod Lined
 pub mod Ended
 pub mod Sizes
-pub mod Endings
 pub mod LoopExits
 pub mod FanExits
 pub mod Homes

@@ -21,7 +21,7 @@ use Rattle.edges.specs.Made.{Mated, Made}
 use Rattle.edges.specs.LoopLaws.{face-loops, laid-first}
 use Rattle.maximal_edges.specs.Joined.{edgesIn}
 use Rattle.walk.specs.Walks.{loopsIn, Following}
-use Rattle.rebuild.specs.Parts.{zeros, part-at}
+use Rattle.progress.specs.Parts.{zeros, part-at}
 use Rattle.rebuild.specs.Halves.{half-of-uses}
 
 -- the successors permute the kept uses, of which twins are removed together; there is room for edges and loops

@@ -22,7 +22,7 @@ use Rattle.progress.specs.declared.Figures.{Figures}
 use Rattle.progress.specs.Chain.{afterLoops, afterFans}
 use Rattle.progress.specs.Known.{boundariesIn, walkedIn, Settled}
 use Rattle.progress.specs.KnownLaws.{opened-edges}
-use Rattle.rebuild.specs.Endings.{ends-as, ends-refused}
+use Rattle.progress.specs.Endings.{ends-as, ends-refused}
 
 module _ {bytes ix : List ℕ} {c : Counts} {us : List Use} {ts : List ℕ} {m : Faces} {rm : List Bool} {ss kept : List ℕ} {g : Figures} (S : Settled bytes ix c us ts m rm ss kept g) (stage : ℕ) (out : List ℕ) where
   -- the job, its walks and its fans

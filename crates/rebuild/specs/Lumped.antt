@@ -20,7 +20,7 @@ use Rattle.shells.specs.Table.{nestedIn, Shelled}
 use Rattle.progress.specs.declared.Faces.{Faces}
 use Rattle.progress.specs.declared.Figures.{Figures}
 use Rattle.progress.specs.Known.{boundariesIn, membersIn}
-use Rattle.rebuild.specs.Parts.{zeros, lent-part}
+use Rattle.progress.specs.Parts.{zeros, lent-part}
 use Rattle.rebuild.specs.Homes.{LowHomes, shelled-count, labels-low}
 use Rattle.rebuild.specs.Sizes.{Sizes, names-few}
 

@@ -29,7 +29,7 @@ use Rattle.progress.specs.Chain.{afterJoining, afterShells, afterNesting}
 use Rattle.progress.specs.Known.{boundariesIn, membersIn}
 use Rattle.rebuild.specs.Homes.{LowHomes, homes-low}
 use Rattle.rebuild.specs.Sizes.{Holds}
-use Rattle.rebuild.specs.Endings.{ends-as, ends-refused, asked, unasked}
+use Rattle.progress.specs.Endings.{ends-as, ends-refused, asked, unasked}
 
 -- what making the shells needs, and what it gives
 pub record Shellable (bytes ix : List ℕ) (c : Counts) (m : Faces) (t : List ℕ) : Type 0 where

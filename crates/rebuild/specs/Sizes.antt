@@ -30,7 +30,7 @@ use Rattle.progress.specs.declared.Faces.{Faces}
 use Rattle.progress.specs.declared.Figures.{Figures}
 use Rattle.progress.specs.Known.{boundariesIn, membersIn, walkedIn, Settled}
 use Rattle.progress.specs.KnownLaws.{opened-limited, paired-few, paired-twins, bounded-lowest, settled-ground, settled-linked, settled-permuted}
-use Rattle.rebuild.specs.Parts.{zeros, zeros-size, part-size, lent-part, lent-first}
+use Rattle.progress.specs.Parts.{zeros, zeros-size, part-size, lent-part, lent-first}
 use Rattle.rebuild.specs.Lined.{Linable}
 use Rattle.rebuild.specs.Ended.{Ended}
 

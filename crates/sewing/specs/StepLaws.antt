@@ -1,11 +1,11 @@
 -- The ends of the steps of sewing: a stage that is asked for, a refusal, and what is handed on.
-use Prim.Native.Nat.{ℕ, zero, suc, _≤_}
+use Prim.Native.Nat.{ℕ, _≤_}
 use native.Mathlib.Omega.{arith}
 use mathlib.Core.Path.{_≡_, refl, sym, ap, subst, _∙_}
-use mathlib.Core.List.{List, _∷_, _++_, flatMap}
+use mathlib.Core.List.{List, _++_, flatMap}
 use mathlib.Core.Bool.{Bool, false, cond}
 use lib.ListN.{length, take, drop, replicate, length-replicate}
-use lib.Seq.{take-at, take-append-le, length-take-le, length-front}
+use lib.Seq.{take-append-le, length-take-le, length-front}
 use lib.Dec.{eqb}
 use borrow.Author.Tests.{eq-eqb, ne-eqb}
 use Rattle.lists.specs.Lists.{below, sumOf}
@@ -15,7 +15,6 @@ use Rattle.lists.specs.Runs.{length-below}
 use Rattle.rules.specs.declared.Counts.{Counts}
 use Rattle.rules.specs.declared.Use.{Use}
 use Rattle.rules.specs.declared.Ending.{Ending}
-use Rattle.rules.specs.declared.Ending.the-variants.{Refused}
 use Rattle.rules.specs.Outcome.{Outcome, ok, refuse, _>>=_}
 use Rattle.rules.specs.OutcomeLaws.{bind-on, bind-stop}
 use Rattle.rules.specs.Job.{Job}
@@ -30,7 +29,7 @@ use Rattle.rules.specs.VertexLoops.{vertexLoops}
 use Rattle.rules.specs.Walk.{successors, passedCounts, circuits, loopsOf}
 use Rattle.rules.specs.Frame.{framedAll}
 use Rattle.rules.specs.Body.{emptyBody, bodyRecords}
-use Rattle.rules.specs.Sew.{Walked, walksOf, fitting, written, ended, Ends}
+use Rattle.rules.specs.Sew.{Walked, walksOf, fitting, Ends}
 use Rattle.rules.specs.Stage.{useFields, stageBytes}
 use Rattle.theorems.specs.Ground.{ground}
 use Rattle.theorems.specs.Circuits.{Permuted}
@@ -51,6 +50,8 @@ use Rattle.vertex_loops.specs.declared.Keeping.the-variants.{Done as Keeps, Ref
 use Rattle.vertex_loops.specs.Kept.{keptIn, keptOf, UpTo}
 use Rattle.stages_out.specs.Rows.{Staged, walkRows, walk-rows, pairRows, pair-rows, keptRows, kept-rows, roundRows, round-rows}
 use Rattle.progress.specs.declared.Faces.{Faces}
+use Rattle.progress.specs.Parts.{cut-back, zeros, part-size, lent-part, lent-long}
+use Rattle.progress.specs.Endings.{ends-as}
 use Rattle.progress.specs.Chain.{afterLoops, afterWalks, afterKeeping, afterMerging, afterPairing, afterReading, staged, sewnBy}
 use Rattle.progress.specs.Known.{Opened, Paired, boundariesIn, groupsIn, numbersIn, Grouped, mergedIn, walkedIn, Settled as SettledIn}
 use Rattle.progress.specs.KnownLaws.{opened-counted, opened-loaded, opened-edges, opened-faces, opened-limited, paired-few, paired-size, groups-are-lowest, grouped-merges, settled-permuted}
@@ -58,34 +59,11 @@ use Rattle.sewing.specs.Steps.{Read as ReadIn, FacesOf, Kept, Removed, W
 
 -- ENDS
 
-pub ends-refused : {o : Outcome (List ℕ)} {n p : ℕ} (out : List ℕ) → o ≡ refuse n p → Ends o out out (Refused n p)
-ends-refused out e = (sym (ap ended e), sym (ap (λ o. written o out) e))
-
-pub ends-same : {o o′ : Outcome (List ℕ)} (before after : List ℕ) (r : Ending) → o ≡ o′ → Ends o before after r → Ends o′ before after r
-ends-same before after r e E = subst (λ o. Ends o before after r) e E
-
 -- a stage that wrote these fields
 pub ends-staged : (fs gs : List ℕ) {o : Outcome (List ℕ)} (before after : List ℕ) (r : Ending) → fs ≡ gs → o ≡ stageBytes (length before) gs → Staged fs before after r → Ends o before after r
-ends-staged fs gs before after r e q S = ends-same before after r (ap (stageBytes (length before)) e ∙ sym q) S
+ends-staged fs gs before after r e q S = ends-as _ _ before after r (sym (ap (stageBytes (length before)) e ∙ sym q)) S
 
 -- TABLES LENT BY THEIR FIRST ENTRIES
-
--- a table of zeros
-unfoldable pub zeros : ℕ → List ℕ
-zeros n = replicate n 0
-
-pub zeros-long : (n : ℕ) → length (zeros n) ≡ n
-unfolding zeros
-zeros-long n = length-replicate n 0
-
-zeros-front : (n m : ℕ) → n ≤ m → take n (replicate {A = ℕ} m 0) ≡ replicate n 0
-zeros-front zero m h = refl
-zeros-front (suc n) zero h = absurd (omega arith)
-zeros-front (suc n) (suc m) h = ap (λ l. 0 ∷ l) (zeros-front n m (omega arith))
-
-pub zeros-lent : (n m : ℕ) → n ≤ m → take n (zeros m) ≡ replicate (length (take n (zeros m))) 0
-unfolding zeros
-zeros-lent n m h = zeros-front n m h ∙ ap (λ k. replicate {A = ℕ} k 0) (sym (length-replicate {A = ℕ} n 0) ∙ ap length (sym (zeros-front n m h)))
 
 -- a table of flags that are not set
 unfoldable pub unsetFlags : ℕ → List Bool
@@ -95,29 +73,6 @@ pub flags-long : (n : ℕ) → length (unsetFlags n) ≡ n
 unfolding unsetFlags
 flags-long n = length-replicate n false
 
--- the first entries of a table after they were lent
-pub front-back : {A : Type 0} (n : ℕ) (t l : List A) → length l ≡ length (take n t) → n ≤ length t → take n (l ++ drop n t) ≡ l
-front-back n t l e h = take-at l (drop n t) n (e ∙ length-take-le n t h)
-
--- the first n of m zeros, lent
-module _ (n m : ℕ) (h : n ≤ m) where
-  pub lent-size : length (take n (zeros m)) ≡ n
-  lent-size = length-take-le n (zeros m) (omega (arith, zeros-long m))
-
-  -- as they come back
-  module _ (l : List ℕ) (e : length l ≡ length (take n (zeros m))) where
-    pub back-is : take n (l ++ drop n (zeros m)) ≡ l
-    back-is = front-back n (zeros m) l e (omega (arith, zeros-long m))
-
-    pub back-size : length (take n (l ++ drop n (zeros m))) ≡ n
-    back-size = ap length back-is ∙ e ∙ lent-size
-
-    pub back-long : length (l ++ drop n (zeros m)) ≡ m
-    back-long = length-front (zeros m) l n e ∙ zeros-long m
-
-    pub back-room : n ≤ length (l ++ drop n (zeros m))
-    back-room = omega (arith, back-long, h)
-
 -- the first n of m flags, lent
 module _ (n m : ℕ) (h : n ≤ m) where
   pub flags-size : length (take n (unsetFlags m)) ≡ n
@@ -125,7 +80,7 @@ module _ (n m : ℕ) (h : n ≤ m) where
 
   module _ (l : List Bool) (e : length l ≡ length (take n (unsetFlags m))) where
     pub flags-back : take n (l ++ drop n (unsetFlags m)) ≡ l
-    flags-back = front-back n (unsetFlags m) l e (omega (arith, flags-long m))
+    flags-back = cut-back n (unsetFlags m) l (omega (arith, flags-long m)) e
 
     pub flags-back-size : length (take n (l ++ drop n (unsetFlags m))) ≡ n
     flags-back-size = ap length flags-back ∙ e ∙ flags-size
@@ -226,15 +181,15 @@ pub faces-from : (n : ℕ) (us : List Use) (ts groups labels numbers members : L
     → labels ≡ boundaries us ts (length (take n (zeros 256))) → take merged members ≡ lowestMembers (take n groups) → merged ≡ length (lowestMembers (take n groups)) → numbers ≡ groupNumbers (take n groups)
     → FacesOf n us ts groups (record { merged = merged; boundaries = labels ++ drop n (zeros 256); groups = groups; numbers = numbers ++ drop n (zeros 256); members = members ++ drop n (zeros 256) })
 faces-from n us ts groups labels numbers members merged h long e q p bounds low many numbered =
-    let few : merged ≤ length members = omega (arith, many, members-few, p, lent-size n 256 h) in
+    let few : merged ≤ length members = omega (arith, many, members-few, p, sym (part-size n 256 h)) in
     record {
       groups-are = refl;
-      bounds = back-is n 256 h labels e ∙ bounds ∙ ap (boundaries us ts) (lent-size n 256 h);
-      numbered = back-is n 256 h numbers q ∙ numbered;
+      bounds = lent-part 256 n labels e h ∙ bounds ∙ ap (boundaries us ts) (sym (part-size n 256 h));
+      numbered = lent-part 256 n numbers q h ∙ numbered;
       lowest = take-append-le merged members (drop n (zeros 256)) few ∙ low;
-      boundaries-size = back-long n 256 h labels e;
-      numbers-size = back-long n 256 h numbers q;
-      members-size = back-long n 256 h members p;
+      boundaries-size = lent-long 256 n labels e h;
+      numbers-size = lent-long 256 n numbers q h;
+      members-size = lent-long 256 n members p h;
       few = omega (arith, many, members-few, h);
     }
   where
@@ -390,7 +345,7 @@ promised bytes j w l s = ground fullTable bytes j w l s .walks
 pub removed-ends : (stage : ℕ) (j : Job) (c : Counts) (m : Faces) (us : List Use) (ts : List ℕ) (k : ℕ) (t before after : List ℕ) (r : Ending) (rm gone : List Bool) → rm ≡ gone → (stage ≡ 4 → ⊥)
     → Ends (afterWalks stage j (length before) (walkedIn c m us ts rm k t)) before after r → Ends (afterKeeping stage j (length before) (walkedIn c m us ts gone k t)) before after r
 removed-ends stage j c m us ts k t before after r rm gone e n E =
-    ends-same before after r (ap (λ x. afterWalks stage j (length before) (walkedIn c m us ts x k t)) e ∙ keeping-on stage j (length before) (walkedIn c m us ts gone k t) n) E
+    ends-as _ _ before after r (sym (ap (λ x. afterWalks stage j (length before) (walkedIn c m us ts x k t)) e ∙ keeping-on stage j (length before) (walkedIn c m us ts gone k t) n)) E
 
 -- loops over tables as they come back
 pub following-back : (k : ℕ) (w w′ s s′ : List ℕ) → w ≡ w′ → s ≡ s′ → Following k w′ s′ → Following k w s

@@ -1,4 +1,4 @@
-use Rattle.rebuild.specs.Parts.{zeros, zeros-first, part-size, lent-part, lent-room, lent-cut}
+use Rattle.progress.specs.Parts.{zeros, zeros-first, part-size, lent-part, lent-room, lent-cut}
 use Rattle.edge_uses.specs.Links.{Linked}
 use Rattle.rules.specs.Contact.{edgesClear}
 use Rattle.uses.specs.Table.{usesIn}

@@ -1,5 +1,5 @@
 use mathlib.Core.Path.{sym, _∙_}
-use Rattle.rebuild.specs.Parts.{zeros, part-size, lent-room, lent-cut}
+use Rattle.progress.specs.Parts.{zeros, part-size, lent-room, lent-cut}
 use Rattle.rebuild.specs.Lumped.{lumped-cut, lumped-few, lumped-low, lumped-refused, lumped-on}
 use borrow.Author.Needs.{needs}
 use Rattle.rebuild.proofs.lumps_clear.Statement.{statement}

@@ -8,7 +8,7 @@ use lib.Seq.{length-take-le}
 use Rattle.job.specs.Lists.{edgesIn}
 use Rattle.uses.specs.Table.{usesIn}
 use Rattle.progress.specs.Known.{numbersIn}
-use Rattle.rebuild.specs.Parts.{zeros, part-size, cut-back, lent-part, lent-room, lent-cut}
+use Rattle.progress.specs.Parts.{zeros, part-size, cut-back, lent-part, lent-room, lent-cut}
 use Rattle.rebuild.specs.Lined.{few-owners, lined}
 use native.Mathlib.Omega.{arith}
 use borrow.Author.Needs.{needs}

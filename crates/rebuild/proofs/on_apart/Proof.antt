@@ -1,6 +1,6 @@
 use Prim.Native.Nat.{_*_}
 use lib.ListN.{length}
-use Rattle.rebuild.specs.Parts.{zeros, part-size, lent-room, lent-cut, lent-more, lent-less}
+use Rattle.progress.specs.Parts.{zeros, part-size, lent-room, lent-cut, lent-more, lent-less}
 use Rattle.rebuild.specs.Sizes.{settled-limited, settled-twins, settled-succ, settled-room, settled-numbers, linable, fanned-sizes}
 use Rattle.rebuild.specs.FanExits.{drawn-cut, edges-on}
 use native.Mathlib.Omega.{arith}

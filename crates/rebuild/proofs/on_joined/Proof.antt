@@ -1,6 +1,6 @@
 use Rattle.maximal_edges.specs.Joined.{stateIn}
 use Rattle.progress.specs.Known.{boundariesIn, membersIn}
-use Rattle.rebuild.specs.Parts.{zeros, zeros-size}
+use Rattle.progress.specs.Parts.{zeros, zeros-size}
 use Rattle.rebuild.specs.BodyExits.{faces-room, members-room}
 use Rattle.rebuild.specs.ShellExits.{stands, joining-written, joining-refused, joining-on}
 use borrow.Author.Needs.{needs}

@@ -1,6 +1,6 @@
 use mathlib.Core.Path.{sym, _∙_}
 use lib.ListN.{length}
-use Rattle.rebuild.specs.Parts.{zeros, part-size, lent-room, lent-cut, lent-more, lent-less}
+use Rattle.progress.specs.Parts.{zeros, part-size, lent-room, lent-cut, lent-more, lent-less}
 use Rattle.rebuild.specs.Sizes.{settled-limited, settled-few, settled-twins, settled-succ, settled-room, settled-faces, settled-cut, settled-low, fanning}
 use Rattle.rebuild.specs.LoopExits.{loops-refused, loops-on}
 use native.Mathlib.Omega.{arith}

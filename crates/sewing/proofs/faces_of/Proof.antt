@@ -1,4 +1,5 @@
-use Rattle.sewing.specs.StepLaws.{zeros, lent-size, faces-from}
+use Rattle.progress.specs.Parts.{part-size, zeros}
+use Rattle.sewing.specs.StepLaws.{faces-from}
 use Rattle.uses.specs.Table.{usesIn}
 use mathlib.Core.Path.{sym, _∙_}
 use lib.Seq.{length-take-le}
@@ -17,12 +18,12 @@ array-borrow-prefix-labels c = c .before .before .pre .0
 -- src/lib.rt:178:29
 slice-aggregate-boundaries : tie.Need-slice-aggregate-boundaries
 unfolding zeros
-slice-aggregate-boundaries c = sym (lent-size (c .before .before .before .args .n) 256 (c .before .before .before .pre .0))
+slice-aggregate-boundaries c = part-size (c .before .before .before .args .n) 256 (c .before .before .before .pre .0)
 
 -- src/lib.rt:178:5
 boundaries-requires : tie.Need-boundaries-requires
 unfolding zeros
-boundaries-requires c κs = omega (arith, lent-size (c .before .before .before .args .n) 256 (c .before .before .before .pre .0), c .before .before .before .pre .0)
+boundaries-requires c κs = omega (arith, sym (part-size (c .before .before .before .args .n) 256 (c .before .before .before .pre .0)), c .before .before .before .pre .0)
 
 -- src/lib.rt:179:25
 array-share-prefix-groups : tie.Need-array-share-prefix-groups
@@ -39,7 +40,7 @@ array-borrow-prefix-members c = c .before .before .before .before .before .befor
 -- src/lib.rt:179:39
 slice-aggregate-number-2 : tie.Need-slice-aggregate-number-2
 unfolding zeros
-slice-aggregate-number-2 c = sym (lent-size (c .before .before .before .before .before .before .before .args .n) 256 (c .before .before .before .before .before .before .before .pre .0))
+slice-aggregate-number-2 c = part-size (c .before .before .before .before .before .before .before .args .n) 256 (c .before .before .before .before .before .before .before .pre .0)
 
 -- src/lib.rt:179:58
 array-borrow-prefix-numbers : tie.Need-array-borrow-prefix-numbers
@@ -48,13 +49,13 @@ array-borrow-prefix-numbers c = c .before .before .before .before .before .befor
 -- src/lib.rt:179:58
 slice-aggregate-number-3 : tie.Need-slice-aggregate-number-3
 unfolding zeros
-slice-aggregate-number-3 c = sym (lent-size (c .before .before .before .before .before .before .before .before .args .n) 256 (c .before .before .before .before .before .before .before .before .pre .0))
+slice-aggregate-number-3 c = part-size (c .before .before .before .before .before .before .before .before .args .n) 256 (c .before .before .before .before .before .before .before .before .pre .0)
 
 -- src/lib.rt:179:9
 number-requires : tie.Need-number-requires
 unfolding zeros
 number-requires c κs = let size = length-take-le (c .before .before .before .before .before .before .before .before .args .n) (c .before .before .before .before .before .before .before .before .args .t4) (omega (arith, c .before .before .before .before .before .before .before .before .pre .0, c .before .before .before .before .before .before .before .before .pre .1)) in
-    let lent = lent-size (c .before .before .before .before .before .before .before .before .args .n) 256 (c .before .before .before .before .before .before .before .before .pre .0) in
+    let lent = sym (part-size (c .before .before .before .before .before .before .before .before .args .n) 256 (c .before .before .before .before .before .before .before .before .pre .0)) in
     (c .before .before .before .before .before .before .before .before .pre .2, lent ∙ sym size, lent ∙ sym size, omega (arith, size, c .before .before .before .before .before .before .before .before .pre .0))
 
 -- src/lib.rt:171:1

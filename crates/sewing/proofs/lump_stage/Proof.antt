@@ -1,5 +1,6 @@
+use mathlib.Core.Path.{sym}
+use Rattle.progress.specs.Endings.{ends-as}
 use Rattle.progress.specs.StageLaws.{stage-lumps}
-use Rattle.sewing.specs.StepLaws.{ends-same}
 use lib.ListN.{length}
 use borrow.Author.Needs.{needs}
 use Rattle.sewing.proofs.lump_stage.Statement.{statement}
@@ -18,7 +19,7 @@ same-length c = search needs
 
 -- src/lib.rt:396:1
 returns : tie.Need-returns
-returns c = ends-same (c .before .before .before .before .before .before .args .out .now) (c .before .before .run .last .1 .1 .0) (c .before .before .run .result) (stage-lumps (c .before .before .before .before .before .before .args .job .now) (length (c .before .before .before .before .before .before .args .out .now))) (c .before .before .run .ensures)
+returns c = ends-as _ _ (c .before .before .before .before .before .before .args .out .now) (c .before .before .run .last .1 .1 .0) (c .before .before .run .result) (sym (stage-lumps (c .before .before .before .before .before .before .args .job .now) (length (c .before .before .before .before .before .before .args .out .now)))) (c .before .before .run .ensures)
 
 pub lump-stage-spec : {M : Type 1} → statement M
 lump-stage-spec = tie.close (tie.spec run-requires same-length returns)

@@ -1,6 +1,6 @@
+use Rattle.progress.specs.Parts.{cut-back, lent-cut, lent-part, lent-room, zeros, zeros-size}
+use Rattle.progress.specs.Endings.{ends-as}
 use lib.ListN.{length}
-use Rattle.sewing.specs.StepLaws.{back-is, back-size, back-room}
-use Rattle.sewing.specs.StepLaws.{ends-same, zeros, zeros-long, front-back}
 use Rattle.progress.specs.KnownLaws.{opened-limited, opened-counted}
 use Rattle.progress.specs.Chain.{afterReading}
 use Rattle.uses.specs.Table.{usesIn}
@@ -28,13 +28,13 @@ array-borrow-prefix-uses c = omega (arith, opened-limited (c .before .before .be
 -- src/lib.rt:248:25
 slice-aggregate-read : tie.Need-slice-aggregate-read
 unfolding zeros
-slice-aggregate-read c = sym (length-take-le (4 * c .before .before .before .before .before .args .c .uses) (zeros 8192) (omega (arith, zeros-long 8192, opened-limited (c .before .before .before .before .before .args .job .now) (c .before .before .before .before .before .args .index .now) (c .before .before .before .before .before .args .c) (c .before .before .before .before .before .pre) .uses)))
+slice-aggregate-read c = sym (length-take-le (4 * c .before .before .before .before .before .args .c .uses) (zeros 8192) (omega (arith, zeros-size 8192, opened-limited (c .before .before .before .before .before .args .job .now) (c .before .before .before .before .before .args .index .now) (c .before .before .before .before .before .args .c) (c .before .before .before .before .before .pre) .uses)))
 
 -- src/lib.rt:248:5
 read-requires : tie.Need-read-requires
 unfolding zeros
 read-requires c κs = let L = opened-limited (c .before .before .before .before .before .args .job .now) (c .before .before .before .before .before .args .index .now) (c .before .before .before .before .before .args .c) (c .before .before .before .before .before .pre) in
-    (L .loops, L .faces, L .uses, length-take-le (4 * c .before .before .before .before .before .args .c .uses) (zeros 8192) (omega (arith, zeros-long 8192, L .uses)), opened-counted (c .before .before .before .before .before .args .job .now) (c .before .before .before .before .before .args .index .now) (c .before .before .before .before .before .args .c) (c .before .before .before .before .before .pre) .uses)
+    (L .loops, L .faces, L .uses, length-take-le (4 * c .before .before .before .before .before .args .c .uses) (zeros 8192) (omega (arith, zeros-size 8192, L .uses)), opened-counted (c .before .before .before .before .before .args .job .now) (c .before .before .before .before .before .args .index .now) (c .before .before .before .before .before .args .c) (c .before .before .before .before .before .pre) .uses)
 
 -- src/lib.rt:249:43
 mul-uses-2 : tie.Need-mul-uses-2
@@ -44,20 +44,20 @@ mul-uses-2 c = omega (arith, opened-limited (c .before .before .before .before .
 array-share-prefix-uses : tie.Need-array-share-prefix-uses
 unfolding zeros
 array-share-prefix-uses c = let a = c .before .before .before .before .before .before .before .before .args in
-    back-room (4 * a .c .uses) 8192 (omega (arith, opened-limited (a .job .now) (a .index .now) (a .c) (c .before .before .before .before .before .before .before .before .pre) .uses)) (c .before .before .read .last .1 .1 .1 .0) (c .before .before .read .kept .1 .1 .1 .0)
+    lent-room 8192 (4 * a .c .uses) (c .before .before .read .last .1 .1 .1 .0) (c .before .before .read .kept .1 .1 .1 .0) (omega (arith, opened-limited (a .job .now) (a .index .now) (a .c) (c .before .before .before .before .before .before .before .before .pre) .uses))
 
 -- src/lib.rt:249:35
 slice-aggregate-on-read : tie.Need-slice-aggregate-on-read
 unfolding zeros
 slice-aggregate-on-read c = let a = c .before .before .before .before .before .before .before .before .before .args in
-    sym (back-size (4 * a .c .uses) 8192 (omega (arith, opened-limited (a .job .now) (a .index .now) (a .c) (c .before .before .before .before .before .before .before .before .before .pre) .uses)) (c .before .before .before .read .last .1 .1 .1 .0) (c .before .before .before .read .kept .1 .1 .1 .0))
+    lent-cut 8192 (4 * a .c .uses) (c .before .before .before .read .last .1 .1 .1 .0) (c .before .before .before .read .kept .1 .1 .1 .0) (omega (arith, opened-limited (a .job .now) (a .index .now) (a .c) (c .before .before .before .before .before .before .before .before .before .pre) .uses))
 
 -- src/lib.rt:249:5
 on-read-requires : tie.Need-on-read-requires
 unfolding zeros
 on-read-requires c κs = let a = c .before .before .before .before .before .before .before .before .before .before .args in
     let L = opened-limited (a .job .now) (a .index .now) (a .c) (c .before .before .before .before .before .before .before .before .before .before .pre) in
-    (record { opened = c .before .before .before .before .before .before .before .before .before .before .pre; uses = ap usesIn (front-back (4 * a .c .uses) (zeros 8192) (c .before .before .before .before .read .last .1 .1 .1 .0) (c .before .before .before .before .read .kept .1 .1 .1 .0) (omega (arith, zeros-long 8192, L .uses))) ∙ c .before .before .before .before .read .ensures })
+    (record { opened = c .before .before .before .before .before .before .before .before .before .before .pre; uses = ap usesIn (cut-back (4 * a .c .uses) (zeros 8192) (c .before .before .before .before .read .last .1 .1 .1 .0) (omega (arith, zeros-size 8192, L .uses)) (c .before .before .before .before .read .kept .1 .1 .1 .0)) ∙ c .before .before .before .before .read .ensures })
 
 -- src/lib.rt:243:1
 same-length : tie.Need-same-length
@@ -67,9 +67,7 @@ same-length c = search needs
 returns : tie.Need-returns
 unfolding zeros
 returns c = let a = c .before .before .before .before .before .before .before .before .before .before .before .before .before .args in
-    ends-same (a .out .now) (c .before .before .on-read .last .1 .1 .1 .1 .1 .0) (c .before .before .on-read .result)
-    (ap (afterReading (a .stage) (jobIn (a .job .now) (a .index .now) (a .c)) (length (a .out .now))) (ap usesIn (back-is (4 * a .c .uses) 8192 (omega (arith, opened-limited (a .job .now) (a .index .now) (a .c) (c .before .before .before .before .before .before .before .before .before .before .before .before .before .pre) .uses)) (c .before .before .before .before .before .before .before .read .last .1 .1 .1 .0) (c .before .before .before .before .before .before .before .read .kept .1 .1 .1 .0)) ∙ c .before .before .before .before .before .before .before .read .ensures))
-    (c .before .before .on-read .ensures)
+    ends-as _ _ (a .out .now) (c .before .before .on-read .last .1 .1 .1 .1 .1 .0) (c .before .before .on-read .result) (sym (ap (afterReading (a .stage) (jobIn (a .job .now) (a .index .now) (a .c)) (length (a .out .now))) (ap usesIn (lent-part 8192 (4 * a .c .uses) (c .before .before .before .before .before .before .before .read .last .1 .1 .1 .0) (c .before .before .before .before .before .before .before .read .kept .1 .1 .1 .0) (omega (arith, opened-limited (a .job .now) (a .index .now) (a .c) (c .before .before .before .before .before .before .before .before .before .before .before .before .before .pre) .uses))) ∙ c .before .before .before .before .before .before .before .read .ensures))) (c .before .before .on-read .ensures)
 
 pub on-loaded-spec : {M : Type 1} → statement M
 on-loaded-spec =

@@ -1,4 +1,5 @@
-use Rattle.sewing.specs.StepLaws.{ends-refused, ends-same, ends-staged, faces-cut, merging-asked, keep-refused, kept-from, keep-on}
+use Rattle.progress.specs.Endings.{ends-as, ends-refused}
+use Rattle.sewing.specs.StepLaws.{ends-staged, faces-cut, merging-asked, keep-refused, kept-from, keep-on}
 use Rattle.stages_out.specs.Rows.{pairRows}
 use Rattle.progress.specs.KnownLaws.{opened-limited}
 use Rattle.progress.specs.Known.{boundariesIn, groupsIn}
@@ -82,7 +83,7 @@ on-kept-requires c κs = let a = c .before .before .before .before .before .befo
 -- src/lib.rt:143:1
 returns-2 : tie.Need-returns-2
 returns-2 c = let a = c .before .before .before .before .before .before .before .before .before .before .before .before .before .before .args in
-    ends-refused (a .out .now) (keep-refused (a .job .now) (a .index .now) (a .c) (usesIn (a .uses .now)) (a .twins .now) (a .m) (c .before .before .before .before .before .before .before .before .before .before .before .before .before .before .pre) (a .stage) (length (a .out .now)) (c .before .before .before .before .before .before .before .before .if1 .left) (c .before .before .before .before .vertex-loops .result) (c .before .before .before .before .vertex-loops .last .1 .1 .1 .1 .0) (c .before .before .before .before .vertex-loops .ensures .0) _ _ (c .before .r .given .1))
+    ends-refused _ (a .out .now) _ _ (keep-refused (a .job .now) (a .index .now) (a .c) (usesIn (a .uses .now)) (a .twins .now) (a .m) (c .before .before .before .before .before .before .before .before .before .before .before .before .before .before .pre) (a .stage) (length (a .out .now)) (c .before .before .before .before .before .before .before .before .if1 .left) (c .before .before .before .before .vertex-loops .result) (c .before .before .before .before .vertex-loops .last .1 .1 .1 .1 .0) (c .before .before .before .before .vertex-loops .ensures .0) _ _ (c .before .r .given .1))
 
 -- src/lib.rt:143:1
 same-length-2 : tie.Need-same-length-2
@@ -92,8 +93,7 @@ same-length-2 c = search needs
 returns-3 : tie.Need-returns-3
 returns-3 c = let a = c .before .before .before .before .before .before .before .before .before .before .before .before .before .before .before .before .before .before .before .args in
     let K = kept-from (a .job .now) (a .index .now) (a .c) (usesIn (a .uses .now)) (a .twins .now) (a .m) (c .before .before .before .before .before .before .before .before .before .before .before .before .before .before .before .before .before .before .before .pre) (a .stage) (length (a .out .now)) (c .before .before .before .before .before .before .before .before .before .before .before .before .before .if1 .left) (c .before .before .before .before .before .before .before .before .before .vertex-loops .result) (c .before .before .before .before .before .before .before .before .before .vertex-loops .last .1 .1 .1 .1 .0) (c .before .before .before .before .before .before .before .before .before .vertex-loops .ensures .0) _ (c .before .before .before .before .before .before .before .before .before .vertex-loops .ensures .1) (c .before .before .before .before .before .before .r2 .given .1) in
-    ends-same (a .out .now) (c .before .before .on-kept .last .1 .1 .1 .1 .1 .1 .1 .1 .1 .0) (c .before .before .on-kept .result)
-    (keep-on (a .job .now) (a .index .now) (a .c) (usesIn (a .uses .now)) (a .twins .now) (a .m) (c .before .before .before .before .before .before .before .before .before .before .before .before .before .before .before .before .before .before .before .pre) (a .stage) (length (a .out .now)) (c .before .before .before .before .before .before .before .before .before .before .before .before .before .if1 .left) (c .before .before .before .before .before .before .before .before .before .vertex-loops .last .1 .1 .1 .1 .0) _ K) (c .before .before .on-kept .ensures)
+    ends-as _ _ (a .out .now) (c .before .before .on-kept .last .1 .1 .1 .1 .1 .1 .1 .1 .1 .0) (c .before .before .on-kept .result) (sym (keep-on (a .job .now) (a .index .now) (a .c) (usesIn (a .uses .now)) (a .twins .now) (a .m) (c .before .before .before .before .before .before .before .before .before .before .before .before .before .before .before .before .before .before .before .pre) (a .stage) (length (a .out .now)) (c .before .before .before .before .before .before .before .before .before .before .before .before .before .if1 .left) (c .before .before .before .before .before .before .before .before .before .vertex-loops .last .1 .1 .1 .1 .0) _ K)) (c .before .before .on-kept .ensures)
 
 pub on-merged-spec : {M : Type 1} → statement M
 on-merged-spec =

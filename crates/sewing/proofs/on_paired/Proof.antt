@@ -1,4 +1,6 @@
-use Rattle.sewing.specs.StepLaws.{ends-refused, ends-same, ends-staged, zeros, lent-size, back-is, back-long, pairing-asked, merge-refused, groups-lowest, grouped-from, merge-on}
+use Rattle.progress.specs.Parts.{lent-long, lent-part, part-size, zeros}
+use Rattle.progress.specs.Endings.{ends-as, ends-refused}
+use Rattle.sewing.specs.StepLaws.{ends-staged, pairing-asked, merge-refused, groups-lowest, grouped-from, merge-on}
 use Rattle.progress.specs.KnownLaws.{opened-limited, paired-few, paired-size}
 use Rattle.job.specs.Lists.{jobIn}
 use Rattle.uses.specs.Table.{usesIn}
@@ -36,14 +38,14 @@ array-borrow-prefix-groups c = opened-limited (c .before .before .before .before
 -- src/lib.rt:206:53
 slice-aggregate-merge-faces : tie.Need-slice-aggregate-merge-faces
 unfolding zeros
-slice-aggregate-merge-faces c = sym (lent-size (c .before .before .before .before .before .before .before .args .c .faces) 256 (opened-limited (c .before .before .before .before .before .before .before .args .job .now) (c .before .before .before .before .before .before .before .args .index .now) (c .before .before .before .before .before .before .before .args .c) (c .before .before .before .before .before .before .before .pre .opened) .faces))
+slice-aggregate-merge-faces c = part-size (c .before .before .before .before .before .before .before .args .c .faces) 256 (opened-limited (c .before .before .before .before .before .before .before .args .job .now) (c .before .before .before .before .before .before .before .args .index .now) (c .before .before .before .before .before .before .before .args .c) (c .before .before .before .before .before .before .before .pre .opened) .faces)
 
 -- src/lib.rt:206:9
 merge-faces-requires : tie.Need-merge-faces-requires
 unfolding zeros
 merge-faces-requires c κs = let a = c .before .before .before .before .before .before .before .args in
     let L = opened-limited (a .job .now) (a .index .now) (a .c) (c .before .before .before .before .before .before .before .pre .opened) in
-    (c .before .before .before .before .before .before .before .pre .opened .indexed, L .faces, lent-size (a .c .faces) 256 (L .faces), paired-few (a .job .now) (a .index .now) (a .c) (usesIn (a .uses .now)) (a .twins .now) (c .before .before .before .before .before .before .before .pre))
+    (c .before .before .before .before .before .before .before .pre .opened .indexed, L .faces, sym (part-size (a .c .faces) 256 (L .faces)), paired-few (a .job .now) (a .index .now) (a .c) (usesIn (a .uses .now)) (a .twins .now) (c .before .before .before .before .before .before .before .pre))
 
 -- src/lib.rt:208:26
 enum-known-r : tie.Need-enum-known-r
@@ -61,8 +63,8 @@ faces-of-requires c κs = let a = c .before .before .before .before .before .bef
     let l = c .before .before .before .merge-faces .last .1 .1 .1 .1 .1 .0 in
     let e = c .before .before .before .merge-faces .kept .1 .1 .1 .1 .1 .0 in (
       L .faces,
-      back-long (a .c .faces) 256 (L .faces) l e,
-      groups-lowest (a .job .now) (a .index .now) (a .c) (usesIn (a .uses .now)) (a .twins .now) (c .before .before .before .before .before .before .before .before .before .before .before .pre) (a .stage) (length (a .out .now)) (c .before .before .before .before .before .if1 .left) (c .before .before .before .merge-faces .result) l (c .before .before .before .merge-faces .ensures) _ (back-is (a .c .faces) 256 (L .faces) l e) (c .enum-told .given .1),
+      lent-long 256 (a .c .faces) l e (L .faces),
+      groups-lowest (a .job .now) (a .index .now) (a .c) (usesIn (a .uses .now)) (a .twins .now) (c .before .before .before .before .before .before .before .before .before .before .before .pre) (a .stage) (length (a .out .now)) (c .before .before .before .before .before .if1 .left) (c .before .before .before .merge-faces .result) l (c .before .before .before .merge-faces .ensures) _ (lent-part 256 (a .c .faces) l e (L .faces)) (c .enum-told .given .1),
     )
 
 -- src/lib.rt:211:13
@@ -72,12 +74,12 @@ on-merged-requires c κs = let a = c .before .before .before .before .before .be
     let L = opened-limited (a .job .now) (a .index .now) (a .c) (c .before .before .before .before .before .before .before .before .before .before .before .before .before .pre .opened) in
     let l = c .before .before .before .before .before .merge-faces .last .1 .1 .1 .1 .1 .0 in
     let e = c .before .before .before .before .before .merge-faces .kept .1 .1 .1 .1 .1 .0 in
-    (grouped-from (a .job .now) (a .index .now) (a .c) (usesIn (a .uses .now)) (a .twins .now) (c .before .before .before .before .before .before .before .before .before .before .before .before .before .pre) (a .stage) (length (a .out .now)) (c .before .before .before .before .before .before .before .if1 .left) (c .before .before .before .before .before .merge-faces .result) l (c .before .before .before .before .before .merge-faces .ensures) _ (back-is (a .c .faces) 256 (L .faces) l e) (c .before .before .enum-told .given .1) (c .before .faces-of .result) (back-long (a .c .faces) 256 (L .faces) l e) (c .before .faces-of .ensures))
+    (grouped-from (a .job .now) (a .index .now) (a .c) (usesIn (a .uses .now)) (a .twins .now) (c .before .before .before .before .before .before .before .before .before .before .before .before .before .pre) (a .stage) (length (a .out .now)) (c .before .before .before .before .before .before .before .if1 .left) (c .before .before .before .before .before .merge-faces .result) l (c .before .before .before .before .before .merge-faces .ensures) _ (lent-part 256 (a .c .faces) l e (L .faces)) (c .before .before .enum-told .given .1) (c .before .faces-of .result) (lent-long 256 (a .c .faces) l e (L .faces)) (c .before .faces-of .ensures))
 
 -- src/lib.rt:190:1
 returns-2 : tie.Need-returns-2
 returns-2 c = let a = c .before .before .before .before .before .before .before .before .before .before .before .before .args in
-    ends-refused (a .out .now) (merge-refused (a .job .now) (a .index .now) (a .c) (usesIn (a .uses .now)) (a .twins .now) (c .before .before .before .before .before .before .before .before .before .before .before .before .pre) (a .stage) (length (a .out .now)) (c .before .before .before .before .before .before .if1 .left) (c .before .before .before .before .merge-faces .result) (c .before .before .before .before .merge-faces .last .1 .1 .1 .1 .1 .0) (c .before .before .before .before .merge-faces .ensures) _ _ (c .before .r .given .1))
+    ends-refused _ (a .out .now) _ _ (merge-refused (a .job .now) (a .index .now) (a .c) (usesIn (a .uses .now)) (a .twins .now) (c .before .before .before .before .before .before .before .before .before .before .before .before .pre) (a .stage) (length (a .out .now)) (c .before .before .before .before .before .before .if1 .left) (c .before .before .before .before .merge-faces .result) (c .before .before .before .before .merge-faces .last .1 .1 .1 .1 .1 .0) (c .before .before .before .before .merge-faces .ensures) _ _ (c .before .r .given .1))
 
 -- src/lib.rt:190:1
 same-length-2 : tie.Need-same-length-2
@@ -90,9 +92,8 @@ returns-3 c = let a = c .before .before .before .before .before .before .before 
     let L = opened-limited (a .job .now) (a .index .now) (a .c) (c .before .before .before .before .before .before .before .before .before .before .before .before .before .before .before .before .pre .opened) in
     let l = c .before .before .before .before .before .before .before .before .merge-faces .last .1 .1 .1 .1 .1 .0 in
     let e = c .before .before .before .before .before .before .before .before .merge-faces .kept .1 .1 .1 .1 .1 .0 in
-    let G = grouped-from (a .job .now) (a .index .now) (a .c) (usesIn (a .uses .now)) (a .twins .now) (c .before .before .before .before .before .before .before .before .before .before .before .before .before .before .before .before .pre) (a .stage) (length (a .out .now)) (c .before .before .before .before .before .before .before .before .before .before .if1 .left) (c .before .before .before .before .before .before .before .before .merge-faces .result) l (c .before .before .before .before .before .before .before .before .merge-faces .ensures) _ (back-is (a .c .faces) 256 (L .faces) l e) (c .before .before .before .before .before .enum-told .given .1) (c .before .before .before .before .faces-of .result) (back-long (a .c .faces) 256 (L .faces) l e) (c .before .before .before .before .faces-of .ensures) in
-    ends-same (a .out .now) (c .before .before .on-merged .last .1 .1 .1 .1 .1 .1 .1 .0) (c .before .before .on-merged .result)
-    (merge-on (a .job .now) (a .index .now) (a .c) (usesIn (a .uses .now)) (a .twins .now) (c .before .before .before .before .before .before .before .before .before .before .before .before .before .before .before .before .pre) (a .stage) (length (a .out .now)) (c .before .before .before .before .before .before .before .before .before .before .if1 .left) (c .before .before .before .before .faces-of .result) G) (c .before .before .on-merged .ensures)
+    let G = grouped-from (a .job .now) (a .index .now) (a .c) (usesIn (a .uses .now)) (a .twins .now) (c .before .before .before .before .before .before .before .before .before .before .before .before .before .before .before .before .pre) (a .stage) (length (a .out .now)) (c .before .before .before .before .before .before .before .before .before .before .if1 .left) (c .before .before .before .before .before .before .before .before .merge-faces .result) l (c .before .before .before .before .before .before .before .before .merge-faces .ensures) _ (lent-part 256 (a .c .faces) l e (L .faces)) (c .before .before .before .before .before .enum-told .given .1) (c .before .before .before .before .faces-of .result) (lent-long 256 (a .c .faces) l e (L .faces)) (c .before .before .before .before .faces-of .ensures) in
+    ends-as _ _ (a .out .now) (c .before .before .on-merged .last .1 .1 .1 .1 .1 .1 .1 .0) (c .before .before .on-merged .result) (sym (merge-on (a .job .now) (a .index .now) (a .c) (usesIn (a .uses .now)) (a .twins .now) (c .before .before .before .before .before .before .before .before .before .before .before .before .before .before .before .before .pre) (a .stage) (length (a .out .now)) (c .before .before .before .before .before .before .before .before .before .before .if1 .left) (c .before .before .before .before .faces-of .result) G)) (c .before .before .on-merged .ensures)
 
 pub on-paired-spec : {M : Type 1} → statement M
 on-paired-spec =

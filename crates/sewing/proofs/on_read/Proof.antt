@@ -1,7 +1,9 @@
+use Rattle.progress.specs.Parts.{lent-cut, lent-part, lent-room, part-size, zeros, zeros-first}
+use Rattle.progress.specs.Endings.{ends-as, ends-refused}
 use mathlib.Core.List.{_++_}
 use lib.ListN.{drop}
-use Rattle.sewing.specs.StepLaws.{back-room, linked-back}
-use Rattle.sewing.specs.StepLaws.{ends-refused, ends-same, ends-staged, zeros, zeros-lent, lent-size, back-is, back-size, read-few, read-count, reading-asked, pairs-refused, pairs-made, pairs-on}
+use Rattle.sewing.specs.StepLaws.{linked-back}
+use Rattle.sewing.specs.StepLaws.{ends-staged, read-few, read-count, reading-asked, pairs-refused, pairs-made, pairs-on}
 use Rattle.progress.specs.KnownLaws.{opened-limited}
 use Rattle.rules.specs.Stage.{useFields}
 use Rattle.job.specs.Lists.{jobIn}
@@ -42,7 +44,7 @@ array-borrow-prefix-firsts c = opened-limited (c .before .before .before .before
 -- src/lib.rt:233:16
 slice-aggregate-link : tie.Need-slice-aggregate-link
 unfolding zeros
-slice-aggregate-link c = sym (lent-size (c .before .before .before .before .before .before .args .c .edges) 1024 (opened-limited (c .before .before .before .before .before .before .args .job .now) (c .before .before .before .before .before .before .args .index .now) (c .before .before .before .before .before .before .args .c) (c .before .before .before .before .before .before .pre .opened) .edges))
+slice-aggregate-link c = part-size (c .before .before .before .before .before .before .args .c .edges) 1024 (opened-limited (c .before .before .before .before .before .before .args .job .now) (c .before .before .before .before .before .before .args .index .now) (c .before .before .before .before .before .before .args .c) (c .before .before .before .before .before .before .pre .opened) .edges)
 
 -- src/lib.rt:233:40
 array-borrow-prefix-nexts : tie.Need-array-borrow-prefix-nexts
@@ -51,51 +53,51 @@ array-borrow-prefix-nexts c = opened-limited (c .before .before .before .before 
 -- src/lib.rt:233:40
 slice-aggregate-link-2 : tie.Need-slice-aggregate-link-2
 unfolding zeros
-slice-aggregate-link-2 c = sym (lent-size (c .before .before .before .before .before .before .before .args .c .uses) 2048 (opened-limited (c .before .before .before .before .before .before .before .args .job .now) (c .before .before .before .before .before .before .before .args .index .now) (c .before .before .before .before .before .before .before .args .c) (c .before .before .before .before .before .before .before .pre .opened) .uses))
+slice-aggregate-link-2 c = part-size (c .before .before .before .before .before .before .before .args .c .uses) 2048 (opened-limited (c .before .before .before .before .before .before .before .args .job .now) (c .before .before .before .before .before .before .before .args .index .now) (c .before .before .before .before .before .before .before .args .c) (c .before .before .before .before .before .before .before .pre .opened) .uses)
 
 -- src/lib.rt:233:5
 link-requires : tie.Need-link-requires
 unfolding zeros
 link-requires c κs = let a = c .before .before .before .before .before .before .before .args in
     let L = opened-limited (a .job .now) (a .index .now) (a .c) (c .before .before .before .before .before .before .before .pre .opened) in
-    let size = lent-size (a .c .uses) 2048 (L .uses) in
-    (zeros-lent (a .c .edges) 1024 (L .edges), size ∙ sym (read-count (a .job .now) (a .index .now) (a .c) (usesIn (a .uses .now)) (c .before .before .before .before .before .before .before .pre)), omega (arith, size, L .uses))
+    let size = sym (part-size (a .c .uses) 2048 (L .uses)) in
+    (zeros-first (a .c .edges) 1024 (L .edges), size ∙ sym (read-count (a .job .now) (a .index .now) (a .c) (usesIn (a .uses .now)) (c .before .before .before .before .before .before .before .pre)), omega (arith, size, L .uses))
 
 -- src/lib.rt:234:39
 array-share-prefix-firsts : tie.Need-array-share-prefix-firsts
 unfolding zeros
 array-share-prefix-firsts c = let a = c .before .before .before .before .before .before .before .before .before .before .args in
-    back-room (a .c .edges) 1024 (opened-limited (a .job .now) (a .index .now) (a .c) (c .before .before .before .before .before .before .before .before .before .before .pre .opened) .edges) (c .before .before .link .last .1 .0) (c .before .before .link .kept .1 .0)
+    lent-room 1024 (a .c .edges) (c .before .before .link .last .1 .0) (c .before .before .link .kept .1 .0) (opened-limited (a .job .now) (a .index .now) (a .c) (c .before .before .before .before .before .before .before .before .before .before .pre .opened) .edges)
 
 -- src/lib.rt:234:39
 slice-aggregate-pair : tie.Need-slice-aggregate-pair
 unfolding zeros
-slice-aggregate-pair c = sym (back-size (c .before .before .before .before .before .before .before .before .before .before .before .args .c .edges) 1024 (opened-limited (c .before .before .before .before .before .before .before .before .before .before .before .args .job .now) (c .before .before .before .before .before .before .before .before .before .before .before .args .index .now) (c .before .before .before .before .before .before .before .before .before .before .before .args .c) (c .before .before .before .before .before .before .before .before .before .before .before .pre .opened) .edges) (c .before .before .before .link .last .1 .0) (c .before .before .before .link .kept .1 .0))
+slice-aggregate-pair c = lent-cut 1024 (c .before .before .before .before .before .before .before .before .before .before .before .args .c .edges) (c .before .before .before .link .last .1 .0) (c .before .before .before .link .kept .1 .0) (opened-limited (c .before .before .before .before .before .before .before .before .before .before .before .args .job .now) (c .before .before .before .before .before .before .before .before .before .before .before .args .index .now) (c .before .before .before .before .before .before .before .before .before .before .before .args .c) (c .before .before .before .before .before .before .before .before .before .before .before .pre .opened) .edges)
 
 -- src/lib.rt:234:59
 array-share-prefix-nexts : tie.Need-array-share-prefix-nexts
 unfolding zeros
 array-share-prefix-nexts c = let a = c .before .before .before .before .before .before .before .before .before .before .before .args in
-    back-room (a .c .uses) 2048 (opened-limited (a .job .now) (a .index .now) (a .c) (c .before .before .before .before .before .before .before .before .before .before .before .pre .opened) .uses) (c .before .before .before .link .last .1 .1 .0) (c .before .before .before .link .kept .1 .1 .0)
+    lent-room 2048 (a .c .uses) (c .before .before .before .link .last .1 .1 .0) (c .before .before .before .link .kept .1 .1 .0) (opened-limited (a .job .now) (a .index .now) (a .c) (c .before .before .before .before .before .before .before .before .before .before .before .pre .opened) .uses)
 
 -- src/lib.rt:234:59
 slice-aggregate-pair-2 : tie.Need-slice-aggregate-pair-2
 unfolding zeros
-slice-aggregate-pair-2 c = sym (back-size (c .before .before .before .before .before .before .before .before .before .before .before .before .args .c .uses) 2048 (opened-limited (c .before .before .before .before .before .before .before .before .before .before .before .before .args .job .now) (c .before .before .before .before .before .before .before .before .before .before .before .before .args .index .now) (c .before .before .before .before .before .before .before .before .before .before .before .before .args .c) (c .before .before .before .before .before .before .before .before .before .before .before .before .pre .opened) .uses) (c .before .before .before .before .link .last .1 .1 .0) (c .before .before .before .before .link .kept .1 .1 .0))
+slice-aggregate-pair-2 c = lent-cut 2048 (c .before .before .before .before .before .before .before .before .before .before .before .before .args .c .uses) (c .before .before .before .before .link .last .1 .1 .0) (c .before .before .before .before .link .kept .1 .1 .0) (opened-limited (c .before .before .before .before .before .before .before .before .before .before .before .before .args .job .now) (c .before .before .before .before .before .before .before .before .before .before .before .before .args .index .now) (c .before .before .before .before .before .before .before .before .before .before .before .before .args .c) (c .before .before .before .before .before .before .before .before .before .before .before .before .pre .opened) .uses)
 
 -- src/lib.rt:234:9
 pair-requires : tie.Need-pair-requires
 unfolding zeros
 pair-requires c κs = let a = c .before .before .before .before .before .before .before .before .before .before .before .before .args in
     let L = opened-limited (a .job .now) (a .index .now) (a .c) (c .before .before .before .before .before .before .before .before .before .before .before .before .pre .opened) in
-    let firsts = back-is (a .c .edges) 1024 (L .edges) (c .before .before .before .before .link .last .1 .0) (c .before .before .before .before .link .kept .1 .0) in
-    let nexts = back-is (a .c .uses) 2048 (L .uses) (c .before .before .before .before .link .last .1 .1 .0) (c .before .before .before .before .link .kept .1 .1 .0) in
-    (c .before .before .before .before .before .before .before .before .before .before .before .before .pre .opened .indexed, linked-back (usesIn (a .uses .now)) (take (a .c .edges) (c .before .before .before .before .link .last .1 .0 ++ drop (a .c .edges) (zeros 1024))) (c .before .before .before .before .link .last .1 .0) (take (a .c .uses) (c .before .before .before .before .link .last .1 .1 .0 ++ drop (a .c .uses) (zeros 2048))) (c .before .before .before .before .link .last .1 .1 .0) firsts nexts (c .before .before .before .before .link .ensures), read-few (a .job .now) (a .index .now) (a .c) (usesIn (a .uses .now)) (c .before .before .before .before .before .before .before .before .before .before .before .before .pre), back-size (a .c .edges) 1024 (L .edges) (c .before .before .before .before .link .last .1 .0) (c .before .before .before .before .link .kept .1 .0), L .edges)
+    let firsts = lent-part 1024 (a .c .edges) (c .before .before .before .before .link .last .1 .0) (c .before .before .before .before .link .kept .1 .0) (L .edges) in
+    let nexts = lent-part 2048 (a .c .uses) (c .before .before .before .before .link .last .1 .1 .0) (c .before .before .before .before .link .kept .1 .1 .0) (L .uses) in
+    (c .before .before .before .before .before .before .before .before .before .before .before .before .pre .opened .indexed, linked-back (usesIn (a .uses .now)) (take (a .c .edges) (c .before .before .before .before .link .last .1 .0 ++ drop (a .c .edges) (zeros 1024))) (c .before .before .before .before .link .last .1 .0) (take (a .c .uses) (c .before .before .before .before .link .last .1 .1 .0 ++ drop (a .c .uses) (zeros 2048))) (c .before .before .before .before .link .last .1 .1 .0) firsts nexts (c .before .before .before .before .link .ensures), read-few (a .job .now) (a .index .now) (a .c) (usesIn (a .uses .now)) (c .before .before .before .before .before .before .before .before .before .before .before .before .pre), sym (lent-cut 1024 (a .c .edges) (c .before .before .before .before .link .last .1 .0) (c .before .before .before .before .link .kept .1 .0) (L .edges)), L .edges)
 
 -- src/lib.rt:236:9
 returns-2 : tie.Need-returns-2
 returns-2 c = let a = c .before .before .before .before .before .before .before .before .before .before .before .before .before .before .before .args in
-    ends-refused (a .out .now) (pairs-refused (a .job .now) (a .index .now) (a .c) (usesIn (a .uses .now)) (c .before .before .before .before .before .before .before .before .before .before .before .before .before .before .before .pre) (a .stage) (length (a .out .now)) (c .before .before .before .before .before .before .before .before .before .before .if1 .left) (c .before .before .pair .result) (c .before .before .pair .ensures .0) (c .if2 .taken))
+    ends-refused _ (a .out .now) _ _ (pairs-refused (a .job .now) (a .index .now) (a .c) (usesIn (a .uses .now)) (c .before .before .before .before .before .before .before .before .before .before .before .before .before .before .before .pre) (a .stage) (length (a .out .now)) (c .before .before .before .before .before .before .before .before .before .before .if1 .left) (c .before .before .pair .result) (c .before .before .pair .ensures .0) (c .if2 .taken))
 
 -- src/lib.rt:239:43
 array-share-prefix-twins : tie.Need-array-share-prefix-twins
@@ -119,8 +121,7 @@ same-length-2 c = search needs
 returns-3 : tie.Need-returns-3
 returns-3 c = let a = c .before .before .before .before .before .before .before .before .before .before .before .before .before .before .before .before .before .before .before .before .before .args in
     let P = pairs-made (a .job .now) (a .index .now) (a .c) (usesIn (a .uses .now)) (c .before .before .before .before .before .before .before .before .before .before .before .before .before .before .before .before .before .before .before .before .before .pre) (a .stage) (length (a .out .now)) (c .before .before .before .before .before .before .before .before .before .before .before .before .before .before .before .before .if1 .left) (c .before .before .before .before .before .before .before .before .pair .result) (c .before .before .before .before .before .before .before .before .pair .ensures .0) (c .before .before .before .before .before .before .if2 .left) in
-    ends-same (a .out .now) (c .before .before .on-paired .last .1 .1 .1 .1 .1 .1 .0) (c .before .before .on-paired .result)
-    (pairs-on (a .job .now) (a .index .now) (a .c) (usesIn (a .uses .now)) (c .before .before .before .before .before .before .before .before .before .before .before .before .before .before .before .before .before .before .before .before .before .pre) (a .stage) (length (a .out .now)) (c .before .before .before .before .before .before .before .before .before .before .before .before .before .before .before .before .if1 .left) (c .before .before .before .before .before .before .before .before .pair .result) (c .before .before .before .before .before .before .before .before .pair .ensures .0) (take (a .c .uses) (c .before .before .before .before .before .before .before .before .pair .result .twins)) P) (c .before .before .on-paired .ensures)
+    ends-as _ _ (a .out .now) (c .before .before .on-paired .last .1 .1 .1 .1 .1 .1 .0) (c .before .before .on-paired .result) (sym (pairs-on (a .job .now) (a .index .now) (a .c) (usesIn (a .uses .now)) (c .before .before .before .before .before .before .before .before .before .before .before .before .before .before .before .before .before .before .before .before .before .pre) (a .stage) (length (a .out .now)) (c .before .before .before .before .before .before .before .before .before .before .before .before .before .before .before .before .if1 .left) (c .before .before .before .before .before .before .before .before .pair .result) (c .before .before .before .before .before .before .before .before .pair .ensures .0) (take (a .c .uses) (c .before .before .before .before .before .before .before .before .pair .result .twins)) P)) (c .before .before .on-paired .ensures)
 
 pub on-read-spec : {M : Type 1} → statement M
 on-read-spec =

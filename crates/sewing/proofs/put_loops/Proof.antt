@@ -1,5 +1,6 @@
+use Rattle.progress.specs.Parts.{lent-cut, lent-part, lent-room, part-size, zeros}
 use Prim.Native.Nat.{_≤_}
-use Rattle.sewing.specs.StepLaws.{ends-staged, zeros, lent-size, back-is, back-size, back-room, following-back, loops-back}
+use Rattle.sewing.specs.StepLaws.{ends-staged, following-back, loops-back}
 use Rattle.stages_out.specs.Rows.{roundRows}
 use Rattle.progress.specs.Known.{numbersIn}
 use Rattle.rules.specs.Walk.{circuits, loopsOf}
@@ -26,7 +27,7 @@ array-borrow-prefix-ways c = c .before .before .before .before .before .pre .few
 -- src/lib.rt:66:34
 slice-aggregate-loops : tie.Need-slice-aggregate-loops
 unfolding zeros
-slice-aggregate-loops c = sym (lent-size (length (c .before .before .before .before .before .before .args .succ .now)) 2048 (c .before .before .before .before .before .before .pre .few))
+slice-aggregate-loops c = part-size (length (c .before .before .before .before .before .before .args .succ .now)) 2048 (c .before .before .before .before .before .before .pre .few)
 
 -- src/lib.rt:66:67
 mul-stretches : tie.Need-mul-stretches
@@ -39,12 +40,12 @@ array-borrow-prefix-stretches c = omega (arith, c .before .before .before .befor
 -- src/lib.rt:66:50
 slice-aggregate-loops-2 : tie.Need-slice-aggregate-loops-2
 unfolding zeros
-slice-aggregate-loops-2 c = sym (lent-size (2 * length (c .before .before .before .before .before .before .before .args .succ .now)) 4096 (omega (arith, c .before .before .before .before .before .before .before .pre .few)))
+slice-aggregate-loops-2 c = part-size (2 * length (c .before .before .before .before .before .before .before .args .succ .now)) 4096 (omega (arith, c .before .before .before .before .before .before .before .pre .few))
 
 -- src/lib.rt:66:9
 loops-requires : tie.Need-loops-requires
 unfolding zeros
-loops-requires c κs = (c .before .before .before .before .before .before .before .pre .permuted, c .before .before .before .before .before .before .before .pre .few, lent-size (length (c .before .before .before .before .before .before .before .args .succ .now)) 2048 (c .before .before .before .before .before .before .before .pre .few), lent-size (2 * length (c .before .before .before .before .before .before .before .args .succ .now)) 4096 (omega (arith, c .before .before .before .before .before .before .before .pre .few)))
+loops-requires c κs = (c .before .before .before .before .before .before .before .pre .permuted, c .before .before .before .before .before .before .before .pre .few, sym (part-size (length (c .before .before .before .before .before .before .before .args .succ .now)) 2048 (c .before .before .before .before .before .before .before .pre .few)), sym (part-size (2 * length (c .before .before .before .before .before .before .before .args .succ .now)) 4096 (omega (arith, c .before .before .before .before .before .before .before .pre .few))))
 
 -- src/lib.rt:69:9
 array-share-prefix-numbers : tie.Need-array-share-prefix-numbers
@@ -57,12 +58,12 @@ slice-aggregate-write-loops c = sym (length-take-le (c .before .before .before .
 -- src/lib.rt:70:9
 array-share-prefix-ways : tie.Need-array-share-prefix-ways
 unfolding zeros
-array-share-prefix-ways c = back-room (length (c .before .before .before .before .before .before .before .before .before .before .before .args .succ .now)) 2048 (c .before .before .before .before .before .before .before .before .before .before .before .pre .few) (c .before .before .before .loops .last .1 .1 .0) (c .before .before .before .loops .kept .1 .1 .0)
+array-share-prefix-ways c = lent-room 2048 (length (c .before .before .before .before .before .before .before .before .before .before .before .args .succ .now)) (c .before .before .before .loops .last .1 .1 .0) (c .before .before .before .loops .kept .1 .1 .0) (c .before .before .before .before .before .before .before .before .before .before .before .pre .few)
 
 -- src/lib.rt:70:9
 slice-aggregate-write-loops-2 : tie.Need-slice-aggregate-write-loops-2
 unfolding zeros
-slice-aggregate-write-loops-2 c = sym (back-size (length (c .before .before .before .before .before .before .before .before .before .before .before .before .args .succ .now)) 2048 (c .before .before .before .before .before .before .before .before .before .before .before .before .pre .few) (c .before .before .before .before .loops .last .1 .1 .0) (c .before .before .before .before .loops .kept .1 .1 .0))
+slice-aggregate-write-loops-2 c = lent-cut 2048 (length (c .before .before .before .before .before .before .before .before .before .before .before .before .args .succ .now)) (c .before .before .before .before .loops .last .1 .1 .0) (c .before .before .before .before .loops .kept .1 .1 .0) (c .before .before .before .before .before .before .before .before .before .before .before .before .pre .few)
 
 -- src/lib.rt:71:22
 mul-stretches-2 : tie.Need-mul-stretches-2
@@ -71,12 +72,12 @@ mul-stretches-2 c = omega (arith, c .before .before .before .before .before .bef
 -- src/lib.rt:71:9
 array-share-prefix-stretches : tie.Need-array-share-prefix-stretches
 unfolding zeros
-array-share-prefix-stretches c = back-room (2 * length (c .before .before .before .before .before .before .before .before .before .before .before .before .args .succ .now)) 4096 (omega (arith, c .before .before .before .before .before .before .before .before .before .before .before .before .pre .few)) (c .before .before .before .before .loops .last .1 .1 .1 .0) (c .before .before .before .before .loops .kept .1 .1 .1 .0)
+array-share-prefix-stretches c = lent-room 4096 (2 * length (c .before .before .before .before .before .before .before .before .before .before .before .before .args .succ .now)) (c .before .before .before .before .loops .last .1 .1 .1 .0) (c .before .before .before .before .loops .kept .1 .1 .1 .0) (omega (arith, c .before .before .before .before .before .before .before .before .before .before .before .before .pre .few))
 
 -- src/lib.rt:71:9
 slice-aggregate-write-loops-3 : tie.Need-slice-aggregate-write-loops-3
 unfolding zeros
-slice-aggregate-write-loops-3 c = sym (back-size (2 * length (c .before .before .before .before .before .before .before .before .before .before .before .before .before .args .succ .now)) 4096 (omega (arith, c .before .before .before .before .before .before .before .before .before .before .before .before .before .pre .few)) (c .before .before .before .before .before .loops .last .1 .1 .1 .0) (c .before .before .before .before .before .loops .kept .1 .1 .1 .0))
+slice-aggregate-write-loops-3 c = lent-cut 4096 (2 * length (c .before .before .before .before .before .before .before .before .before .before .before .before .before .args .succ .now)) (c .before .before .before .before .before .loops .last .1 .1 .1 .0) (c .before .before .before .before .before .loops .kept .1 .1 .1 .0) (omega (arith, c .before .before .before .before .before .before .before .before .before .before .before .before .before .pre .few))
 
 -- src/lib.rt:67:5
 write-loops-requires : tie.Need-write-loops-requires
@@ -85,9 +86,9 @@ write-loops-requires c κs = let n = length (c .before .before .before .before .
     let w = c .before .before .before .before .before .before .loops .last .1 .1 .0 in
     let s = c .before .before .before .before .before .before .loops .last .1 .1 .1 .0 in
     let long : 2 * n ≤ 4096 = omega (arith, c .before .before .before .before .before .before .before .before .before .before .before .before .before .before .pre .few) in
-    let ew = back-is n 2048 (c .before .before .before .before .before .before .before .before .before .before .before .before .before .before .pre .few) w (c .before .before .before .before .before .before .loops .kept .1 .1 .0) in
-    let es = back-is (2 * n) 4096 long s (c .before .before .before .before .before .before .loops .kept .1 .1 .1 .0) in
-    (following-back (c .before .before .before .before .before .before .loops .result) (take n (w ++ drop n (zeros 2048))) w (take (2 * n) (s ++ drop (2 * n) (zeros 4096))) s ew es (c .before .before .before .before .before .before .loops .ensures .2), omega (arith, c .before .before .before .before .before .before .loops .ensures .1, c .before .before .before .before .before .before .before .before .before .before .before .before .before .before .pre .few), omega (arith, back-size n 2048 (c .before .before .before .before .before .before .before .before .before .before .before .before .before .before .pre .few) w (c .before .before .before .before .before .before .loops .kept .1 .1 .0), c .before .before .before .before .before .before .before .before .before .before .before .before .before .before .pre .few))
+    let ew = lent-part 2048 n w (c .before .before .before .before .before .before .loops .kept .1 .1 .0) (c .before .before .before .before .before .before .before .before .before .before .before .before .before .before .pre .few) in
+    let es = lent-part 4096 (2 * n) s (c .before .before .before .before .before .before .loops .kept .1 .1 .1 .0) long in
+    (following-back (c .before .before .before .before .before .before .loops .result) (take n (w ++ drop n (zeros 2048))) w (take (2 * n) (s ++ drop (2 * n) (zeros 4096))) s ew es (c .before .before .before .before .before .before .loops .ensures .2), omega (arith, c .before .before .before .before .before .before .loops .ensures .1, c .before .before .before .before .before .before .before .before .before .before .before .before .before .before .pre .few), omega (arith, sym (lent-cut 2048 n w (c .before .before .before .before .before .before .loops .kept .1 .1 .0) (c .before .before .before .before .before .before .before .before .before .before .before .before .before .before .pre .few)), c .before .before .before .before .before .before .before .before .before .before .before .before .before .before .pre .few))
 
 -- src/lib.rt:51:1
 same-length : tie.Need-same-length
@@ -101,8 +102,8 @@ returns c = let a = c .before .before .before .before .before .before .before .b
     let w = c .before .before .before .before .before .before .before .before .before .loops .last .1 .1 .0 in
     let s = c .before .before .before .before .before .before .before .before .before .loops .last .1 .1 .1 .0 in
     let long : 2 * n ≤ 4096 = omega (arith, c .before .before .before .before .before .before .before .before .before .before .before .before .before .before .before .before .before .pre .few) in
-    let ew = back-is n 2048 (c .before .before .before .before .before .before .before .before .before .before .before .before .before .before .before .before .before .pre .few) w (c .before .before .before .before .before .before .before .before .before .loops .kept .1 .1 .0) in
-    let es = back-is (2 * n) 4096 long s (c .before .before .before .before .before .before .before .before .before .loops .kept .1 .1 .1 .0) in
+    let ew = lent-part 2048 n w (c .before .before .before .before .before .before .before .before .before .loops .kept .1 .1 .0) (c .before .before .before .before .before .before .before .before .before .before .before .before .before .before .before .before .before .pre .few) in
+    let es = lent-part 4096 (2 * n) s (c .before .before .before .before .before .before .before .before .before .loops .kept .1 .1 .1 .0) long in
     ends-staged (roundRows (usesIn (a .uses .now)) (numbersIn (a .c) (a .m)) (loopsIn (c .before .before .before .before .before .before .before .before .before .loops .result) (take n (w ++ drop n (zeros 2048))) (take (2 * n) (s ++ drop (2 * n) (zeros 4096))))) (roundRows (usesIn (a .uses .now)) (numbersIn (a .c) (a .m)) (loopsOf (circuits (a .removed .now) (a .succ .now)))) (a .out .now) (c .before .before .write-loops .last .1 .1 .1 .1 .1 .0) (c .before .before .write-loops .result)
     (ap (roundRows (usesIn (a .uses .now)) (numbersIn (a .c) (a .m))) (loops-back (c .before .before .before .before .before .before .before .before .before .loops .result) (take n (w ++ drop n (zeros 2048))) w (take (2 * n) (s ++ drop (2 * n) (zeros 4096))) s ew es ∙ c .before .before .before .before .before .before .before .before .before .loops .ensures .0)) refl (c .before .before .write-loops .ensures)
 

@@ -1,4 +1,6 @@
-use Rattle.sewing.specs.StepLaws.{ends-refused, ends-same, opened-from, load-refused, load-on}
+use mathlib.Core.Path.{sym}
+use Rattle.progress.specs.Endings.{ends-as, ends-refused}
+use Rattle.sewing.specs.StepLaws.{opened-from, load-refused, load-on}
 use borrow.Author.Needs.{needs}
 use Rattle.sewing.proofs.run.Statement.{statement}
 use Rattle.sewing.proofs.run.Tie as tie
@@ -33,7 +35,7 @@ on-loaded-requires c κs = (opened-from (c .before .before .before .before .befo
 
 -- src/lib.rt:253:1
 returns : tie.Need-returns
-returns c = ends-refused (c .before .before .before .before .before .before .before .before .args .out .now) (load-refused (c .before .before .before .before .before .before .before .before .args .job .now) (c .before .before .before .before .load .last .1 .0) (c .before .before .before .before .load .result) (c .before .before .before .before .before .before .before .before .args .stage) _ _ _ (c .before .before .before .before .load .ensures) (c .before .r .given .1))
+returns c = ends-refused _ (c .before .before .before .before .before .before .before .before .args .out .now) _ _ (load-refused (c .before .before .before .before .before .before .before .before .args .job .now) (c .before .before .before .before .load .last .1 .0) (c .before .before .before .before .load .result) (c .before .before .before .before .before .before .before .before .args .stage) _ _ _ (c .before .before .before .before .load .ensures) (c .before .r .given .1))
 
 -- src/lib.rt:253:1
 same-length : tie.Need-same-length
@@ -41,7 +43,7 @@ same-length c = search needs
 
 -- src/lib.rt:253:1
 returns-2 : tie.Need-returns-2
-returns-2 c = ends-same (c .before .before .before .before .before .before .before .before .before .before .before .before .before .args .out .now) (c .before .before .on-loaded .last .1 .1 .1 .1 .0) (c .before .before .on-loaded .result) (load-on (c .before .before .before .before .before .before .before .before .before .before .before .before .before .args .job .now) (c .before .before .before .before .before .before .before .before .before .load .last .1 .0) _ (c .before .before .before .before .before .before .before .before .before .before .before .before .before .args .stage) _ (opened-from (c .before .before .before .before .before .before .before .before .before .before .before .before .before .args .job .now) (c .before .before .before .before .before .before .before .before .before .load .last .1 .0) (c .before .before .before .before .before .before .before .before .before .load .result) _ (c .before .before .before .before .before .before .before .before .before .load .ensures) (c .before .before .before .before .before .before .r2 .given .1))) (c .before .before .on-loaded .ensures)
+returns-2 c = ends-as _ _ (c .before .before .before .before .before .before .before .before .before .before .before .before .before .args .out .now) (c .before .before .on-loaded .last .1 .1 .1 .1 .0) (c .before .before .on-loaded .result) (sym (load-on (c .before .before .before .before .before .before .before .before .before .before .before .before .before .args .job .now) (c .before .before .before .before .before .before .before .before .before .load .last .1 .0) _ (c .before .before .before .before .before .before .before .before .before .before .before .before .before .args .stage) _ (opened-from (c .before .before .before .before .before .before .before .before .before .before .before .before .before .args .job .now) (c .before .before .before .before .before .before .before .before .before .load .last .1 .0) (c .before .before .before .before .before .before .before .before .before .load .result) _ (c .before .before .before .before .before .before .before .before .before .load .ensures) (c .before .before .before .before .before .before .r2 .given .1)))) (c .before .before .on-loaded .ensures)
 
 pub run-spec : {M : Type 1} → statement M
 run-spec =

@@ -1,4 +1,5 @@
-use Rattle.sewing.specs.StepLaws.{ends-refused, ends-same, opened-from, sew-refused}
+use Rattle.progress.specs.Endings.{ends-as, ends-refused}
+use Rattle.sewing.specs.StepLaws.{opened-from, sew-refused}
 use Rattle.theorems.specs.Assembly.{demand3}
 use Rattle.progress.specs.StageLaws.{stage-body}
 use Rattle.rules.specs.Rules.{fullTable}
@@ -38,7 +39,7 @@ sew-loaded-requires c κs = opened-from (c .before .before .before .before .befo
 
 -- src/lib.rt:415:1
 returns : tie.Need-returns
-returns c = (ends-refused (c .before .before .before .before .before .before .before .before .args .out .now) (sym (stage-body (c .before .before .before .before .before .before .before .before .args .job .now) (length (c .before .before .before .before .before .before .before .before .args .out .now))) ∙ sew-refused (c .before .before .before .before .before .before .before .before .args .job .now) (c .before .before .before .before .load .last .1 .0) (c .before .before .before .before .load .result) _ _ _ (c .before .before .before .before .load .ensures) (c .before .r .given .1)), demand3 fullTable (c .before .before .before .before .before .before .before .before .args .job .now))
+returns c = (ends-refused _ (c .before .before .before .before .before .before .before .before .args .out .now) _ _ (sym (stage-body (c .before .before .before .before .before .before .before .before .args .job .now) (length (c .before .before .before .before .before .before .before .before .args .out .now))) ∙ sew-refused (c .before .before .before .before .before .before .before .before .args .job .now) (c .before .before .before .before .load .last .1 .0) (c .before .before .before .before .load .result) _ _ _ (c .before .before .before .before .load .ensures) (c .before .r .given .1)), demand3 fullTable (c .before .before .before .before .before .before .before .before .args .job .now))
 
 -- src/lib.rt:415:1
 same-length : tie.Need-same-length
@@ -46,7 +47,7 @@ same-length c = search needs
 
 -- src/lib.rt:415:1
 returns-2 : tie.Need-returns-2
-returns-2 c = (ends-same (c .before .before .before .before .before .before .before .before .before .before .before .before .before .args .out .now) (c .before .before .sew-loaded .last .1 .1 .1 .0) (c .before .before .sew-loaded .result) (stage-body (c .before .before .before .before .before .before .before .before .before .before .before .before .before .args .job .now) (length (c .before .before .before .before .before .before .before .before .before .before .before .before .before .args .out .now))) (c .before .before .sew-loaded .ensures), demand3 fullTable (c .before .before .before .before .before .before .before .before .before .before .before .before .before .args .job .now))
+returns-2 c = (ends-as _ _ (c .before .before .before .before .before .before .before .before .before .before .before .before .before .args .out .now) (c .before .before .sew-loaded .last .1 .1 .1 .0) (c .before .before .sew-loaded .result) (sym (stage-body (c .before .before .before .before .before .before .before .before .before .before .before .before .before .args .job .now) (length (c .before .before .before .before .before .before .before .before .before .before .before .before .before .args .out .now)))) (c .before .before .sew-loaded .ensures), demand3 fullTable (c .before .before .before .before .before .before .before .before .before .before .before .before .before .args .job .now))
 
 pub sew-spec : {M : Type 1} → statement M
 sew-spec =

@@ -1,5 +1,7 @@
+use mathlib.Core.Path.{sym}
+use Rattle.progress.specs.Endings.{ends-as}
 use Rattle.progress.specs.StageLaws.{stage-walk}
-use Rattle.sewing.specs.StepLaws.{ends-same, promised}
+use Rattle.sewing.specs.StepLaws.{promised}
 use lib.ListN.{length}
 use borrow.Author.Needs.{needs}
 use Rattle.sewing.proofs.walk_stage.Statement.{statement}
@@ -18,7 +20,7 @@ same-length c = search needs
 
 -- src/lib.rt:294:1
 returns : tie.Need-returns
-returns c = (ends-same (c .before .before .before .before .before .before .args .out .now) (c .before .before .run .last .1 .1 .0) (c .before .before .run .result) (stage-walk (c .before .before .before .before .before .before .args .job .now) (length (c .before .before .before .before .before .before .args .out .now))) (c .before .before .run .ensures), promised (c .before .before .before .before .before .before .args .job .now))
+returns c = (ends-as _ _ (c .before .before .before .before .before .before .args .out .now) (c .before .before .run .last .1 .1 .0) (c .before .before .run .result) (sym (stage-walk (c .before .before .before .before .before .before .args .job .now) (length (c .before .before .before .before .before .before .args .out .now)))) (c .before .before .run .ensures), promised (c .before .before .before .before .before .before .args .job .now))
 
 pub walk-stage-spec : {M : Type 1} → statement M
 walk-stage-spec = tie.close (tie.spec run-requires same-length returns)

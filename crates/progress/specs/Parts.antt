@@ -4,7 +4,7 @@ use native.Mathlib.Omega.{arith}
 use mathlib.Core.Path.{_≡_, refl, sym, ap, _∙_}
 use mathlib.Core.List.{List, _∷_, _++_}
 use lib.ListN.{length, getD, take, drop, replicate, length-replicate, length-append}
-use lib.Seq.{length-take-le, take-at, take-append-le}
+use lib.Seq.{length-take-le, length-front, take-at, take-append-le}
 use Rattle.lists.specs.Constants.{getD-constant}
 
 -- a table of zeros
@@ -39,7 +39,7 @@ pub part-at : (n size i : ℕ) → n ≤ size → getD (take n (zeros size)) i 0
 part-at n size i h = ap (λ l. getD l i 0) (zeros-part n size h) ∙ zeros-at n i
 
 -- the first n entries of a table were lent and are l now
-pub cut-back : (n : ℕ) (t l : List ℕ) → n ≤ length t → length l ≡ length (take n t) → take n (l ++ drop n t) ≡ l
+pub cut-back : {A : Type 0} (n : ℕ) (t l : List A) → n ≤ length t → length l ≡ length (take n t) → take n (l ++ drop n t) ≡ l
 cut-back n t l h e = take-at l (drop n t) n (e ∙ length-take-le n t h)
 
 -- those of a table of zeros
@@ -56,6 +56,9 @@ module _ (size n : ℕ) (l : List ℕ) (e : length l ≡ length (take n (zeros s
   -- it can be cut again
   pub lent-room : n ≤ length (l ++ drop n (zeros size))
   lent-room = omega (arith, lent-size, length-append l (drop n (zeros size)))
+
+  pub lent-long : length (l ++ drop n (zeros size)) ≡ size
+  lent-long = length-front (zeros size) l n e ∙ zeros-size size
 
   pub lent-cut : n ≡ length (take n (l ++ drop n (zeros size)))
   lent-cut = sym (length-take-le n (l ++ drop n (zeros size)) lent-room)
