@@ -1,0 +1,69 @@
+-- What a caller in another language is told of an outcome: numbers, and the output.
+use Prim.Native.Nat.{ℕ, _+_, _≤_}
+use mathlib.Core.Path.{_≡_}
+use mathlib.Core.List.{List}
+use mathlib.Core.Bool.{cond}
+use lib.ListN.{length}
+use lib.Dec.{eqb}
+use Rattle.rules.specs.declared.Ending.{Ending}
+use Rattle.rules.specs.declared.Ending.the-variants.{Written, Refused}
+use Rattle.rules.specs.Outcome.{Outcome, ok, refuse}
+use Rattle.rules.specs.Job.{Stretch}
+use Rattle.rules.specs.Sew.{written}
+
+-- ENDINGS
+
+-- the answer's number: 0 for success, else the refusal's
+abbrev pub endNumber : Ending → ℕ
+endNumber (Written n) = 0
+endNumber (Refused number place) = number
+
+-- the value beside it: the bytes written, or the refusal's place
+abbrev pub endValue : Ending → ℕ
+endValue (Written n) = n
+endValue (Refused number place) = place
+
+-- the ending that was told by these two
+abbrev pub endingOf : ℕ → ℕ → Ending
+endingOf number value = cond (eqb number 0) (Written value) (Refused number value)
+
+-- OUTCOMES
+
+-- Endings: 0 for success, a refusal gives its number
+abbrev pub numberOf : Outcome (List ℕ) → ℕ
+numberOf (ok bytes) = 0
+numberOf (refuse number place) = number
+
+-- Endings: success gives the bytes written, a refusal one place
+abbrev pub valueOf : Outcome (List ℕ) → ℕ
+valueOf (ok bytes) = length bytes
+valueOf (refuse number place) = place
+
+-- an operation that found this outcome answers this number, and leaves this output and this value
+abbrev pub Tells : Outcome (List ℕ) → List ℕ → List ℕ → ℕ → ℕ → Type 0
+Tells o before after value number = (number ≡ numberOf o) × (value ≡ valueOf o) × (after ≡ written o before)
+
+-- THE LOOP REQUEST
+
+abbrev pub loopNumber : Outcome Stretch → ℕ
+loopNumber (ok s) = 0
+loopNumber (refuse number place) = number
+
+-- where the payload begins in the job; 0 for a refusal
+abbrev pub loopStart : Outcome Stretch → ℕ
+loopStart (ok s) = s .start
+loopStart (refuse number place) = 0
+
+-- how many bytes it has; a refusal's place
+abbrev pub loopValue : Outcome Stretch → ℕ
+loopValue (ok s) = s .size
+loopValue (refuse number place) = place
+
+-- the stretch ends within the job
+abbrev pub Inside : List ℕ → Outcome Stretch → Type 0
+Inside job (ok s) = s .start + s .size ≤ length job
+Inside job (refuse number place) = Unit {0}
+
+-- a request that found this stretch answers this number, and leaves this start and this value
+abbrev pub TellsLoop : Outcome Stretch → ℕ → ℕ → ℕ → Type 0
+TellsLoop o start value number = (number ≡ loopNumber o) × (start ≡ loopStart o) × (value ≡ loopValue o)

@@ -1,0 +1,56 @@
+-- What is told follows from the ending.
+use Prim.Native.Nat.{ℕ, _-_, _<_}
+use native.Mathlib.Omega.{arith}
+use mathlib.Core.Path.{_≡_, refl, sym, ap, _∙_, subst}
+use mathlib.Core.List.{List}
+use mathlib.Core.Bool.{cond}
+use lib.ListN.{length, take, length-take}
+use borrow.Author.Tests.{eq-eqb, ne-eqb}
+use Rattle.rules.specs.declared.Ending.{Ending}
+use Rattle.rules.specs.declared.Ending.the-variants.{Written, Refused as Stopped}
+use Rattle.rules.specs.Outcome.{Outcome, ok, refuse}
+use Rattle.rules.specs.Job.{Stretch}
+use Rattle.rules.specs.Sew.{ended, Ends}
+use Rattle.load.specs.declared.Stretched.{Stretched}
+use Rattle.load.specs.declared.Stretched.the-variants.{Refused, At}
+use Rattle.rules.specs.Listing.{listingOf}
+use Rattle.load.specs.Stretches.{stretchOf, Within}
+use Rattle.fields.specs.Wrote.{Wrote}
+use Rattle.lines.specs.Text.{recorded}
+use Rattle.sewing_c.specs.Told.{endNumber, endValue, endingOf, numberOf, valueOf, Tells, Inside, TellsLoop}
+
+number-is : (o : Outcome (List ℕ)) → endNumber (ended o) ≡ numberOf o
+number-is (ok bytes) = refl
+number-is (refuse number place) = refl
+
+value-is : (o : Outcome (List ℕ)) → endValue (ended o) ≡ valueOf o
+value-is (ok bytes) = refl
+value-is (refuse number place) = refl
+
+-- an operation's ending, told
+pub told : (o : Outcome (List ℕ)) (before after : List ℕ) (e : Ending) (number value : ℕ) → Ends o before after e → (number ≡ endNumber e) × (value ≡ endValue e) → Tells o before after value number
+told o before after e number value E t = (t .0 ∙ ap endNumber (E .0) ∙ number-is o, t .1 ∙ ap endValue (E .0) ∙ value-is o, E .1)
+
+-- an ending by what was told
+pub ending-written : (number value : ℕ) → number ≡ 0 → Written value ≡ endingOf number value
+ending-written number value e = sym (ap (λ t. cond t (Written value) (Stopped number value)) (eq-eqb number 0 e))
+
+pub ending-refused : (number value : ℕ) → (number ≡ 0 → ⊥) → Stopped number value ≡ endingOf number value
+ending-refused number value n = sym (ap (λ t. cond t (Written value) (Stopped number value)) (ne-eqb number 0 n))
+
+-- a request's stretch, told
+pub loop-refused : (job : List ℕ) (o : Outcome Stretch) (r : Stretched) (n p : ℕ) → stretchOf r ≡ o → r ≡ Refused n p → TellsLoop o 0 p n × Inside job o
+loop-refused job o r n p e q = subst (λ x. TellsLoop x 0 p n × Inside job x) (sym (ap stretchOf q) ∙ e) ((refl, refl, refl), tt)
+
+pub loop-told : (job : List ℕ) (o : Outcome Stretch) (r : Stretched) (a z : ℕ) → stretchOf r ≡ o → Within job r → r ≡ At a z → TellsLoop o a (z - a) 0 × Inside job o
+loop-told job o r a z e w q =
+    let h = subst (Within job) q w in
+    subst (λ x. TellsLoop x a (z - a) 0 × Inside job x) (sym (ap stretchOf q) ∙ e) ((refl, refl, refl), omega (arith, h .0, h .1))
+
+-- the first bytes of a body are few
+pub few-bytes : (out body : List ℕ) → body ≡ take 4294967295 out → length body < 4294967296
+few-bytes out body e = omega (arith, ap length e ∙ length-take 4294967295 out)
+
+-- the listing by what was told
+pub listed : (page after out body : List ℕ) (e told : Ending) (n : ℕ) → body ≡ out → told ≡ e → Wrote page 0 (listingOf (recorded body told)) after n → Wrote page 0 (listingOf (recorded out e)) after n
+listed page after out body e told n p q w = subst (λ x. Wrote page 0 (listingOf (recorded x e)) after n) p (subst (λ x. Wrote page 0 (listingOf (recorded body x)) after n) q w)
