@@ -107,8 +107,9 @@ static void test_loops(const uint8_t *job, size_t length)
     size_t value = 77;
     for (size_t n = 0; n < 3; n++) {
         size_t number = zaxclover_loop(job, length, n, &start, &value);
-        expect(number == ZAXCLOVER_DONE && value == 16 && start + value <= length, "loop", "a loop of P9");
-        expect(job[start - 2] == ZAXCLOVER_LOOP, "loop", "the payload of a loop's record");
+        int found = number == ZAXCLOVER_DONE && value == 16 && start >= 6 && start + value <= length;
+        expect(found, "loop", "a loop of P9");
+        expect(found && job[start - 2] == ZAXCLOVER_LOOP, "loop", "the payload of a loop's record");
     }
     size_t number = zaxclover_loop(job, length, 3, &start, &value);
     expect(number == ZAXCLOVER_WRONG_FIELD && value == 3 && start == 0, "loop", "a number too high");
