@@ -24,7 +24,9 @@ pub fn bench(args: &Args) -> Result<(), Failed> {
             Some(name) => {
                 let other = program_time(name, &job)?;
                 let times = ours / other;
-                say!("{shown}: {ours:.1} microseconds, {name} {other:.1} ({times:.1} times as fast; {ending})");
+                say!(
+                    "{shown}: {ours:.1} microseconds, {name} {other:.1} ({times:.1} times as fast; {ending})"
+                );
             }
         }
     }
@@ -68,7 +70,12 @@ fn one_run(name: &str, rounds: u32, job: &[u8]) -> Result<Duration, Failed> {
         .stdout(Stdio::null())
         .spawn()
         .map_err(said)?;
-    child.stdin.take().expect("it is piped").write_all(job).map_err(said)?;
+    child
+        .stdin
+        .take()
+        .expect("it is piped")
+        .write_all(job)
+        .map_err(said)?;
     let status = child.wait().map_err(said)?;
     if !status.success() {
         return Err(format!("{name}: {status}"));

@@ -1,5 +1,6 @@
 //! Arguments, files and errors of the commands.
 
+use job_text::Wrong;
 use std::path::{Path, PathBuf};
 
 /// A command's failure in one line.
@@ -85,10 +86,11 @@ pub fn read_job(path: &Path) -> Result<Vec<u8>, Failed> {
     match extension(path) {
         "job" => Ok(bytes),
         "txt" => {
-            let text = String::from_utf8(bytes);
-            let text = text.map_err(|_| format!("{}: not text", path.display()))?;
-            let job = crate::text::job_of_text(&text);
-            job.map_err(|error| format!("{}: {error}", path.display()))
+            let first = |wrong: Vec<Wrong>| {
+                let Wrong { line, reason } = &wrong[0];
+                format!("{}:{line}: {reason}", path.display())
+            };
+            job_text::assemble(&bytes).map_err(first)
         }
         _ => Err(format!("{}: not a job (.job or .txt)", path.display())),
     }

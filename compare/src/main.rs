@@ -8,7 +8,6 @@ mod features;
 mod generate;
 mod parts;
 mod program;
-mod records;
 mod run;
 mod second;
 mod summary;
@@ -20,14 +19,13 @@ mod vectors;
 mod tests;
 
 use cli::{Args, Failed, say};
+use job_text::records;
 use std::io::Write;
 
 const USAGE: &str = "\
 usage: judge run --seed S --jobs N
        judge parts PATH..
        judge answer STAGE [--room N] < job      (STAGE: sew, a stage, loop N)
-       judge job < text > job
-       judge text < job > text
        judge make --seed S --job I > job
        judge vectors --seed S OUT
        judge table --seed S OUT
@@ -58,8 +56,6 @@ fn obey(command: &str, rest: &[String]) -> Result<bool, Failed> {
         "run" => run_jobs(&Args::parse(rest, &["seed", "jobs"])?),
         "parts" => parts::parts(&Args::parse(rest, &[])?.others),
         "answer" => print_answer(&Args::parse(rest, &["room"])?),
-        "job" => print_job(&Args::parse(rest, &[])?),
-        "text" => print_text(&Args::parse(rest, &[])?),
         "make" => print_generated(&Args::parse(rest, &["seed", "job"])?),
         "vectors" => write_vectors(&Args::parse(rest, &["seed"])?),
         "table" => write_table(&Args::parse(rest, &["seed"])?),
@@ -83,18 +79,6 @@ fn print_answer(args: &Args) -> Result<bool, Failed> {
     let room = args.number("room")?.unwrap_or(compare::ROOM as u64);
     let job = cli::read_input()?;
     print(answer::answer(&job, wanted, room as usize).as_bytes())
-}
-
-fn print_job(args: &Args) -> Result<bool, Failed> {
-    args.no_others()?;
-    let text = String::from_utf8(cli::read_input()?);
-    let text = text.map_err(|_| "standard input: not text".to_string())?;
-    print(&text::job_of_text(&text)?)
-}
-
-fn print_text(args: &Args) -> Result<bool, Failed> {
-    args.no_others()?;
-    print(text::text_of_job(&cli::read_input()?).as_bytes())
 }
 
 fn print_generated(args: &Args) -> Result<bool, Failed> {

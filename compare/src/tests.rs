@@ -5,7 +5,7 @@ use crate::answer::{Wanted, answer};
 use crate::compare::{ROOM, compare};
 use crate::generate::rng::Rng;
 use crate::generate::{self, Sample, limits};
-use crate::{run, second, text};
+use crate::{run, second, text, vectors};
 
 /// The part's bytes and the lines marked `#>` in its file.
 fn part(number: usize) -> (Vec<u8>, String) {
@@ -13,10 +13,8 @@ fn part(number: usize) -> (Vec<u8>, String) {
     let file = std::fs::read_to_string(path).expect("the part is there");
     let marked = file.lines().filter_map(|line| line.strip_prefix("#> "));
     let expected = marked.map(|line| format!("{line}\n")).collect();
-    (
-        text::job_of_text(&file).expect("the part is readable"),
-        expected,
-    )
+    let job = job_text::assemble(file.as_bytes()).expect("the part is readable");
+    (job, expected)
 }
 
 /// The second implementation's listing or refusal.
@@ -83,25 +81,20 @@ fn parts_have_the_lines_of_the_paper() {
     assert_eq!([count(3, "face"), count(3, "loop")], [1, 0]);
 }
 
+/// The text form gives every stored job back, damaged ones too.
 #[test]
-fn text_and_bytes_turn_into_each_other() {
-    for number in 1..=9 {
-        let (job, _) = part(number);
-        assert_eq!(text::job_of_text(&text::text_of_job(&job)), Ok(job));
+fn stored_jobs_come_back_from_their_text() {
+    let path = format!(
+        "{}/../crates/replay/data/vectors",
+        env!("CARGO_MANIFEST_DIR")
+    );
+    let packed = std::fs::read(path).expect("the vectors are there");
+    let jobs = vectors::jobs_of(&packed).expect("they are packed");
+    assert_eq!(jobs.len(), 610);
+    for job in jobs {
+        let text = job_text::show(&job);
+        assert_eq!(job_text::assemble(text.as_bytes()), Ok(job));
     }
-}
-
-#[test]
-fn a_damaged_tail_is_a_comment() {
-    let (mut job, _) = part(2);
-    let length = job.len();
-    job.extend([4, 0, 0, 0, 8, 0, 1]);
-    let text = text::text_of_job(&job);
-    let last = text.lines().last().map(str::to_string);
-    let comment = format!("# damaged from byte {length} on: 04 00 00 00 08 00 01");
-    assert_eq!(last, Some(comment));
-    job.truncate(length);
-    assert_eq!(text::job_of_text(&text), Ok(job));
 }
 
 #[test]

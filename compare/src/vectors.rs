@@ -6,7 +6,6 @@ use crate::generate::rng::Rng;
 use crate::generate::{self, CLASSES, Sample, limits};
 use crate::run::judge;
 use crate::second::{self, Refusal, Stage, Trail};
-use crate::text;
 use std::collections::{BTreeMap, BTreeSet};
 
 /// Bytes the file may have at most.
@@ -46,7 +45,8 @@ pub struct Packed {
 pub fn vectors(seed: u64) -> Result<Packed, Failed> {
     let mut jobs: Vec<(Vec<u8>, usize)> = Vec::new();
     for part in PARTS {
-        jobs.push((text::job_of_text(part)?, ROOM));
+        let job = job_text::assemble(part.as_bytes());
+        jobs.push((job.map_err(|_| "a part is wrong")?, ROOM));
     }
     let mut met = BTreeSet::new();
     drawn_jobs(seed, &mut jobs, &mut met)?;

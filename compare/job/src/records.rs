@@ -44,7 +44,8 @@ pub fn split(bytes: &[u8]) -> (Vec<Record>, usize) {
     (records, at)
 }
 
-fn one(bytes: &[u8], at: usize) -> Option<(Record, usize)> {
+/// The record of whole fields at a byte, and where it ends.
+pub fn one(bytes: &[u8], at: usize) -> Option<(Record, usize)> {
     let header = bytes.get(at..at + HEADER)?;
     let length = u32::from_le_bytes([header[0], header[1], header[2], header[3]]) as usize;
     let kind = u16::from_le_bytes([header[4], header[5]]);
