@@ -67,7 +67,7 @@ fn compare_loaded(bytes: &[u8], job: &Job, room: usize) -> Compared {
 }
 
 /// 40 has no counterpart either, but its condition can be told.
-fn in_room(body: Result<Vec<u8>, Ending>, room: usize) -> Result<Vec<u8>, Ending> {
+pub fn in_room(body: Result<Vec<u8>, Ending>, room: usize) -> Result<Vec<u8>, Ending> {
     let body = body?;
     if body.len() > room {
         return Err((40, body.len() as u32));

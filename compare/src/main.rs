@@ -20,11 +20,12 @@ mod tests;
 
 use cli::{Args, Failed, say};
 use job_text::records;
+use std::ffi::OsString;
 use std::io::Write;
 
 const USAGE: &str = "\
 usage: judge run --seed S --jobs N
-       judge parts PATH..
+       judge parts DIR [--csv FILE] [--html FILE]
        judge answer STAGE [--room N] < job      (STAGE: sew, a stage, loop N)
        judge make --seed S --job I > job
        judge vectors --seed S OUT
@@ -34,12 +35,16 @@ usage: judge run --seed S --jobs N
        judge bench [--program PATH] FILE..";
 
 fn main() {
-    let args: Vec<String> = std::env::args().skip(1).collect();
+    let args: Vec<OsString> = std::env::args_os().skip(1).collect();
     let Some((command, rest)) = args.split_first() else {
         eprintln!("{USAGE}");
         std::process::exit(2);
     };
-    let status = match obey(command, rest) {
+    let done = match command.to_str() {
+        Some("parts") => parts::parts(rest),
+        _ => words(&args).and_then(|words| obey(&words[0], &words[1..])),
+    };
+    let status = match done {
         Ok(true) => 0,
         Ok(false) => 1,
         Err(line) => {
@@ -50,11 +55,19 @@ fn main() {
     std::process::exit(status);
 }
 
+/// Arguments that must be text.
+fn words(args: &[OsString]) -> Result<Vec<String>, Failed> {
+    let word = |arg: &OsString| {
+        let text = arg.to_str().map(str::to_string);
+        text.ok_or(format!("{}: not text in UTF-8", arg.display()))
+    };
+    args.iter().map(word).collect()
+}
+
 /// Carries out a command; false if something disagreed.
 fn obey(command: &str, rest: &[String]) -> Result<bool, Failed> {
     match command {
         "run" => run_jobs(&Args::parse(rest, &["seed", "jobs"])?),
-        "parts" => parts::parts(&Args::parse(rest, &[])?.others),
         "answer" => print_answer(&Args::parse(rest, &["room"])?),
         "make" => print_generated(&Args::parse(rest, &["seed", "job"])?),
         "vectors" => write_vectors(&Args::parse(rest, &["seed"])?),
