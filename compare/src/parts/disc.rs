@@ -63,7 +63,8 @@ pub fn disc(face: usize, loops: usize, unlike: bool) -> String {
     let inside = if loops <= MOST_HOLES + 1 {
         format!("<use href=\"#l{loops}\"/>")
     } else {
-        format!("<use href=\"#ln\"/><text x=\"10\" y=\"10\">{loops}</text>")
+        let size = if loops < 100 { 10 } else { 7 };
+        format!("<use href=\"#ln\"/><text x=\"10\" y=\"10\" font-size=\"{size}\">{loops}</text>")
     };
     format!("<svg class=\"{class}\" viewBox=\"0 0 20 20\">{title}{inside}</svg>")
 }

@@ -88,9 +88,9 @@ fn tiles(run: &Run, totals: &Totals) -> String {
         ("odd files", "odd", run.odd.len()),
     ];
     let tile = |(name, section, number): (&str, &str, usize)| {
-        let name = match section {
-            "" => name.to_string(),
-            id => format!("<a href=\"#{id}\">{name}</a>"),
+        let name = match (section, number) {
+            ("", _) | (_, 0) => name.to_string(),
+            (id, _) => format!("<a href=\"#{id}\">{name}</a>"),
         };
         format!("<div><dt>{name}</dt><dd>{number}</dd></div>")
     };

@@ -47,6 +47,24 @@ impl Run {
 
 pub fn run(found: Vec<Found>, programs: &Programs) -> Run {
     let started = std::time::Instant::now();
+    let mut run = Run {
+        tested: programs.name,
+        parts: Vec::new(),
+        odd: Vec::new(),
+        seconds: 0.0,
+    };
+    for result in all(&found, programs) {
+        match result {
+            Ok(part) => run.parts.push(part),
+            Err(odd) => run.odd.push(odd),
+        }
+    }
+    run.seconds = started.elapsed().as_secs_f64();
+    run
+}
+
+/// What each file gives, in the order of the files.
+fn all(found: &[Found], programs: &Programs) -> Vec<Result<Part, Odd>> {
     let next = AtomicUsize::new(0);
     let progress = Mutex::new(Progress::new(found.len()));
     let results = Mutex::new(Vec::new());
@@ -72,19 +90,7 @@ pub fn run(found: Vec<Found>, programs: &Programs) -> Run {
     progress.into_inner().expect("no worker stopped").end();
     let mut results = results.into_inner().expect("no worker stopped");
     results.sort_by_key(|(index, _)| *index);
-    let mut run = Run {
-        tested: programs.name,
-        parts: Vec::new(),
-        odd: Vec::new(),
-        seconds: started.elapsed().as_secs_f64(),
-    };
-    for (_, result) in results {
-        match result {
-            Ok(part) => run.parts.push(part),
-            Err(odd) => run.odd.push(odd),
-        }
-    }
-    run
+    results.into_iter().map(|(_, result)| result).collect()
 }
 
 fn one(number: usize, file: &Found, programs: &Programs) -> Result<Part, Odd> {
