@@ -5,6 +5,7 @@ ghost use Prim.Native.Nat.{_+_, _*_, _<_, _^_};
 ghost use mathlib.Core.List.{_++_};
 ghost use mathlib.Core.Bool.{false};
 ghost use lib.ListN.{length, getD, set};
+ghost use lib.Seq.{sets};
 ghost use Rattle.rules.specs.Fields.{le16, le32, bytes16, bytes32, fieldBytes};
 ghost use Rattle.fields.specs.Wrote.{Wrote};
 
@@ -43,11 +44,26 @@ pub fn half(s: &[u8], at: usize) -> usize
     a + 256 * b
 }
 
+// A four-byte field that lies inside: its bytes need no test each, so it is read at once.
+fn whole_word(s: &[u8], at: usize) -> usize
+    requires { ⌜ (at < 2 ^ 60) × (at + 3 < length (now s)) ⌝ }
+    ensures { λ r. ⌜ (r ≡ le32 (now (s .entry)) at) × (r < 4294967296) ⌝ }
+{
+    let low = wide(s[at]);
+    let second = wide(s[at + 1]);
+    let third = wide(s[at + 2]);
+    let high = wide(s[at + 3]);
+    low + 256 * second + 65536 * third + 16777216 * high
+}
+
 // The four-byte field at a place.
 pub fn word(s: &[u8], at: usize) -> usize
     requires { ⌜ at < 2 ^ 60 ⌝ }
     ensures { λ r. ⌜ (r ≡ le32 (now (s .entry)) at) × (r < 4294967296) ⌝ }
 {
+    if at + 3 < s.len() {
+        return whole_word(s, at);
+    }
     let a = byte(s, at);
     let b = byte(s, at + 1);
     let c = byte(s, at + 2);
@@ -55,11 +71,33 @@ pub fn word(s: &[u8], at: usize) -> usize
     a + 256 * b + 65536 * c + 16777216 * d
 }
 
+// A number as four bytes that lie inside: stored at once.
+fn put_whole_word(out: &mut [u8], at: usize, v: usize)
+    requires { ⌜ (at < 2 ^ 60) × (at + 3 < length (now out)) ⌝ }
+    ensures { λ _. ⌜ now (out .exit) ≡ sets (now (out .entry)) at (bytes32 v) ⌝ }
+{
+    store(out, at, v % 256);
+    store(out, at + 1, v / 256 % 256);
+    store(out, at + 2, v / 65536 % 256);
+    store(out, at + 3, v / 16777216 % 256);
+}
+
+fn store(out: &mut [u8], at: usize, b: usize)
+    requires { ⌜ (at < length (now out)) × (b < 256) ⌝ }
+    ensures { λ _. ⌜ now (out .exit) ≡ set (now (out .entry)) at b ⌝ }
+{
+    out[at] = b as u8;
+}
+
 // A number as four bytes at a place; gives the place after them.
 pub fn put_word(out: &mut [u8], at: usize, v: usize) -> usize
     requires { ⌜ at < 2 ^ 60 ⌝ }
     ensures { λ r. ⌜ Wrote (now (out .entry)) at (bytes32 v) (now (out .exit)) r ⌝ }
 {
+    if at + 3 < out.len() {
+        put_whole_word(out, at, v);
+        return at + 4;
+    }
     put_byte(out, at, v % 256);
     put_byte(out, at + 1, v / 256 % 256);
     put_byte(out, at + 2, v / 65536 % 256);
@@ -72,7 +110,7 @@ fn put_byte(out: &mut [u8], at: usize, b: usize)
     ensures { λ _. ⌜ now (out .exit) ≡ set (now (out .entry)) at b ⌝ }
 {
     if at < out.len() {
-        out[at] = b as u8;
+        store(out, at, b);
     }
 }
 
