@@ -53,22 +53,39 @@ pub(crate) use run_ahead;
 
 pub use observe::{Ending, Observed, Records, Verdict, observe};
 
-/// A job's model and answers, ready for `rebuild`; for timing.
+/// What the stand-ins know the questions by, looked up in advance; for timing.
 pub struct Prepared {
     decider: Decider,
 }
 
-/// Looks up in advance what the stand-ins need to know the questions by.
 pub fn prepare(job: &[u8]) -> Prepared {
     Prepared {
         decider: observe::prepared(job),
     }
 }
 
-/// Builds the model of a job and rebuilds it once; true if it was accepted.
-pub fn rebuild_once(job: &[u8], prepared: &Prepared) -> bool {
-    let decoded = decode::decode(job);
-    let mut model = decoded.model;
-    let mut decider = prepared.decider.clone();
-    sewing::open::whole(&mut model, &decoded.selection, decoded.proven, &mut decider).is_ok()
+/// A job's model, selection and answers, ready for `rebuild`.
+pub struct Loaded {
+    decoded: decode::Decoded,
+    decider: Decider,
+}
+
+/// Builds the model of a job; its fields are not checked.
+pub fn load(job: &[u8], prepared: &Prepared) -> Loaded {
+    Loaded {
+        decoded: decode::decode(job),
+        decider: prepared.decider.clone(),
+    }
+}
+
+impl Loaded {
+    /// True if it was accepted.
+    pub fn rebuild(self) -> bool {
+        let Self {
+            decoded,
+            mut decider,
+        } = self;
+        let mut model = decoded.model;
+        sewing::open::whole(&mut model, &decoded.selection, decoded.proven, &mut decider).is_ok()
+    }
 }

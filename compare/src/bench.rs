@@ -1,84 +1,87 @@
-//! `bench`: how long the reference takes for a job, and a program that sews it many times.
+//! `bench`: the proved library's sewing beside the reference, on the same jobs, in one run.
+
+mod clock;
+mod parts;
 
 use crate::cli::{self, Args, Failed, say};
 use crate::second;
-use std::io::Write;
-use std::process::{Command, Stdio};
-use std::time::{Duration, Instant};
-
-/// Time spent on each job at least.
-const SPENT: Duration = Duration::from_millis(200);
+use clock::Times;
+use parts::Part;
+use std::path::Path;
 
 pub fn bench(args: &Args) -> Result<(), Failed> {
-    let program = args.option("program");
-    for path in cli::job_files(&args.others)? {
-        let job = cli::read_job(&path)?;
-        let shown = path.display();
-        if let Err(refusal) = second::load(&job) {
-            say!("{shown}: does not load ({refusal})");
-            continue;
-        }
-        let (ours, ending) = reference_time(&job);
-        match program {
-            None => say!("{shown}: {ours:.1} microseconds ({ending})"),
-            Some(name) => {
-                let other = program_time(name, &job)?;
-                let times = ours / other;
-                say!(
-                    "{shown}: {ours:.1} microseconds, {name} {other:.1} ({times:.1} times as fast; {ending})"
-                );
-            }
-        }
+    let parts = match args.others.is_empty() {
+        true => parts::all(),
+        false => named(&args.others)?,
+    };
+    if let Some(folder) = args.option("save") {
+        return save(&parts, Path::new(folder));
+    }
+    say!(
+        "| Part | Bytes | Uses | Answers | Joins | Ending | Rust, load and rebuild, µs | Rust, rebuild alone, µs | `sew`, µs | Ratio | Ratio to rebuild alone |"
+    );
+    say!("|---|---|---|---|---|---|---|---|---|---|---|");
+    for part in parts {
+        say!("{}", row(&part));
     }
     Ok(())
 }
 
-/// Microseconds of the reference, and how it ends.
-fn reference_time(job: &[u8]) -> (f64, &'static str) {
-    let prepared = reference::prepare(job);
-    let started = Instant::now();
-    let mut rounds = 0;
-    let mut accepted = false;
-    while rounds == 0 || started.elapsed() < SPENT {
-        accepted = reference::rebuild_once(job, &prepared);
-        rounds += 1;
+/// Writes the jobs into a folder, for a closer look at one of them.
+fn save(parts: &[Part], folder: &Path) -> Result<(), Failed> {
+    for (i, part) in parts.iter().enumerate() {
+        let path = folder.join(format!("{i:02}.job"));
+        std::fs::write(&path, &part.job).map_err(|error| format!("{}: {error}", path.display()))?;
+        say!("{}: {}", path.display(), part.name);
     }
-    let each = started.elapsed().as_secs_f64() * 1e6 / f64::from(rounds);
-    (each, if accepted { "accepted" } else { "refused" })
+    Ok(())
 }
 
-/// Microseconds of one sewing by a program that is told how often to sew the job on its standard input: twice as many
-/// rounds until the rounds alone take long enough.
-fn program_time(name: &str, job: &[u8]) -> Result<f64, Failed> {
-    let idle = one_run(name, 0, job)?;
-    let mut rounds = 16;
-    loop {
-        let spent = one_run(name, rounds, job)?.saturating_sub(idle);
-        if spent >= SPENT || rounds >= 1 << 24 {
-            return Ok(spent.as_secs_f64() * 1e6 / f64::from(rounds));
-        }
-        rounds *= 2;
+fn named(paths: &[String]) -> Result<Vec<Part>, Failed> {
+    let part = |path: std::path::PathBuf| {
+        let job = cli::read_job(&path)?;
+        let name = path.display().to_string();
+        Ok(Part { name, job })
+    };
+    cli::job_files(paths)?.into_iter().map(part).collect()
+}
+
+/// A row of the table. A job that does not load has no time in the reference, which has no loader.
+fn row(part: &Part) -> String {
+    let job = &part.job;
+    let times = clock::times(job, second::load(job).is_ok());
+    let (uses, answers, joins, ending) = figures(job);
+    format!(
+        "| {} | {} | {uses} | {answers} | {joins} | {ending} | {} |",
+        part.name,
+        job.len(),
+        columns(&times)
+    )
+}
+
+fn columns(times: &Times) -> String {
+    let ours = times.sew;
+    match times.reference {
+        None => format!("– | – | {ours:.1} | – | –"),
+        Some((whole, alone)) => format!(
+            "{whole:.1} | {alone:.1} | {ours:.1} | {:.1} | {:.1}",
+            whole / ours,
+            alone / ours
+        ),
     }
 }
 
-fn one_run(name: &str, rounds: u32, job: &[u8]) -> Result<Duration, Failed> {
-    let said = |error: std::io::Error| format!("{name}: {error}");
-    let started = Instant::now();
-    let mut child = Command::new(name)
-        .arg(rounds.to_string())
-        .stdin(Stdio::piped())
-        .stdout(Stdio::null())
-        .spawn()
-        .map_err(said)?;
-    child
-        .stdin
-        .take()
-        .expect("it is piped")
-        .write_all(job)
-        .map_err(said)?;
-    let status = child.wait().map_err(said)?;
-    if !status.success() {
-        return Err(format!("{name}: {status}"));
-    }
-    Ok(started.elapsed())
+/// Uses, answers and joins of a job, and how it ends.
+fn figures(job: &[u8]) -> (usize, usize, u32, String) {
+    let loaded = match second::load(job) {
+        Ok(loaded) => loaded,
+        Err(refusal) => return (0, 0, 0, refusal.to_string()),
+    };
+    let trail = second::sew(&loaded, &mut &loaded.answers);
+    let joins = trail.joined.as_ref().map_or(0, |joined| joined.joins);
+    let ending = match trail.refusal {
+        None => "accepted".to_string(),
+        Some(refusal) => refusal.to_string(),
+    };
+    (loaded.use_count, loaded.answers.len(), joins, ending)
 }

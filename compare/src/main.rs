@@ -1,6 +1,7 @@
 //! The judge: holds the published sewing against a second implementation.
 
 mod answer;
+#[cfg(feature = "library")]
 mod bench;
 mod cli;
 mod compare;
@@ -32,7 +33,7 @@ usage: judge run --seed S --jobs N
        judge table --seed S OUT
        judge program [--listing PATH] [--stage PATH]
                      (--seed S --jobs N | --vectors FILE | --parts DIR)
-       judge bench [--program PATH] FILE..";
+       judge bench [--save DIR] [FILE..]";
 
 fn main() {
     let args: Vec<OsString> = std::env::args_os().skip(1).collect();
@@ -76,7 +77,10 @@ fn obey(command: &str, rest: &[String]) -> Result<bool, Failed> {
             let known = ["listing", "stage", "seed", "jobs", "vectors", "parts"];
             program::program(&Args::parse(rest, &known)?)
         }
-        "bench" => bench::bench(&Args::parse(rest, &["program"])?).map(|()| true),
+        #[cfg(feature = "library")]
+        "bench" => bench::bench(&Args::parse(rest, &["save"])?).map(|()| true),
+        #[cfg(not(feature = "library"))]
+        "bench" => Err("built without the proved library: run tools/compare bench".to_string()),
         _ => Err(format!("{command}: no such command")),
     }
 }
