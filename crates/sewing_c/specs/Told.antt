@@ -1,15 +1,26 @@
 -- What a caller in another language is told of an outcome: numbers, and the output.
 use Prim.Native.Nat.{ℕ, _+_, _≤_}
 use mathlib.Core.Path.{_≡_}
-use mathlib.Core.List.{List}
-use mathlib.Core.Bool.{cond}
+use mathlib.Core.List.{List, [], _∷_}
+use mathlib.Core.Bool.{Bool, true, cond}
 use lib.ListN.{length}
 use lib.Dec.{eqb}
+use Rattle.lists.specs.Lists.{has}
 use Rattle.rules.specs.declared.Ending.{Ending}
 use Rattle.rules.specs.declared.Ending.the-variants.{Written, Refused}
 use Rattle.rules.specs.Outcome.{Outcome, ok, refuse}
 use Rattle.rules.specs.Job.{Stretch}
 use Rattle.rules.specs.Sew.{written}
+
+-- NUMBERS
+
+-- Endings: the numbers of refusals; 0 is none of them
+unfoldable pub isNumber : ℕ → Bool
+isNumber n = has n (1 ∷ 2 ∷ 3 ∷ 4 ∷ 5 ∷ 6 ∷ 7 ∷ 10 ∷ 11 ∷ 12 ∷ 13 ∷ 20 ∷ 21 ∷ 22 ∷ 23 ∷ 30 ∷ 31 ∷ 32 ∷ 33 ∷ 34 ∷ 40 ∷ [])
+
+-- an outcome that, if it is a refusal, has such a number
+pub record Numbered {A : Type 0} (o : Outcome A) : Type 0 where
+  pub listed : (n p : ℕ) → o ≡ refuse n p → isNumber n ≡ true
 
 -- ENDINGS
 
@@ -39,9 +50,9 @@ abbrev pub valueOf : Outcome (List ℕ) → ℕ
 valueOf (ok bytes) = length bytes
 valueOf (refuse number place) = place
 
--- an operation that found this outcome answers this number, and leaves this output and this value
+-- an operation that found this outcome answers this number, which is 0 for success alone, and leaves this output and this value
 abbrev pub Tells : Outcome (List ℕ) → List ℕ → List ℕ → ℕ → ℕ → Type 0
-Tells o before after value number = (number ≡ numberOf o) × (value ≡ valueOf o) × (after ≡ written o before)
+Tells o before after value number = (number ≡ numberOf o) × (value ≡ valueOf o) × (after ≡ written o before) × Numbered o
 
 -- THE LOOP REQUEST
 
@@ -64,6 +75,6 @@ abbrev pub Inside : List ℕ → Outcome Stretch → Type 0
 Inside job (ok s) = s .start + s .size ≤ length job
 Inside job (refuse number place) = Unit {0}
 
--- a request that found this stretch answers this number, and leaves this start and this value
+-- a request that found this stretch answers this number, which is 0 for success alone, and leaves this start and this value
 abbrev pub TellsLoop : Outcome Stretch → ℕ → ℕ → ℕ → Type 0
-TellsLoop o start value number = (number ≡ loopNumber o) × (start ≡ loopStart o) × (value ≡ loopValue o)
+TellsLoop o start value number = (number ≡ loopNumber o) × (start ≡ loopStart o) × (value ≡ loopValue o) × Numbered o

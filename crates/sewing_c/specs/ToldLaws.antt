@@ -17,7 +17,7 @@ use Rattle.rules.specs.Listing.{listingOf}
 use Rattle.load.specs.Stretches.{stretchOf, Within}
 use Rattle.fields.specs.Wrote.{Wrote}
 use Rattle.lines.specs.Text.{recorded}
-use Rattle.sewing_c.specs.Told.{endNumber, endValue, endingOf, numberOf, valueOf, Tells, Inside, TellsLoop}
+use Rattle.sewing_c.specs.Told.{endNumber, endValue, endingOf, Numbered, numberOf, valueOf, Tells, Inside, TellsLoop}
 
 number-is : (o : Outcome (List ℕ)) → endNumber (ended o) ≡ numberOf o
 number-is (ok bytes) = refl
@@ -28,8 +28,8 @@ value-is (ok bytes) = refl
 value-is (refuse number place) = refl
 
 -- an operation's ending, told
-pub told : (o : Outcome (List ℕ)) (before after : List ℕ) (e : Ending) (number value : ℕ) → Ends o before after e → (number ≡ endNumber e) × (value ≡ endValue e) → Tells o before after value number
-told o before after e number value E t = (t .0 ∙ ap endNumber (E .0) ∙ number-is o, t .1 ∙ ap endValue (E .0) ∙ value-is o, E .1)
+pub told : (o : Outcome (List ℕ)) (before after : List ℕ) (e : Ending) (number value : ℕ) → Ends o before after e → (number ≡ endNumber e) × (value ≡ endValue e) → Numbered o → Tells o before after value number
+told o before after e number value E t h = (t .0 ∙ ap endNumber (E .0) ∙ number-is o, t .1 ∙ ap endValue (E .0) ∙ value-is o, E .1, h)
 
 -- an ending by what was told
 pub ending-written : (number value : ℕ) → number ≡ 0 → Written value ≡ endingOf number value
@@ -39,13 +39,20 @@ pub ending-refused : (number value : ℕ) → (number ≡ 0 → ⊥) → Stopped
 ending-refused number value n = sym (ap (λ t. cond t (Written value) (Stopped number value)) (ne-eqb number 0 n))
 
 -- a request's stretch, told
-pub loop-refused : (job : List ℕ) (o : Outcome Stretch) (r : Stretched) (n p : ℕ) → stretchOf r ≡ o → r ≡ Refused n p → TellsLoop o 0 p n × Inside job o
-loop-refused job o r n p e q = subst (λ x. TellsLoop x 0 p n × Inside job x) (sym (ap stretchOf q) ∙ e) ((refl, refl, refl), tt)
+module _ (job : List ℕ) (o : Outcome Stretch) (r : Stretched) (e : stretchOf r ≡ o) (h : Numbered o) where
+  numbers : (x : Outcome Stretch) → x ≡ o → Numbered x
+  numbers x q = subst Numbered (sym q) h
 
-pub loop-told : (job : List ℕ) (o : Outcome Stretch) (r : Stretched) (a z : ℕ) → stretchOf r ≡ o → Within job r → r ≡ At a z → TellsLoop o a (z - a) 0 × Inside job o
-loop-told job o r a z e w q =
-    let h = subst (Within job) q w in
-    subst (λ x. TellsLoop x a (z - a) 0 × Inside job x) (sym (ap stretchOf q) ∙ e) ((refl, refl, refl), omega (arith, h .0, h .1))
+  pub loop-refused : (n p : ℕ) → r ≡ Refused n p → TellsLoop o 0 p n × Inside job o
+  loop-refused n p q =
+      let is = sym (ap stretchOf q) ∙ e in
+      subst (λ x. TellsLoop x 0 p n × Inside job x) is ((refl, refl, refl, numbers (refuse n p) is), tt)
+
+  pub loop-told : (a z : ℕ) → Within job r → r ≡ At a z → TellsLoop o a (z - a) 0 × Inside job o
+  loop-told a z w q =
+      let is = sym (ap stretchOf q) ∙ e in
+      let inside = subst (Within job) q w in
+      subst (λ x. TellsLoop x a (z - a) 0 × Inside job x) is ((refl, refl, refl, numbers (stretchOf (At a z)) is), omega (arith, inside .0, inside .1))
 
 -- the first bytes of a body are few
 pub few-bytes : (out body : List ℕ) → body ≡ take 4294967295 out → length body < 4294967296

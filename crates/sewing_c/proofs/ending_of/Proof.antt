@@ -1,5 +1,4 @@
 use Rattle.sewing_c.specs.ToldLaws.{ending-written, ending-refused}
-use borrow.Author.Needs.{needs}
 use Rattle.sewing_c.proofs.ending_of.Statement.{statement}
 use Rattle.sewing_c.proofs.ending_of.Tie as tie
 use Rattle.sewing_c.proofs.ending_of.Reads as reads

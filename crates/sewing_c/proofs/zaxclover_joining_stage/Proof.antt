@@ -1,6 +1,7 @@
 use lib.ListN.{length}
 use Rattle.rules.specs.Rules.{ordinary}
 use Rattle.rules.specs.Stage.{joiningStage}
+use Rattle.sewing_c.specs.NumberLaws.{joining-numbered}
 use Rattle.sewing_c.specs.ToldLaws.{told}
 use borrow.Author.Needs.{needs}
 use Rattle.sewing_c.proofs.zaxclover_joining_stage.Statement.{statement}
@@ -24,7 +25,7 @@ same-length c = search needs
 
 -- src/lib.rt:132:1
 returns : tie.Need-returns
-returns c = told (joiningStage ordinary (c .before .before .before .before .before .before .before .before .args .job .now) (length (c .before .before .before .before .before .before .before .before .args .out .now))) (c .before .before .before .before .before .before .before .before .args .out .now) (c .before .before .before .before .joining-stage .last .1 .0) (c .before .before .before .before .joining-stage .result) (c .tell .result) (c .tell .last .1 .0) (c .before .before .before .before .joining-stage .ensures) (c .tell .ensures)
+returns c = told (joiningStage ordinary (c .before .before .before .before .before .before .before .before .args .job .now) (length (c .before .before .before .before .before .before .before .before .args .out .now))) (c .before .before .before .before .before .before .before .before .args .out .now) (c .before .before .before .before .joining-stage .last .1 .0) (c .before .before .before .before .joining-stage .result) (c .tell .result) (c .tell .last .1 .0) (c .before .before .before .before .joining-stage .ensures) (c .tell .ensures) (joining-numbered ordinary (c .before .before .before .before .before .before .before .before .args .job .now) (length (c .before .before .before .before .before .before .before .before .args .out .now)))
 
 pub zaxclover-joining-stage-spec : {M : Type 1} → statement M
 zaxclover-joining-stage-spec =

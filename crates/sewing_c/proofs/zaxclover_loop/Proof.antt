@@ -1,5 +1,6 @@
 use Rattle.rules.specs.Load.{requested}
 use native.Mathlib.Omega.{arith}
+use Rattle.sewing_c.specs.NumberLaws.{requested-numbered}
 use Rattle.sewing_c.specs.ToldLaws.{loop-refused, loop-told}
 use borrow.Author.Needs.{needs}
 use Rattle.sewing_c.proofs.zaxclover_loop.Statement.{statement}
@@ -26,11 +27,11 @@ sub-value c = let w = rw (c .before .s2 .given .1) at (c .before .before .before
 
 -- src/lib.rt:162:1
 returns : tie.Need-returns
-returns c = loop-refused (c .before .before .before .before .before .args .job .now) (requested (c .before .before .before .before .before .args .job .now) (c .before .before .before .before .before .args .n)) (c .before .before .before .loop-stretch .result) _ _ (c .before .before .before .loop-stretch .ensures .0) (c .before .s .given .1)
+returns c = loop-refused (c .before .before .before .before .before .args .job .now) (requested (c .before .before .before .before .before .args .job .now) (c .before .before .before .before .before .args .n)) (c .before .before .before .loop-stretch .result) (c .before .before .before .loop-stretch .ensures .0) (requested-numbered (c .before .before .before .before .before .args .job .now) (c .before .before .before .before .before .args .n)) _ _ (c .before .s .given .1)
 
 -- src/lib.rt:162:1
 returns-2 : tie.Need-returns-2
-returns-2 c = loop-told (c .before .before .before .before .before .args .job .now) (requested (c .before .before .before .before .before .args .job .now) (c .before .before .before .before .before .args .n)) (c .before .before .before .loop-stretch .result) _ _ (c .before .before .before .loop-stretch .ensures .0) (c .before .before .before .loop-stretch .ensures .1) (c .before .s2 .given .1)
+returns-2 c = loop-told (c .before .before .before .before .before .args .job .now) (requested (c .before .before .before .before .before .args .job .now) (c .before .before .before .before .before .args .n)) (c .before .before .before .loop-stretch .result) (c .before .before .before .loop-stretch .ensures .0) (requested-numbered (c .before .before .before .before .before .args .job .now) (c .before .before .before .before .before .args .n)) _ _ (c .before .before .before .loop-stretch .ensures .1) (c .before .s2 .given .1)
 
 pub zaxclover-loop-spec : {M : Type 1} → statement M
 zaxclover-loop-spec =

@@ -1,6 +1,7 @@
 use lib.ListN.{length}
 use Rattle.rules.specs.Rules.{ordinary}
 use Rattle.rules.specs.Stage.{loopStage}
+use Rattle.sewing_c.specs.NumberLaws.{loops-numbered}
 use Rattle.sewing_c.specs.ToldLaws.{told}
 use borrow.Author.Needs.{needs}
 use Rattle.sewing_c.proofs.zaxclover_loop_stage.Statement.{statement}
@@ -24,7 +25,7 @@ same-length c = search needs
 
 -- src/lib.rt:105:1
 returns : tie.Need-returns
-returns c = (told (loopStage ordinary (c .before .before .before .before .before .before .before .before .args .job .now) (length (c .before .before .before .before .before .before .before .before .args .out .now))) (c .before .before .before .before .before .before .before .before .args .out .now) (c .before .before .before .before .loop-stage .last .1 .0) (c .before .before .before .before .loop-stage .result) (c .tell .result) (c .tell .last .1 .0) (c .before .before .before .before .loop-stage .ensures .0) (c .tell .ensures), c .before .before .before .before .loop-stage .ensures .1)
+returns c = (told (loopStage ordinary (c .before .before .before .before .before .before .before .before .args .job .now) (length (c .before .before .before .before .before .before .before .before .args .out .now))) (c .before .before .before .before .before .before .before .before .args .out .now) (c .before .before .before .before .loop-stage .last .1 .0) (c .before .before .before .before .loop-stage .result) (c .tell .result) (c .tell .last .1 .0) (c .before .before .before .before .loop-stage .ensures .0) (c .tell .ensures) (loops-numbered ordinary (c .before .before .before .before .before .before .before .before .args .job .now) (length (c .before .before .before .before .before .before .before .before .args .out .now))), c .before .before .before .before .loop-stage .ensures .1)
 
 pub zaxclover-loop-stage-spec : {M : Type 1} → statement M
 zaxclover-loop-stage-spec =

@@ -1,6 +1,7 @@
 use lib.ListN.{length}
 use Rattle.rules.specs.Rules.{ordinary}
 use Rattle.rules.specs.Stage.{mergeStage}
+use Rattle.sewing_c.specs.NumberLaws.{merged-numbered}
 use Rattle.sewing_c.specs.ToldLaws.{told}
 use borrow.Author.Needs.{needs}
 use Rattle.sewing_c.proofs.zaxclover_merge_stage.Statement.{statement}
@@ -24,7 +25,7 @@ same-length c = search needs
 
 -- src/lib.rt:78:1
 returns : tie.Need-returns
-returns c = told (mergeStage ordinary (c .before .before .before .before .before .before .before .before .args .job .now) (length (c .before .before .before .before .before .before .before .before .args .out .now))) (c .before .before .before .before .before .before .before .before .args .out .now) (c .before .before .before .before .merge-stage .last .1 .0) (c .before .before .before .before .merge-stage .result) (c .tell .result) (c .tell .last .1 .0) (c .before .before .before .before .merge-stage .ensures) (c .tell .ensures)
+returns c = told (mergeStage ordinary (c .before .before .before .before .before .before .before .before .args .job .now) (length (c .before .before .before .before .before .before .before .before .args .out .now))) (c .before .before .before .before .before .before .before .before .args .out .now) (c .before .before .before .before .merge-stage .last .1 .0) (c .before .before .before .before .merge-stage .result) (c .tell .result) (c .tell .last .1 .0) (c .before .before .before .before .merge-stage .ensures) (c .tell .ensures) (merged-numbered ordinary (c .before .before .before .before .before .before .before .before .args .job .now) (length (c .before .before .before .before .before .before .before .before .args .out .now)))
 
 pub zaxclover-merge-stage-spec : {M : Type 1} → statement M
 zaxclover-merge-stage-spec =

@@ -1,5 +1,6 @@
 use lib.ListN.{length}
 use Rattle.rules.specs.Stage.{pairStage}
+use Rattle.sewing_c.specs.NumberLaws.{pairs-numbered}
 use Rattle.sewing_c.specs.ToldLaws.{told}
 use borrow.Author.Needs.{needs}
 use Rattle.sewing_c.proofs.zaxclover_pair_stage.Statement.{statement}
@@ -23,7 +24,7 @@ same-length c = search needs
 
 -- src/lib.rt:69:1
 returns : tie.Need-returns
-returns c = told (pairStage (c .before .before .before .before .before .before .before .before .args .job .now) (length (c .before .before .before .before .before .before .before .before .args .out .now))) (c .before .before .before .before .before .before .before .before .args .out .now) (c .before .before .before .before .pair-stage .last .1 .0) (c .before .before .before .before .pair-stage .result) (c .tell .result) (c .tell .last .1 .0) (c .before .before .before .before .pair-stage .ensures) (c .tell .ensures)
+returns c = told (pairStage (c .before .before .before .before .before .before .before .before .args .job .now) (length (c .before .before .before .before .before .before .before .before .args .out .now))) (c .before .before .before .before .before .before .before .before .args .out .now) (c .before .before .before .before .pair-stage .last .1 .0) (c .before .before .before .before .pair-stage .result) (c .tell .result) (c .tell .last .1 .0) (c .before .before .before .before .pair-stage .ensures) (c .tell .ensures) (pairs-numbered (c .before .before .before .before .before .before .before .before .args .job .now) (length (c .before .before .before .before .before .before .before .before .args .out .now)))
 
 pub zaxclover-pair-stage-spec : {M : Type 1} → statement M
 zaxclover-pair-stage-spec =

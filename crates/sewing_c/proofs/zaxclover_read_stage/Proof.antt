@@ -1,5 +1,6 @@
 use lib.ListN.{length}
 use Rattle.rules.specs.Stage.{readStage}
+use Rattle.sewing_c.specs.NumberLaws.{read-numbered}
 use Rattle.sewing_c.specs.ToldLaws.{told}
 use borrow.Author.Needs.{needs}
 use Rattle.sewing_c.proofs.zaxclover_read_stage.Statement.{statement}
@@ -23,7 +24,7 @@ same-length c = search needs
 
 -- src/lib.rt:60:1
 returns : tie.Need-returns
-returns c = told (readStage (c .before .before .before .before .before .before .before .before .args .job .now) (length (c .before .before .before .before .before .before .before .before .args .out .now))) (c .before .before .before .before .before .before .before .before .args .out .now) (c .before .before .before .before .read-stage .last .1 .0) (c .before .before .before .before .read-stage .result) (c .tell .result) (c .tell .last .1 .0) (c .before .before .before .before .read-stage .ensures) (c .tell .ensures)
+returns c = told (readStage (c .before .before .before .before .before .before .before .before .args .job .now) (length (c .before .before .before .before .before .before .before .before .args .out .now))) (c .before .before .before .before .before .before .before .before .args .out .now) (c .before .before .before .before .read-stage .last .1 .0) (c .before .before .before .before .read-stage .result) (c .tell .result) (c .tell .last .1 .0) (c .before .before .before .before .read-stage .ensures) (c .tell .ensures) (read-numbered (c .before .before .before .before .before .before .before .before .args .job .now) (length (c .before .before .before .before .before .before .before .before .args .out .now)))
 
 pub zaxclover-read-stage-spec : {M : Type 1} → statement M
 zaxclover-read-stage-spec =

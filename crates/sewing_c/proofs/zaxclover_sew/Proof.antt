@@ -1,6 +1,7 @@
 use lib.ListN.{length}
 use Rattle.rules.specs.Rules.{ordinary}
 use Rattle.rules.specs.Sew.{sewn}
+use Rattle.sewing_c.specs.NumberLaws.{sewn-numbered}
 use Rattle.sewing_c.specs.ToldLaws.{told}
 use borrow.Author.Needs.{needs}
 use Rattle.sewing_c.proofs.zaxclover_sew.Statement.{statement}
@@ -24,7 +25,7 @@ same-length c = search needs
 
 -- src/lib.rt:49:1
 returns : tie.Need-returns
-returns c = (told (sewn ordinary (c .before .before .before .before .before .before .before .before .args .job .now) (length (c .before .before .before .before .before .before .before .before .args .out .now))) (c .before .before .before .before .before .before .before .before .args .out .now) (c .before .before .before .before .sew .last .1 .0) (c .before .before .before .before .sew .result) (c .tell .result) (c .tell .last .1 .0) (c .before .before .before .before .sew .ensures .0) (c .tell .ensures), c .before .before .before .before .sew .ensures .1)
+returns c = (told (sewn ordinary (c .before .before .before .before .before .before .before .before .args .job .now) (length (c .before .before .before .before .before .before .before .before .args .out .now))) (c .before .before .before .before .before .before .before .before .args .out .now) (c .before .before .before .before .sew .last .1 .0) (c .before .before .before .before .sew .result) (c .tell .result) (c .tell .last .1 .0) (c .before .before .before .before .sew .ensures .0) (c .tell .ensures) (sewn-numbered ordinary (c .before .before .before .before .before .before .before .before .args .job .now) (length (c .before .before .before .before .before .before .before .before .args .out .now))), c .before .before .before .before .sew .ensures .1)
 
 pub zaxclover-sew-spec : {M : Type 1} → statement M
 zaxclover-sew-spec = tie.close (tie.spec sew-requires tell-requires same-length returns)

@@ -1,6 +1,7 @@
 use lib.ListN.{length}
 use Rattle.rules.specs.Rules.{ordinary}
 use Rattle.rules.specs.Stage.{shellStage}
+use Rattle.sewing_c.specs.NumberLaws.{shell-stage-numbered}
 use Rattle.sewing_c.specs.ToldLaws.{told}
 use borrow.Author.Needs.{needs}
 use Rattle.sewing_c.proofs.zaxclover_shell_stage.Statement.{statement}
@@ -24,7 +25,7 @@ same-length c = search needs
 
 -- src/lib.rt:141:1
 returns : tie.Need-returns
-returns c = told (shellStage ordinary (c .before .before .before .before .before .before .before .before .args .job .now) (length (c .before .before .before .before .before .before .before .before .args .out .now))) (c .before .before .before .before .before .before .before .before .args .out .now) (c .before .before .before .before .shell-stage .last .1 .0) (c .before .before .before .before .shell-stage .result) (c .tell .result) (c .tell .last .1 .0) (c .before .before .before .before .shell-stage .ensures) (c .tell .ensures)
+returns c = told (shellStage ordinary (c .before .before .before .before .before .before .before .before .args .job .now) (length (c .before .before .before .before .before .before .before .before .args .out .now))) (c .before .before .before .before .before .before .before .before .args .out .now) (c .before .before .before .before .shell-stage .last .1 .0) (c .before .before .before .before .shell-stage .result) (c .tell .result) (c .tell .last .1 .0) (c .before .before .before .before .shell-stage .ensures) (c .tell .ensures) (shell-stage-numbered ordinary (c .before .before .before .before .before .before .before .before .args .job .now) (length (c .before .before .before .before .before .before .before .before .args .out .now)))
 
 pub zaxclover-shell-stage-spec : {M : Type 1} → statement M
 zaxclover-shell-stage-spec =

@@ -1,6 +1,7 @@
 use lib.ListN.{length}
 use Rattle.rules.specs.Rules.{ordinary}
 use Rattle.rules.specs.Stage.{walkStage}
+use Rattle.sewing_c.specs.NumberLaws.{walks-numbered}
 use Rattle.sewing_c.specs.ToldLaws.{told}
 use borrow.Author.Needs.{needs}
 use Rattle.sewing_c.proofs.zaxclover_walk_stage.Statement.{statement}
@@ -24,7 +25,7 @@ same-length c = search needs
 
 -- src/lib.rt:96:1
 returns : tie.Need-returns
-returns c = (told (walkStage ordinary (c .before .before .before .before .before .before .before .before .args .job .now) (length (c .before .before .before .before .before .before .before .before .args .out .now))) (c .before .before .before .before .before .before .before .before .args .out .now) (c .before .before .before .before .walk-stage .last .1 .0) (c .before .before .before .before .walk-stage .result) (c .tell .result) (c .tell .last .1 .0) (c .before .before .before .before .walk-stage .ensures .0) (c .tell .ensures), c .before .before .before .before .walk-stage .ensures .1)
+returns c = (told (walkStage ordinary (c .before .before .before .before .before .before .before .before .args .job .now) (length (c .before .before .before .before .before .before .before .before .args .out .now))) (c .before .before .before .before .before .before .before .before .args .out .now) (c .before .before .before .before .walk-stage .last .1 .0) (c .before .before .before .before .walk-stage .result) (c .tell .result) (c .tell .last .1 .0) (c .before .before .before .before .walk-stage .ensures .0) (c .tell .ensures) (walks-numbered ordinary (c .before .before .before .before .before .before .before .before .args .job .now) (length (c .before .before .before .before .before .before .before .before .args .out .now))), c .before .before .before .before .walk-stage .ensures .1)
 
 pub zaxclover-walk-stage-spec : {M : Type 1} → statement M
 zaxclover-walk-stage-spec =
