@@ -15,6 +15,15 @@
 //! let job = &bytes[..32];
 //! let _ = zaxclover::sew(job, &mut bytes[16..]);
 //! ```
+//!
+//! A loop's payload is a part of the job, which cannot change as long as the payload is in use:
+//!
+//! ```compile_fail,E0506
+//! let mut job = [4, 0, 0, 0, 1, 0, 0, 0, 0, 0];
+//! let payload = zaxclover::loop_payload(&job, 0);
+//! job[0] = 5;
+//! drop(payload);
+//! ```
 mod raw;
 mod refusal;
 
