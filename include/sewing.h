@@ -134,6 +134,7 @@ size_t zaxclover_loop(const uint8_t *job, size_t job_length, size_t n, size_t *s
  * The text of an answer of zaxclover_sew, by the number that it returned, the value that it left and the output: a line
  * for each record of the body, or the line of the refusal. Returns the length of the text, which has no ending zero. As
  * much of it as there is room for stands at the start of `page`. A body's text takes at most three characters a byte.
+ * The output must be as sewing left it: of other bytes the text may be billions of characters long, and take its time.
  */
 size_t zaxclover_listing(size_t number, size_t value, const uint8_t *out, size_t out_length, uint8_t *page, size_t page_length);
 

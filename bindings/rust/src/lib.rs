@@ -22,7 +22,7 @@
 //! let mut job = [4, 0, 0, 0, 1, 0, 0, 0, 0, 0];
 //! let payload = zaxclover::loop_payload(&job, 0);
 //! job[0] = 5;
-//! drop(payload);
+//! assert!(payload.is_err());
 //! ```
 mod raw;
 mod refusal;

@@ -201,6 +201,38 @@ fn every_refusal_has_words() {
     );
 }
 
+/// The name of a refusal's number in the header.
+fn name_in(header: &str, number: usize) -> &str {
+    let numbers = header
+        .split("enum zaxclover_number {")
+        .nth(1)
+        .expect("the numbers");
+    let numbers = numbers.split("};").next().expect("their end");
+    let entry = |line: &'_ str| {
+        line.split([',', '/'])
+            .next()
+            .unwrap_or("")
+            .trim()
+            .to_string()
+    };
+    numbers
+        .lines()
+        .find(|line| entry(line).ends_with(&format!(" = {number}")))
+        .and_then(|line| line.split_whitespace().next())
+        .expect("a name for each number")
+}
+
+#[test]
+fn the_header_has_the_same_words() {
+    let file = Path::new(env!("CARGO_MANIFEST_DIR")).join("../../include/sewing.h");
+    let header = fs::read_to_string(file).expect("the header");
+    for number in Refusal::numbers() {
+        let name = name_in(&header, number);
+        let line = format!("case {name}: return \"{}\";", refused(number, 0).words());
+        assert!(header.contains(&line), "{line}");
+    }
+}
+
 /// Threads of the standard size suffice, and so does a stack little larger than what a call takes.
 #[test]
 fn a_call_fits_its_stack() {
