@@ -19,23 +19,16 @@ ghost use Rattle.answers.specs.Index.{Indexed};
 ghost use Rattle.fields.specs.Chains.{Falling};
 ghost use Rattle.uses.specs.Table.{usesIn};
 ghost use Rattle.edge_uses.specs.Links.{nextUse, usesOn, Linked};
-ghost use Rattle.pair.specs.Twins.{pairsOf, twinsOf};
+ghost use Rattle.pair.specs.Twins.{pairsOf};
 
-// One edge paired, or the refusal that ends the stage.
-enum Pairs {
+// What is asked for is paired, or the refusal that ends the stage.
+pub enum Pairs {
     Done,
     Refused(usize, usize),
 }
 
-// The twins of all uses, the entries after them unset; refusal 0: none.
-pub struct Paired {
-    pub refusal: usize,
-    pub place: usize,
-    pub twins: [u32; 2048],
-}
-
 // The mark for no twin yet.
-const NONE: u32 = 4294967295;
+pub const NONE: u32 = 4294967295;
 
 // a and b become twins.
 fn twin(twins: &mut [u32], a: usize, b: usize)
@@ -218,8 +211,8 @@ fn lone(twins: &[u32]) -> usize
     h
 }
 
-// All edges in a table that has no twin yet; 13 for the lowest use left without.
-fn pair_edges(
+// All edges, in a table that has no twin yet; 13 for the lowest use left without.
+pub fn pair(
     job: &[u8],
     index: &[u32],
     c: Counts,
@@ -247,33 +240,4 @@ fn pair_edges(
         return Pairs::Refused(13, h);
     }
     Pairs::Done
-}
-
-// The twins of a job's uses.
-pub fn pair(
-    job: &[u8],
-    index: &[u32],
-    c: Counts,
-    uses: &[u32],
-    firsts: &[u32],
-    nexts: &[u32],
-) -> Paired
-    requires { ⌜ Indexed (now job) (now index) c × Linked (usesIn (now uses)) (now firsts) (now nexts) × (length (usesIn (now uses)) ≤ 2048) × (length (now firsts) ≡ c .edges) × (c .edges ≤ 1024) ⌝ }
-    ensures { λ r. ⌜ (twinsOf (length (usesIn (now (uses .entry)))) r ≡ pairAll (answersIn (now (job .entry)) (now (index .entry)) c) (usesIn (now (uses .entry))) (c .edges)) × (length (r .twins) ≡ 2048) ⌝ }
-{
-    let n = uses::count(uses);
-    let mut twins = [NONE; 2048];
-    let r = pair_edges(job, index, c, uses, firsts, nexts, &mut twins[..n]);
-    match r {
-        Pairs::Refused(refusal, place) => Paired {
-            refusal,
-            place,
-            twins,
-        },
-        Pairs::Done => Paired {
-            refusal: 0,
-            place: 0,
-            twins,
-        },
-    }
 }

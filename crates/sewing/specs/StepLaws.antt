@@ -1,14 +1,14 @@
 -- The ends of the steps of sewing: a stage that is asked for, a refusal, and what is handed on.
-use Prim.Native.Nat.{ℕ, _≤_}
+use Prim.Native.Nat.{ℕ, _*_, _≤_}
 use native.Mathlib.Omega.{arith}
 use mathlib.Core.Path.{_≡_, refl, sym, ap, subst, _∙_}
 use mathlib.Core.List.{List, _++_, flatMap}
 use mathlib.Core.Bool.{Bool, false, cond}
 use lib.ListN.{length, take, drop, replicate, length-replicate}
-use lib.Seq.{take-append-le, length-take-le, length-front}
+use lib.Seq.{take-append-le, length-take-le}
 use lib.Dec.{eqb}
 use borrow.Author.Tests.{eq-eqb, ne-eqb}
-use Rattle.lists.specs.Lists.{below, sumOf}
+use Rattle.lists.specs.Lists.{below}
 use Rattle.lists.specs.Tests.{cond-true, cond-false}
 use Rattle.lists.specs.Members.{keep-length}
 use Rattle.lists.specs.Runs.{length-below}
@@ -17,8 +17,8 @@ use Rattle.rules.specs.declared.Use.{Use}
 use Rattle.rules.specs.declared.Ending.{Ending}
 use Rattle.rules.specs.Outcome.{Outcome, ok, refuse, _>>=_}
 use Rattle.rules.specs.OutcomeLaws.{bind-on, bind-stop}
-use Rattle.rules.specs.Job.{Job}
-use Rattle.rules.specs.Load.{loading, loaded}
+use Rattle.rules.specs.Job.{Job, unset}
+use Rattle.rules.specs.Load.{loading}
 use Rattle.rules.specs.Read.{usesOf}
 use Rattle.rules.specs.Groups.{isLowest, lowestMembers, groupNumbers}
 use Rattle.rules.specs.GroupLaws.{Lowest}
@@ -33,14 +33,16 @@ use Rattle.rules.specs.Sew.{Walked, walksOf, fitting, Ends}
 use Rattle.rules.specs.Stage.{useFields, stageBytes}
 use Rattle.theorems.specs.Ground.{ground}
 use Rattle.theorems.specs.Circuits.{Permuted}
-use Rattle.theorems.specs.Merging.{length-removedUses}
+use Rattle.theorems.specs.Successors.{length-successors}
 use Rattle.job.specs.Lists.{pointsIn, facesIn, loopsIn, answersIn, jobIn}
 use Rattle.load.specs.declared.Loaded.{Loaded}
 use Rattle.load.specs.declared.Loaded.the-variants.{Refused as Stopped, Done as Read}
 use Rattle.load.specs.Going.{LoadedAs}
+use Rattle.answers.specs.Index.{Indexed}
 use Rattle.edge_uses.specs.Links.{Linked}
-use Rattle.pair.specs.declared.Paired.{Paired as Pairs}
-use Rattle.pair.specs.Twins.{twinsOf}
+use Rattle.pair.specs.declared.Pairs.{Pairs}
+use Rattle.pair.specs.declared.Pairs.the-variants.{Done as Pairing, Refused as Unpaired}
+use Rattle.pair.specs.Twins.{pairsOf}
 use Rattle.merge_faces.specs.declared.Merging.{Merging}
 use Rattle.merge_faces.specs.declared.Merging.the-variants.{Done as Merges, Refused as Unmerged}
 use Rattle.merge_faces.specs.Merging.{mergedOf}
@@ -50,12 +52,13 @@ use Rattle.vertex_loops.specs.declared.Keeping.the-variants.{Done as Keeps, Ref
 use Rattle.vertex_loops.specs.Kept.{keptIn, keptOf, UpTo}
 use Rattle.stages_out.specs.Rows.{Staged, walkRows, walk-rows, pairRows, pair-rows, keptRows, kept-rows, roundRows, round-rows}
 use Rattle.progress.specs.declared.Faces.{Faces}
-use Rattle.progress.specs.Parts.{cut-back, zeros, part-size, lent-part, lent-long}
+use Rattle.progress.specs.declared.Figures.{Figures}
+use Rattle.progress.specs.Parts.{take-same, zeros, zeros-part, part-size, lent-part, lent-long}
 use Rattle.progress.specs.Endings.{ends-as}
 use Rattle.progress.specs.Chain.{afterLoops, afterWalks, afterKeeping, afterMerging, afterPairing, afterReading, staged, sewnBy}
 use Rattle.progress.specs.Known.{Opened, Paired, boundariesIn, groupsIn, numbersIn, Grouped, mergedIn, walkedIn, Settled as SettledIn}
-use Rattle.progress.specs.KnownLaws.{opened-counted, opened-loaded, opened-edges, opened-faces, opened-limited, paired-few, paired-size, groups-are-lowest, grouped-merges, settled-permuted}
-use Rattle.sewing.specs.Steps.{Read as ReadIn, FacesOf, Kept, Removed, Walks, Promised}
+use Rattle.progress.specs.KnownLaws.{opened-counted, opened-loaded, opened-edges, opened-faces, opened-limited, paired-uses, paired-few, groups-are-lowest, grouped-merges, settled-permuted}
+use Rattle.sewing.specs.Steps.{Blank, Read as ReadIn, FacesOf, Kept, WalkTables, WalksOf, Walks, Promised}
 
 -- ENDS
 
@@ -63,30 +66,43 @@ use Rattle.sewing.specs.Steps.{Read as ReadIn, FacesOf, Kept, Removed, W
 pub ends-staged : (fs gs : List ℕ) {o : Outcome (List ℕ)} (before after : List ℕ) (r : Ending) → fs ≡ gs → o ≡ stageBytes (length before) gs → Staged fs before after r → Ends o before after r
 ends-staged fs gs before after r e q S = ends-as _ _ before after r (sym (ap (stageBytes (length before)) e ∙ sym q)) S
 
--- TABLES LENT BY THEIR FIRST ENTRIES
+-- TABLES OF ANY SIZE, LENT BY THEIR FIRST ENTRIES
 
 -- a table of flags that are not set
 unfoldable pub unsetFlags : ℕ → List Bool
-unsetFlags n = replicate n false
+unsetFlags size = replicate size false
 
-pub flags-long : (n : ℕ) → length (unsetFlags n) ≡ n
+-- a table of uses without twin
+unfoldable pub noTwins : ℕ → List ℕ
+noTwins size = replicate size unset
+
+pub flags-size : (n size : ℕ) → n ≤ size → n ≡ length (take n (unsetFlags size))
 unfolding unsetFlags
-flags-long n = length-replicate n false
+flags-size n size h = sym (length-take-le n (replicate size false) (omega (arith, length-replicate size false)))
 
--- the first n of m flags, lent
-module _ (n m : ℕ) (h : n ≤ m) where
-  pub flags-size : length (take n (unsetFlags m)) ≡ n
-  flags-size = length-take-le n (unsetFlags m) (omega (arith, flags-long m))
+no-twins-part : (n size : ℕ) → n ≤ size → take n (noTwins size) ≡ replicate n unset
+unfolding noTwins
+no-twins-part n size h = take-same unset n size h
 
-  module _ (l : List Bool) (e : length l ≡ length (take n (unsetFlags m))) where
-    pub flags-back : take n (l ++ drop n (unsetFlags m)) ≡ l
-    flags-back = cut-back n (unsetFlags m) l (omega (arith, flags-long m)) e
+pub no-twins-size : (n size : ℕ) → n ≤ size → n ≡ length (take n (noTwins size))
+no-twins-size n size h = sym (ap length (no-twins-part n size h) ∙ length-replicate n unset)
 
-    pub flags-back-size : length (take n (l ++ drop n (unsetFlags m))) ≡ n
-    flags-back-size = ap length flags-back ∙ e ∙ flags-size
+-- the tables of a part that has at most u uses, e edges and l loops
+pub tables-made : (c : Counts) (u e l : ℕ) → c .uses ≤ u → c .edges ≤ e → c .loops ≤ l
+    → (length (take (4 * c .uses) (zeros (4 * u))) ≡ 4 * c .uses) × Blank c (take (c .edges) (zeros e)) (take (c .uses) (zeros u)) (take (c .uses) (noTwins u)) (take (2 * c .loops) (zeros (2 * l)))
+unfolding zeros
+tables-made c u e l hu he hl = (
+  sym (part-size (4 * c .uses) (4 * u) (omega arith)),
+  record {
+    firsts-are = zeros-part (c .edges) e he;
+    nexts-size = sym (part-size (c .uses) u hu);
+    twins-are = no-twins-part (c .uses) u hu;
+    kept-size = let k : 2 * c .loops ≤ 2 * l = omega arith in omega (arith, part-size (2 * c .loops) (2 * l) k);
+  },
+)
 
-    pub flags-room : n ≤ length (l ++ drop n (unsetFlags m))
-    flags-room = omega (arith, length-front (unsetFlags m) l n e, flags-long m, h)
+pub walk-tables-made : (n size : ℕ) → n ≤ size → WalkTables n (take n (unsetFlags size)) (take n (zeros size)) (take n (zeros size))
+walk-tables-made n size h = record { removed = sym (flags-size n size h); succ = sym (part-size n size h); passed = sym (part-size n size h) }
 
 -- LOADING
 
@@ -133,6 +149,28 @@ module _ (bytes ix : List ℕ) (c : Counts) (us : List Use) (R : ReadIn bytes ix
   pub read-count : length us ≡ c .uses
   read-count = ap length (R .uses) ∙ sym (opened-counted bytes ix c (R .opened) .uses)
 
+-- what chains and pairing need
+module _ (bytes ix : List ℕ) (c : Counts) (us : List Use) (R : ReadIn bytes ix c us) (firsts nexts twins kept : List ℕ) (B : Blank c firsts nexts twins kept) where
+  firsts-long : length firsts ≡ c .edges
+  firsts-long = ap length (B .firsts-are) ∙ length-replicate {A = ℕ} (c .edges) 0
+
+  pub link-ready : (firsts ≡ replicate (length firsts) 0) × (length nexts ≡ length us) × (length nexts ≤ 2048)
+  link-ready = (
+    B .firsts-are ∙ ap (λ n. replicate n 0) (sym firsts-long),
+    B .nexts-size ∙ sym (read-count bytes ix c us R),
+    omega (arith, B .nexts-size, opened-limited bytes ix c (R .opened) .uses),
+  )
+
+  pub pair-ready : (heads links : List ℕ) → length heads ≡ length firsts → Linked us heads links
+      → Indexed bytes ix c × Linked us heads links × (length heads ≡ c .edges) × (c .edges ≤ 1024) × (twins ≡ replicate (length us) unset)
+  pair-ready heads links e L = (
+    R .opened .indexed,
+    L,
+    e ∙ firsts-long,
+    opened-limited bytes ix c (R .opened) .edges,
+    B .twins-are ∙ ap (λ n. replicate n unset) (sym (read-count bytes ix c us R)),
+  )
+
 pub reading-asked : (stage : ℕ) (j : Job) (room : ℕ) (us : List Use) → stage ≡ 1 → afterReading stage j room us ≡ stageBytes room (flatMap useFields us)
 unfolding afterReading
 reading-asked stage j room us e = rw (eq-eqb stage 1 e)
@@ -148,30 +186,15 @@ module _ (bytes ix : List ℕ) (c : Counts) (us : List Use) (R : ReadIn bytes ix
   pairing-follows =
       reading-on stage (jobIn bytes ix c) room us other ∙ ap (λ k. pair (answersIn bytes ix c) us k >>= afterPairing stage (jobIn bytes ix c) us room) (sym (opened-edges bytes ix c (R .opened)))
 
-  module _ (p : Pairs) (e : twinsOf (length us) p ≡ pair (answersIn bytes ix c) us (c .edges)) where
-    pub pairs-refused : (p .refusal ≡ 0 → ⊥) → afterReading stage (jobIn bytes ix c) room us ≡ refuse (p .refusal) (p .place)
-    pairs-refused n =
-        let r : twinsOf (length us) p ≡ refuse (p .refusal) (p .place) = ap (λ t. cond t (ok (take (length us) (p .twins))) (refuse (p .refusal) (p .place))) (ne-eqb (p .refusal) 0 n) in
-        pairing-follows ∙ bind-stop (afterPairing stage (jobIn bytes ix c) us room) (sym e ∙ r)
+  module _ (r : Pairs) (l : List ℕ) (e : pairsOf r l ≡ pair (answersIn bytes ix c) us (c .edges)) where
+    pub pairs-refused : (n p : ℕ) → r ≡ Unpaired n p → afterReading stage (jobIn bytes ix c) room us ≡ refuse n p
+    pairs-refused n p q = pairing-follows ∙ bind-stop (afterPairing stage (jobIn bytes ix c) us room) (sym e ∙ ap (λ x. pairsOf x l) q)
 
-    pub pairs-made : p .refusal ≡ 0 → Paired bytes ix c us (take (c .uses) (p .twins))
-    pairs-made z =
-        let r : twinsOf (length us) p ≡ ok (take (length us) (p .twins)) = ap (λ t. cond t (ok (take (length us) (p .twins))) (refuse (p .refusal) (p .place))) (eq-eqb (p .refusal) 0 z) in
-        record {
-          opened = R .opened;
-          uses = R .uses;
-          pairs = sym e ∙ r ∙ ap (λ k. ok (take k (p .twins))) (read-count bytes ix c us R);
-        }
+    pub pairs-made : r ≡ Pairing → Paired bytes ix c us l
+    pairs-made q = record { opened = R .opened; uses = R .uses; pairs = sym e ∙ ap (λ x. pairsOf x l) q }
 
-    pub pairs-on : (ts : List ℕ) → Paired bytes ix c us ts → afterPairing stage (jobIn bytes ix c) us room ts ≡ afterReading stage (jobIn bytes ix c) room us
-    pairs-on ts P = sym (pairing-follows ∙ bind-on (afterPairing stage (jobIn bytes ix c) us room) (P .pairs))
-
--- chains over tables as they come back
-pub linked-back : (us : List Use) (f f′ n n′ : List ℕ) → f ≡ f′ → n ≡ n′ → Linked us f′ n′ → Linked us f n
-linked-back us f f′ n n′ e q L = subst (λ x. Linked us x n) (sym e) (subst (Linked us f′) (sym q) L)
-
-pub twins-few : (bytes ix : List ℕ) (c : Counts) (us : List Use) (ts : List ℕ) → Paired bytes ix c us ts → length ts ≤ 2048
-twins-few bytes ix c us ts P = omega (arith, paired-size bytes ix c us ts P, opened-limited bytes ix c (P .opened) .uses)
+  pub pairs-on : (ts : List ℕ) → Paired bytes ix c us ts → afterPairing stage (jobIn bytes ix c) us room ts ≡ afterReading stage (jobIn bytes ix c) room us
+  pairs-on ts P = sym (pairing-follows ∙ bind-on (afterPairing stage (jobIn bytes ix c) us room) (P .pairs))
 
 -- FACES
 
@@ -290,47 +313,73 @@ keeping-on stage j room w n = rw (ne-eqb stage 4 n) refl
 
 -- WALKS
 
-module _ (bytes ix : List ℕ) (c : Counts) (us : List Use) (ts : List ℕ) (m : Faces) (kept : List ℕ) (k : ℕ) (rm : List Bool) (many : ℕ) (R : Removed bytes ix c us ts m kept k rm many) where
-  pub removed-size : length rm ≡ length us
-  removed-size = ap length (R .removed) ∙ length-removedUses us ts (groupsIn c m)
+-- the tables suffice
+pub walks-ready : (bytes ix : List ℕ) (c : Counts) (us : List Use) (ts : List ℕ) (m : Faces) (kept : List ℕ) (k : ℕ) (rm : List Bool) (ss ps : List ℕ) → Kept bytes ix c us ts m kept k → WalkTables (c .uses) rm ss ps
+    → (c .faces ≤ length (m .groups)) × (length us ≤ 2048) × WalkTables (length us) rm ss ps
+walks-ready bytes ix c us ts m kept k rm ss ps K T =
+    let P = K .grouped .paired in
+    let size = paired-uses bytes ix c us ts P in
+    (omega (arith, K .grouped .groups-size, opened-limited bytes ix c (P .opened) .faces), paired-few bytes ix c us ts P, record { removed = T .removed ∙ sym size; succ = T .succ ∙ sym size; passed = T .passed ∙ sym size })
 
-  pub removed-few : length rm ≤ 2048
-  removed-few = omega (arith, removed-size, paired-few bytes ix c us ts (R .keeps .grouped .paired))
-
-pub walks-asked : (stage : ℕ) (j : Job) (room : ℕ) (c : Counts) (m : Faces) (us : List Use) (ts : List ℕ) (rm : List Bool) (k : ℕ) (t : List ℕ) → stage ≡ 5
+walks-asked : (stage : ℕ) (j : Job) (room : ℕ) (c : Counts) (m : Faces) (us : List Use) (ts : List ℕ) (rm : List Bool) (k : ℕ) (t : List ℕ) → stage ≡ 5
     → afterWalks stage j room (walkedIn c m us ts rm k t) ≡ stageBytes room (walkRows rm (successors us ts rm) (passedCounts us ts rm))
 unfolding afterWalks walksOf
 walks-asked stage j room c m us ts rm k t e = rw (eq-eqb stage 5 e) (ap (stageBytes room) (sym (walk-rows (walksOf us ts (mergedIn c m rm) (keptIn k t)))))
 
-pub loops-asked : (stage : ℕ) (j : Job) (room : ℕ) (c : Counts) (m : Faces) (us : List Use) (ts : List ℕ) (rm : List Bool) (k : ℕ) (t : List ℕ) → numbersIn c m ≡ groupNumbers (groupsIn c m) → stage ≡ 6
+loops-asked : (stage : ℕ) (j : Job) (room : ℕ) (c : Counts) (m : Faces) (us : List Use) (ts : List ℕ) (rm : List Bool) (k : ℕ) (t : List ℕ) → numbersIn c m ≡ groupNumbers (groupsIn c m) → stage ≡ 6
     → afterWalks stage j room (walkedIn c m us ts rm k t) ≡ stageBytes room (roundRows us (numbersIn c m) (loopsOf (circuits rm (successors us ts rm))))
 unfolding afterWalks walksOf
 loops-asked stage j room c m us ts rm k t numbered e =
     rw (e, numbered) (ap (stageBytes room) (sym (round-rows (walksOf us ts (mergedIn c m rm) (keptIn k t)) (loopsOf (circuits rm (successors us ts rm))))))
 
 -- what is known once the successors are
-module _ (bytes ix : List ℕ) (c : Counts) (us : List Use) (ts : List ℕ) (m : Faces) (kept : List ℕ) (k : ℕ) (rm : List Bool) (many : ℕ) (R : Removed bytes ix c us ts m kept k rm many) (ss : List ℕ) (e : ss ≡ successors us ts rm) where
-  pub settled-from : (total : ℕ) → total ≡ sumOf (λ n. n) (passedCounts us ts rm) → SettledIn bytes ix c us ts m rm ss kept (record { removed = many; passed = total; kept = k })
-  settled-from total q = record {
-    grouped = R .keeps .grouped;
-    removed = R .removed;
-    vertices = R .keeps .vertices;
-    few = R .keeps .few;
-    follows = e;
-    gone = R .many;
-    passed = q;
+module _ (c : Counts) (us : List Use) (ts : List ℕ) (m : Faces) (k : ℕ) (rm : List Bool) (ss ps : List ℕ) (g : Figures) (W : WalksOf c m us ts k rm ss ps g) where
+  pub settled-from : (bytes ix kept : List ℕ) → Kept bytes ix c us ts m kept k → SettledIn bytes ix c us ts m rm ss kept g
+  settled-from bytes ix kept K = record {
+    grouped = K .grouped;
+    removed = W .removed;
+    vertices = K .vertices ∙ ap (λ n. ok (keptIn n kept)) (sym (W .kept));
+    few = omega (arith, W .kept, K .few);
+    follows = W .follows;
+    gone = W .gone;
+    passed = W .passed;
   }
 
+  abbrev goes : List Bool
+  goes = removedUses us ts (groupsIn c m)
+
+  module _ (stage : ℕ) (j : Job) (kept before after : List ℕ) (r : Ending) where
+    -- the stage of the walks
+    pub walks-written : stage ≡ 5 → Staged (walkRows rm ss ps) before after r → Ends (afterWalks stage j (length before) (walkedIn c m us ts goes k kept)) before after r
+    walks-written e S =
+        ends-staged (walkRows rm ss ps) (walkRows goes (successors us ts goes) (passedCounts us ts goes)) before after r
+        (λ i. walkRows (W .removed i) ((W .follows ∙ ap (successors us ts) (W .removed)) i) ((W .counts ∙ ap (passedCounts us ts) (W .removed)) i))
+        (walks-asked stage j (length before) c m us ts goes k kept e) S
+
+    -- what follows it
+    pub walks-end : Ends (afterWalks stage j (length before) (walkedIn c m us ts rm (g .kept) kept)) before after r → Ends (afterWalks stage j (length before) (walkedIn c m us ts goes k kept)) before after r
+    walks-end E = ends-as _ _ before after r (λ i. afterWalks stage j (length before) (walkedIn c m us ts (sym (W .removed) i) (sym (W .kept) i) kept)) E
+
+module _ (bytes ix : List ℕ) (c : Counts) (us : List Use) (ts : List ℕ) (m : Faces) (rm : List Bool) (ss kept : List ℕ) (g : Figures) (S : SettledIn bytes ix c us ts m rm ss kept g) where
   -- they lead round
-  pub walks-known : length ss ≡ length us → Walks c m us rm ss
-  walks-known size = record {
-    permuted =
-        subst (λ n. Permuted n rm ss) (sym size)
-        (settled-permuted bytes ix c us ts m rm ss kept (record { removed = many; passed = sumOf (λ n. n) (passedCounts us ts rm); kept = k }) (settled-from (sumOf (λ n. n) (passedCounts us ts rm)) refl));
-    few = omega (arith, size, paired-few bytes ix c us ts (R .keeps .grouped .paired));
-    faces = opened-limited bytes ix c (R .keeps .grouped .paired .opened) .faces;
-    numbers-size = R .keeps .grouped .numbers-size;
-  }
+  pub walks-known : Walks c m us rm ss
+  walks-known =
+      let P = S .grouped .paired in
+      let size : length ss ≡ length us = ap length (S .follows) ∙ length-successors us ts rm in
+      record {
+        permuted = subst (λ n. Permuted n rm ss) (sym size) (settled-permuted bytes ix c us ts m rm ss kept g S);
+        few = omega (arith, size, paired-few bytes ix c us ts P);
+        faces = opened-limited bytes ix c (P .opened) .faces;
+        numbers-size = S .grouped .numbers-size;
+      }
+
+  -- the stage of the loops
+  pub loops-written : (stage : ℕ) (j : Job) (before after : List ℕ) (r : Ending) → stage ≡ 6 → Staged (roundRows us (numbersIn c m) (loopsOf (circuits rm ss))) before after r
+      → Ends (afterWalks stage j (length before) (walkedIn c m us ts rm (g .kept) kept)) before after r
+  loops-written stage j before after r e T =
+      ends-staged (roundRows us (numbersIn c m) (loopsOf (circuits rm ss))) (roundRows us (numbersIn c m) (loopsOf (circuits rm (successors us ts rm)))) before after r
+      (ap (λ x. roundRows us (numbersIn c m) (loopsOf (circuits rm x))) (S .follows))
+      (loops-asked stage j (length before) c m us ts rm (g .kept) kept (S .grouped .numbered) e) T
 
 -- what follows the loops
 pub walks-on : (stage : ℕ) (j : Job) (room : ℕ) (w : Walked) → (stage ≡ 5 → ⊥) → (stage ≡ 6 → ⊥) → afterLoops stage j room w ≡ afterWalks stage j room w
@@ -340,12 +389,6 @@ walks-on stage j room w a b = rw (ne-eqb stage 5 a, ne-eqb stage 6 b) refl
 -- demand 3 holds of the walks
 pub promised : (bytes : List ℕ) → Promised bytes
 promised bytes j w l s = ground fullTable bytes j w l s .walks
-
--- the walks follow the vertex loops
-pub removed-ends : (stage : ℕ) (j : Job) (c : Counts) (m : Faces) (us : List Use) (ts : List ℕ) (k : ℕ) (t before after : List ℕ) (r : Ending) (rm gone : List Bool) → rm ≡ gone → (stage ≡ 4 → ⊥)
-    → Ends (afterWalks stage j (length before) (walkedIn c m us ts rm k t)) before after r → Ends (afterKeeping stage j (length before) (walkedIn c m us ts gone k t)) before after r
-removed-ends stage j c m us ts k t before after r rm gone e n E =
-    ends-as _ _ before after r (sym (ap (λ x. afterWalks stage j (length before) (walkedIn c m us ts x k t)) e ∙ keeping-on stage j (length before) (walkedIn c m us ts gone k t) n)) E
 
 -- loops over tables as they come back
 pub following-back : (k : ℕ) (w w′ s s′ : List ℕ) → w ≡ w′ → s ≡ s′ → Following k w′ s′ → Following k w s

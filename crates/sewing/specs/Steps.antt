@@ -1,27 +1,36 @@
 -- What each step of sewing is given.
-use Prim.Native.Nat.{ℕ, _≤_}
+use Prim.Native.Nat.{ℕ, _*_, _≤_}
 use mathlib.Core.Path.{_≡_}
 use mathlib.Core.List.{List}
 use mathlib.Core.Bool.{Bool}
-use lib.ListN.{length, take}
-use Rattle.lists.specs.Lists.{keep}
+use lib.ListN.{length, take, replicate}
+use Rattle.lists.specs.Lists.{keep, sumOf}
 use Rattle.rules.specs.declared.Counts.{Counts}
 use Rattle.rules.specs.declared.Use.{Use}
 use Rattle.rules.specs.Outcome.{ok}
-use Rattle.rules.specs.Job.{Job}
+use Rattle.rules.specs.Job.{Job, unset}
 use Rattle.rules.specs.Load.{loaded}
 use Rattle.rules.specs.Read.{usesOf}
 use Rattle.rules.specs.Groups.{lowestMembers, groupNumbers}
 use Rattle.rules.specs.Rules.{fullTable}
 use Rattle.rules.specs.Merge.{boundaries, removedUses}
 use Rattle.rules.specs.VertexLoops.{vertexLoops}
+use Rattle.rules.specs.Walk.{successors, passedCounts}
 use Rattle.rules.specs.Sew.{Walked}
 use Rattle.theorems.specs.Circuits.{Permuted}
 use Rattle.theorems.specs.Demand3.{Settled, WalksHold}
 use Rattle.job.specs.Lists.{pointsIn, loopsIn, answersIn, jobIn}
 use Rattle.vertex_loops.specs.Kept.{keptIn}
 use Rattle.progress.specs.declared.Faces.{Faces}
+use Rattle.progress.specs.declared.Figures.{Figures}
 use Rattle.progress.specs.Known.{Opened, Grouped, groupsIn, numbersIn}
+
+-- tables before the uses are read: no chain, no twin, room for every vertex loop
+pub record Blank (c : Counts) (firsts nexts twins kept : List ℕ) : Type 0 where
+  pub firsts-are : firsts ≡ replicate (c .edges) 0
+  pub nexts-size : length nexts ≡ c .uses
+  pub twins-are : twins ≡ replicate (c .uses) unset
+  pub kept-size : 2 * c .loops ≤ length kept
 
 -- the uses are read
 pub record Read (bytes ix : List ℕ) (c : Counts) (us : List Use) : Type 0 where
@@ -45,11 +54,20 @@ pub record Kept (bytes ix : List ℕ) (c : Counts) (us : List Use) (ts : List �
   pub vertices : vertexLoops (answersIn bytes ix c) (pointsIn bytes c) (numbersIn c m) (loopsIn bytes ix c) ≡ ok (keptIn k kept)
   pub few : k ≤ c .loops
 
--- the uses are removed
-pub record Removed (bytes ix : List ℕ) (c : Counts) (us : List Use) (ts : List ℕ) (m : Faces) (kept : List ℕ) (k : ℕ) (rm : List Bool) (gone : ℕ) : Type 0 where
-  pub keeps : Kept bytes ix c us ts m kept k
+-- tables for the walks of n uses
+pub record WalkTables (n : ℕ) (rm : List Bool) (ss ps : List ℕ) : Type 0 where
+  pub removed : length rm ≡ n
+  pub succ : length ss ≡ n
+  pub passed : length ps ≡ n
+
+-- the uses removed and the walks, and how many there are: removed, passed over, and vertex loops kept
+pub record WalksOf (c : Counts) (m : Faces) (us : List Use) (ts : List ℕ) (k : ℕ) (rm : List Bool) (ss ps : List ℕ) (g : Figures) : Type 0 where
   pub removed : rm ≡ removedUses us ts (groupsIn c m)
-  pub many : gone ≡ length (keep (λ g. g) rm)
+  pub follows : ss ≡ successors us ts rm
+  pub counts : ps ≡ passedCounts us ts rm
+  pub gone : g .removed ≡ length (keep (λ gone. gone) rm)
+  pub passed : g .passed ≡ sumOf (λ k. k) (passedCounts us ts rm)
+  pub kept : g .kept ≡ k
 
 -- the walks are known by their successors
 pub record Walks (c : Counts) (m : Faces) (us : List Use) (rm : List Bool) (ss : List ℕ) : Type 0 where

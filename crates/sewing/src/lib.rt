@@ -9,6 +9,8 @@ use merge_faces::boundaries;
 use merge_faces::merge_faces;
 use merge_faces::number;
 use merge_faces::remove;
+use pair::NONE;
+use pair::Pairs;
 use pair::pair;
 use progress::BODY;
 use progress::EDGES;
@@ -53,8 +55,8 @@ ghost use Rattle.job.specs.Lists.{jobIn};
 ghost use Rattle.uses.specs.Table.{usesIn};
 ghost use Rattle.stages_out.specs.Rows.{Staged, roundRows};
 ghost use Rattle.progress.specs.Chain.{afterReading, afterPairing, afterMerging, afterKeeping, afterWalks, staged, sewnBy};
-ghost use Rattle.progress.specs.Known.{Opened, Paired, Grouped, groupsIn, numbersIn, mergedIn, walkedIn};
-ghost use Rattle.sewing.specs.Steps.{Read, FacesOf, Kept, Removed, Walks, Promised};
+ghost use Rattle.progress.specs.Known.{Opened, Paired, Grouped, Settled, groupsIn, numbersIn, mergedIn, walkedIn};
+ghost use Rattle.sewing.specs.Steps.{Blank, Read, FacesOf, Kept, WalkTables, WalksOf, Walks, Promised};
 
 // The stage `loops` of walks that are known by their successors.
 fn put_loops(
@@ -83,8 +85,8 @@ fn put_loops(
     )
 }
 
-// The walks, from the uses that are removed on.
-fn on_removed(
+// The loops, or what is built on the walks.
+fn on_walks(
     stage: usize,
     job: &[u8],
     index: &[u32],
@@ -93,29 +95,17 @@ fn on_removed(
     uses: &[u32],
     twins: &[u32],
     removed: &[bool],
+    succ: &[u32],
     kept: &[u32],
-    k: usize,
-    gone: usize,
+    g: Figures,
     out: &mut [u8],
 ) -> Ending
-    requires { ⌜ Removed (now job) (now index) c (usesIn (now uses)) (now twins) m (now kept) k (now removed) gone ⌝ }
-    ensures { λ r. ⌜ Ends (afterWalks stage (jobIn (now (job .entry)) (now (index .entry)) c) (length (now (out .entry))) (walkedIn c m (usesIn (now (uses .entry))) (now (twins .entry)) (now (removed .entry)) k (now (kept .entry)))) (now (out .entry)) (now (out .exit)) r ⌝ }
+    requires { ⌜ Settled (now job) (now index) c (usesIn (now uses)) (now twins) m (now removed) (now succ) (now kept) g × (stage ≡ 5 → ⊥) ⌝ }
+    ensures { λ r. ⌜ Ends (afterWalks stage (jobIn (now (job .entry)) (now (index .entry)) c) (length (now (out .entry))) (walkedIn c m (usesIn (now (uses .entry))) (now (twins .entry)) (now (removed .entry)) (g .kept) (now (kept .entry)))) (now (out .entry)) (now (out .exit)) r ⌝ }
 {
-    let n = removed.len();
-    let mut succ = [0u32; 2048];
-    let mut passed = [0u32; 2048];
-    let total = successors(uses, twins, removed, &mut succ[..n], &mut passed[..n]);
-    if stage == WALK {
-        return write_walk(removed, &succ[..n], &passed[..n], out);
-    }
     if stage == LOOPS {
-        return put_loops(c, m, uses, removed, &succ[..n], out);
+        return put_loops(c, m, uses, removed, succ, out);
     }
-    let g = Figures {
-        removed: gone,
-        passed: total,
-        kept: k,
-    };
     rebuild(
         stage,
         job,
@@ -125,14 +115,150 @@ fn on_removed(
         uses,
         twins,
         removed,
-        &succ[..n],
+        succ,
         kept,
         g,
         out,
     )
 }
 
-// The uses removed, once the vertex loops are kept.
+// The uses removed and the walks past them, each in its table; how many are removed and passed over, beside the k vertex
+// loops kept.
+fn walks(
+    c: Counts,
+    m: Faces,
+    uses: &[u32],
+    twins: &[u32],
+    k: usize,
+    removed: &mut [bool],
+    succ: &mut [u32],
+    passed: &mut [u32],
+) -> Figures
+    requires { ⌜ (c .faces ≤ length (m .groups)) × (length (usesIn (now uses)) ≤ 2048) × WalkTables (length (usesIn (now uses))) (now removed) (now succ) (now passed) ⌝ }
+    ensures { λ r. ⌜ WalksOf c m (usesIn (now (uses .entry))) (now (twins .entry)) k (now (removed .exit)) (now (succ .exit)) (now (passed .exit)) r ⌝ }
+{
+    let groups = m.groups;
+    let gone = remove(uses, twins, &groups[..c.faces], removed);
+    let total = successors(uses, twins, removed, succ, passed);
+    Figures {
+        removed: gone,
+        passed: total,
+        kept: k,
+    }
+}
+
+// The walks in tables for all uses.
+fn walk_in(
+    stage: usize,
+    job: &[u8],
+    index: &[u32],
+    c: Counts,
+    m: Faces,
+    uses: &[u32],
+    twins: &[u32],
+    kept: &[u32],
+    k: usize,
+    removed: &mut [bool],
+    succ: &mut [u32],
+    passed: &mut [u32],
+    out: &mut [u8],
+) -> Ending
+    requires { ⌜ Kept (now job) (now index) c (usesIn (now uses)) (now twins) m (now kept) k × WalkTables (c .uses) (now removed) (now succ) (now passed) ⌝ }
+    ensures { λ r. ⌜ Ends (afterWalks stage (jobIn (now (job .entry)) (now (index .entry)) c) (length (now (out .entry))) (walkedIn c m (usesIn (now (uses .entry))) (now (twins .entry)) (removedUses (usesIn (now (uses .entry))) (now (twins .entry)) (groupsIn c m)) k (now (kept .entry)))) (now (out .entry)) (now (out .exit)) r ⌝ }
+{
+    let g = walks(c, m, uses, twins, k, removed, succ, passed);
+    if stage == WALK {
+        return write_walk(removed, succ, passed, out);
+    }
+    on_walks(
+        stage,
+        job,
+        index,
+        c,
+        m,
+        uses,
+        twins,
+        removed,
+        succ,
+        kept,
+        g,
+        out,
+    )
+}
+
+// The walks of a part with at most 64 uses: small tables are cleared sooner.
+fn walk_in_small_tables(
+    stage: usize,
+    job: &[u8],
+    index: &[u32],
+    c: Counts,
+    m: Faces,
+    uses: &[u32],
+    twins: &[u32],
+    kept: &[u32],
+    k: usize,
+    out: &mut [u8],
+) -> Ending
+    requires { ⌜ Kept (now job) (now index) c (usesIn (now uses)) (now twins) m (now kept) k × (c .uses ≤ 64) ⌝ }
+    ensures { λ r. ⌜ Ends (afterWalks stage (jobIn (now (job .entry)) (now (index .entry)) c) (length (now (out .entry))) (walkedIn c m (usesIn (now (uses .entry))) (now (twins .entry)) (removedUses (usesIn (now (uses .entry))) (now (twins .entry)) (groupsIn c m)) k (now (kept .entry)))) (now (out .entry)) (now (out .exit)) r ⌝ }
+{
+    let mut removed = [false; 64];
+    let mut succ = [0u32; 64];
+    let mut passed = [0u32; 64];
+    walk_in(
+        stage,
+        job,
+        index,
+        c,
+        m,
+        uses,
+        twins,
+        kept,
+        k,
+        &mut removed[..c.uses],
+        &mut succ[..c.uses],
+        &mut passed[..c.uses],
+        out,
+    )
+}
+
+// The walks of any part.
+fn walk_in_large_tables(
+    stage: usize,
+    job: &[u8],
+    index: &[u32],
+    c: Counts,
+    m: Faces,
+    uses: &[u32],
+    twins: &[u32],
+    kept: &[u32],
+    k: usize,
+    out: &mut [u8],
+) -> Ending
+    requires { ⌜ Kept (now job) (now index) c (usesIn (now uses)) (now twins) m (now kept) k × (c .uses ≤ 2048) ⌝ }
+    ensures { λ r. ⌜ Ends (afterWalks stage (jobIn (now (job .entry)) (now (index .entry)) c) (length (now (out .entry))) (walkedIn c m (usesIn (now (uses .entry))) (now (twins .entry)) (removedUses (usesIn (now (uses .entry))) (now (twins .entry)) (groupsIn c m)) k (now (kept .entry)))) (now (out .entry)) (now (out .exit)) r ⌝ }
+{
+    let mut removed = [false; 2048];
+    let mut succ = [0u32; 2048];
+    let mut passed = [0u32; 2048];
+    walk_in(
+        stage,
+        job,
+        index,
+        c,
+        m,
+        uses,
+        twins,
+        kept,
+        k,
+        &mut removed[..c.uses],
+        &mut succ[..c.uses],
+        &mut passed[..c.uses],
+        out,
+    )
+}
+
+// The walks, once the vertex loops are kept.
 fn on_kept(
     stage: usize,
     job: &[u8],
@@ -151,24 +277,10 @@ fn on_kept(
     if stage == VERTEX_LOOPS {
         return write_kept(kept, k, out);
     }
-    let n = twins.len();
-    let groups = m.groups;
-    let mut removed = [false; 2048];
-    let gone = remove(uses, twins, &groups[..c.faces], &mut removed[..n]);
-    on_removed(
-        stage,
-        job,
-        index,
-        c,
-        m,
-        uses,
-        twins,
-        &removed[..n],
-        kept,
-        k,
-        gone,
-        out,
-    )
+    if c.uses <= 64 {
+        return walk_in_small_tables(stage, job, index, c, m, uses, twins, kept, k, out);
+    }
+    walk_in_large_tables(stage, job, index, c, m, uses, twins, kept, k, out)
 }
 
 // The vertex loops, once the faces are merged.
@@ -180,9 +292,10 @@ fn on_merged(
     m: Faces,
     uses: &[u32],
     twins: &[u32],
+    kept: &mut [u32],
     out: &mut [u8],
 ) -> Ending
-    requires { ⌜ Grouped (now job) (now index) c (usesIn (now uses)) (now twins) m ⌝ }
+    requires { ⌜ Grouped (now job) (now index) c (usesIn (now uses)) (now twins) m × (2 * c .loops ≤ length (now kept)) ⌝ }
     ensures { λ r. ⌜ Ends (afterMerging stage (jobIn (now (job .entry)) (now (index .entry)) c) (usesIn (now (uses .entry))) (now (twins .entry)) (length (now (out .entry))) (mergedIn c m (removedUses (usesIn (now (uses .entry))) (now (twins .entry)) (groupsIn c m)))) (now (out .entry)) (now (out .exit)) r ⌝ }
 {
     if stage == MERGE {
@@ -191,11 +304,10 @@ fn on_merged(
         return write_pairs(&labels[..c.faces], &groups[..c.faces], out);
     }
     let numbers = m.numbers;
-    let mut kept = [0u32; 2048];
-    let r = vertex_loops(job, index, c, &numbers[..c.faces], &mut kept);
+    let r = vertex_loops(job, index, c, &numbers[..c.faces], kept);
     match r {
         Keeping::Refused(n, p) => Ending::Refused(n, p),
-        Keeping::Done(k) => on_kept(stage, job, index, c, m, uses, twins, &kept, k, out),
+        Keeping::Done(k) => on_kept(stage, job, index, c, m, uses, twins, kept, k, out),
     }
 }
 
@@ -226,9 +338,10 @@ fn on_paired(
     c: Counts,
     uses: &[u32],
     twins: &[u32],
+    kept: &mut [u32],
     out: &mut [u8],
 ) -> Ending
-    requires { ⌜ Paired (now job) (now index) c (usesIn (now uses)) (now twins) ⌝ }
+    requires { ⌜ Paired (now job) (now index) c (usesIn (now uses)) (now twins) × (2 * c .loops ≤ length (now kept)) ⌝ }
     ensures { λ r. ⌜ Ends (afterPairing stage (jobIn (now (job .entry)) (now (index .entry)) c) (usesIn (now (uses .entry))) (length (now (out .entry))) (now (twins .entry))) (now (out .entry)) (now (out .exit)) r ⌝ }
 {
     if stage == PAIR {
@@ -240,7 +353,7 @@ fn on_paired(
         Merging::Refused(n, p) => Ending::Refused(n, p),
         Merging::Done => {
             let m = faces_of(c.faces, uses, twins, groups);
-            on_merged(stage, job, index, c, m, uses, twins, out)
+            on_merged(stage, job, index, c, m, uses, twins, kept, out)
         }
     }
 }
@@ -252,23 +365,104 @@ fn on_read(
     index: &[u32],
     c: Counts,
     uses: &[u32],
+    firsts: &mut [u32],
+    nexts: &mut [u32],
+    twins: &mut [u32],
+    kept: &mut [u32],
     out: &mut [u8],
 ) -> Ending
-    requires { ⌜ Read (now job) (now index) c (usesIn (now uses)) ⌝ }
+    requires { ⌜ Read (now job) (now index) c (usesIn (now uses)) × Blank c (now firsts) (now nexts) (now twins) (now kept) ⌝ }
     ensures { λ r. ⌜ Ends (afterReading stage (jobIn (now (job .entry)) (now (index .entry)) c) (length (now (out .entry))) (usesIn (now (uses .entry)))) (now (out .entry)) (now (out .exit)) r ⌝ }
 {
     if stage == READ {
         return write_read(uses, out);
     }
+    link(uses, firsts, nexts);
+    let r = pair(job, index, c, uses, firsts, nexts, twins);
+    match r {
+        Pairs::Refused(n, p) => Ending::Refused(n, p),
+        Pairs::Done => on_paired(stage, job, index, c, uses, twins, kept, out),
+    }
+}
+
+// The uses read in tables for all uses, edges and loops.
+fn read_in(
+    stage: usize,
+    job: &[u8],
+    index: &[u32],
+    c: Counts,
+    uses: &mut [u32],
+    firsts: &mut [u32],
+    nexts: &mut [u32],
+    twins: &mut [u32],
+    kept: &mut [u32],
+    out: &mut [u8],
+) -> Ending
+    requires { ⌜ Opened (now job) (now index) c × (length (now uses) ≡ 4 * c .uses) × Blank c (now firsts) (now nexts) (now twins) (now kept) ⌝ }
+    ensures { λ r. ⌜ Ends (afterReading stage (jobIn (now (job .entry)) (now (index .entry)) c) (length (now (out .entry))) (usesOf (jobIn (now (job .entry)) (now (index .entry)) c))) (now (out .entry)) (now (out .exit)) r ⌝ }
+{
+    read(job, index, c, uses);
+    on_read(stage, job, index, c, uses, firsts, nexts, twins, kept, out)
+}
+
+// The uses of a part with at most 64 uses, edges and loops: small tables are cleared sooner.
+fn read_in_small_tables(
+    stage: usize,
+    job: &[u8],
+    index: &[u32],
+    c: Counts,
+    out: &mut [u8],
+) -> Ending
+    requires { ⌜ Opened (now job) (now index) c × (c .uses ≤ 64) × (c .edges ≤ 64) × (c .loops ≤ 64) ⌝ }
+    ensures { λ r. ⌜ Ends (afterReading stage (jobIn (now (job .entry)) (now (index .entry)) c) (length (now (out .entry))) (usesOf (jobIn (now (job .entry)) (now (index .entry)) c))) (now (out .entry)) (now (out .exit)) r ⌝ }
+{
+    let mut uses = [0u32; 256];
+    let mut firsts = [0u32; 64];
+    let mut nexts = [0u32; 64];
+    let mut twins = [NONE; 64];
+    let mut kept = [0u32; 128];
+    read_in(
+        stage,
+        job,
+        index,
+        c,
+        &mut uses[..4 * c.uses],
+        &mut firsts[..c.edges],
+        &mut nexts[..c.uses],
+        &mut twins[..c.uses],
+        &mut kept[..2 * c.loops],
+        out,
+    )
+}
+
+// The uses of any part.
+fn read_in_large_tables(
+    stage: usize,
+    job: &[u8],
+    index: &[u32],
+    c: Counts,
+    out: &mut [u8],
+) -> Ending
+    requires { ⌜ Opened (now job) (now index) c × (c .uses ≤ 2048) × (c .edges ≤ 1024) × (c .loops ≤ 1024) ⌝ }
+    ensures { λ r. ⌜ Ends (afterReading stage (jobIn (now (job .entry)) (now (index .entry)) c) (length (now (out .entry))) (usesOf (jobIn (now (job .entry)) (now (index .entry)) c))) (now (out .entry)) (now (out .exit)) r ⌝ }
+{
+    let mut uses = [0u32; 8192];
     let mut firsts = [0u32; 1024];
     let mut nexts = [0u32; 2048];
-    link(uses, &mut firsts[..c.edges], &mut nexts[..c.uses]);
-    let p = pair(job, index, c, uses, &firsts[..c.edges], &nexts[..c.uses]);
-    if p.refusal != 0 {
-        return Ending::Refused(p.refusal, p.place);
-    }
-    let twins = p.twins;
-    on_paired(stage, job, index, c, uses, &twins[..c.uses], out)
+    let mut twins = [NONE; 2048];
+    let mut kept = [0u32; 2048];
+    read_in(
+        stage,
+        job,
+        index,
+        c,
+        &mut uses[..4 * c.uses],
+        &mut firsts[..c.edges],
+        &mut nexts[..c.uses],
+        &mut twins[..c.uses],
+        &mut kept[..2 * c.loops],
+        out,
+    )
 }
 
 // The uses read, once the job is loaded.
@@ -276,9 +470,10 @@ fn on_loaded(stage: usize, job: &[u8], index: &[u32], c: Counts, out: &mut [u8])
     requires { ⌜ Opened (now job) (now index) c ⌝ }
     ensures { λ r. ⌜ Ends (afterReading stage (jobIn (now (job .entry)) (now (index .entry)) c) (length (now (out .entry))) (usesOf (jobIn (now (job .entry)) (now (index .entry)) c))) (now (out .entry)) (now (out .exit)) r ⌝ }
 {
-    let mut uses = [0u32; 8192];
-    read(job, index, c, &mut uses[..4 * c.uses]);
-    on_read(stage, job, index, c, &uses[..4 * c.uses], out)
+    if c.uses <= 64 && c.edges <= 64 && c.loops <= 64 {
+        return read_in_small_tables(stage, job, index, c, out);
+    }
+    read_in_large_tables(stage, job, index, c, out)
 }
 
 // The stages in order, up to the one that is asked for.

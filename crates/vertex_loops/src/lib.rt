@@ -5,7 +5,7 @@ use fields::put;
 use fields::word;
 use rules::Counts;
 ghost use mathlib.Core.Path.{_≡_};
-ghost use Prim.Native.Nat.{_+_, _≤_, _<_};
+ghost use Prim.Native.Nat.{_+_, _*_, _≤_, _<_};
 ghost use lib.ListN.{length};
 ghost use Rattle.rules.specs.VertexLoops.{alreadyThere, keepUnlessThere, vertexLoopStep, vertexLoops};
 ghost use Rattle.job.specs.Lists.{pointsIn, loopIn, loopsIn, answersIn};
@@ -80,7 +80,7 @@ fn keep_unless_there(
     face: usize,
     point: usize,
 ) -> Keeping
-    requires { ⌜ Indexed (now job) (now index) c × (count < 1024) × (length (now kept) ≡ 2048) × (face < 4294967296) × (point < 4294967296) ⌝ }
+    requires { ⌜ Indexed (now job) (now index) c × (count < 1024) × (2 * count + 2 ≤ length (now kept)) × (face < 4294967296) × (point < 4294967296) ⌝ }
     ensures { λ r. ⌜ (keptOf r (now (kept .exit)) ≡ keepUnlessThere (answersIn (now (job .entry)) (now (index .entry)) c) face point (keptIn count (now (kept .entry)))) × UpTo (count + 1) r ⌝ }
 {
     let t = already_there(job, index, c, kept, count, face, point);
@@ -105,7 +105,7 @@ fn keep_loop(
     count: usize,
     l: usize,
 ) -> Keeping
-    requires { ⌜ Indexed (now job) (now index) c × (c .vertices ≤ 1024) × (l < 1024) × (count < 1024) × (length (now kept) ≡ 2048) ⌝ }
+    requires { ⌜ Indexed (now job) (now index) c × (c .vertices ≤ 1024) × (l < 1024) × (count < 1024) × (2 * count + 2 ≤ length (now kept)) ⌝ }
     ensures { λ r. ⌜ (keptOf r (now (kept .exit)) ≡ vertexLoopStep (answersIn (now (job .entry)) (now (index .entry)) c) (pointsIn (now (job .entry)) c) (now (numbers .entry)) (loopIn (now (job .entry)) (now (index .entry)) l) (keptIn count (now (kept .entry)))) × UpTo (count + 1) r ⌝ }
 {
     let kind = job::loop_kind(job, index, l);
@@ -126,7 +126,7 @@ pub fn vertex_loops(
     numbers: &[u32],
     kept: &mut [u32],
 ) -> Keeping
-    requires { ⌜ Indexed (now job) (now index) c × (c .vertices ≤ 1024) × (c .loops ≤ 1024) × (length (now kept) ≡ 2048) ⌝ }
+    requires { ⌜ Indexed (now job) (now index) c × (c .vertices ≤ 1024) × (c .loops ≤ 1024) × (2 * c .loops ≤ length (now kept)) ⌝ }
     ensures { λ r. ⌜ (keptOf r (now (kept .exit)) ≡ vertexLoops (answersIn (now (job .entry)) (now (index .entry)) c) (pointsIn (now (job .entry)) c) (now (numbers .entry)) (loopsIn (now (job .entry)) (now (index .entry)) c)) × UpTo (c .loops) r ⌝ }
 {
     let mut count: usize = 0;

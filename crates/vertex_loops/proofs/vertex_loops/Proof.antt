@@ -23,7 +23,7 @@ loop-holds c = let a = c .before .before .before .before .args in (refl, keeping
 
 -- src/lib.rt:100:13
 keep-loop-requires : tie.Need-keep-loop-requires Inv-loop μ-loop
-keep-loop-requires c κs = let l = c .before .before .before .loop in (c .before .before .before .before .before .before .before .before .pre .0, c .before .before .before .before .before .before .before .before .pre .1, omega (arith, c .before .if1 .taken, c .before .before .before .before .before .before .before .before .pre .2), omega (arith, l .inv .1 .few, c .before .if1 .taken, c .before .before .before .before .before .before .before .before .pre .2), l .inv .0 ∙ c .before .before .before .before .before .before .before .before .pre .3)
+keep-loop-requires c κs = let l = c .before .before .before .loop in (c .before .before .before .before .before .before .before .before .pre .0, c .before .before .before .before .before .before .before .before .pre .1, omega (arith, c .before .if1 .taken, c .before .before .before .before .before .before .before .before .pre .2), omega (arith, l .inv .1 .few, c .before .if1 .taken, c .before .before .before .before .before .before .before .before .pre .2), omega (arith, l .inv .0, l .inv .1 .few, c .before .if1 .taken, c .before .before .before .before .before .before .before .before .pre .3))
 
 -- src/lib.rt:102:30
 enum-known-k : tie.Need-enum-known-k Inv-loop μ-loop
