@@ -1,7 +1,7 @@
 /*
- * A load on the boundary: makes up jobs and runs sewing, a stage and a loop request on each, under the compiler's memory
- * checker. Each operation runs twice: on heap copies with guard bytes after job and output, and on copies that end where
- * an inaccessible page begins. Both must answer alike, write what the answer says and not a byte more.
+ * A load on the boundary: makes up jobs and runs sewing, a stage and a loop request on each, under the compiler's
+ * memory checker. Each operation runs twice: on heap copies with guard bytes after job and output, and on copies that
+ * end where an inaccessible page begins. Both must answer alike, write what the answer says and not a byte more.
  *
  * usage: load VECTORS JOBS SEED [FIRST]
  *
@@ -252,10 +252,22 @@ static double now(void)
     return (double)t.tv_sec + (double)t.tv_nsec / 1e9;
 }
 
+/* Whether a word is a number; it is stored. */
+static int read_number(const char *word, uint64_t *number)
+{
+    char *end;
+    *number = strtoull(word, &end, 10);
+    return word[0] >= '0' && word[0] <= '9' && *end == 0;
+}
+
 int main(int count_of_words, char **words)
 {
     static struct seeds seeds;
-    if (count_of_words < 4 || count_of_words > 5) {
+    uint64_t jobs;
+    uint64_t first = 0;
+    int usable = (count_of_words == 4 || count_of_words == 5) && read_number(words[2], &jobs)
+        && read_number(words[3], &seed) && (count_of_words == 4 || read_number(words[4], &first));
+    if (!usable) {
         fprintf(stderr, "usage: load VECTORS JOBS SEED [FIRST]\n");
         return 2;
     }
@@ -263,9 +275,6 @@ int main(int count_of_words, char **words)
         fprintf(stderr, "load: %s cannot be read as packed vectors\n", words[1]);
         return 2;
     }
-    uint64_t jobs = strtoull(words[2], NULL, 10);
-    uint64_t first = count_of_words == 5 ? strtoull(words[4], NULL, 10) : 0;
-    seed = strtoull(words[3], NULL, 10);
     memset(marks, MARK, sizeof marks);
     job_end = arena_end();
     out_end = arena_end();
@@ -273,7 +282,8 @@ int main(int count_of_words, char **words)
     double begun = now();
     for (number_of_job = first; number_of_job < first + jobs; number_of_job++)
         run_job(&seeds);
-    printf("jobs %llu, seed %llu, %.1f seconds, nothing wrong\n", (unsigned long long)jobs, (unsigned long long)seed, now() - begun);
+    printf("jobs %llu, seed %llu, %.1f seconds, nothing wrong\n",
+           (unsigned long long)jobs, (unsigned long long)seed, now() - begun);
     print_counts("sewing", sewn);
     print_counts("stages", staged);
     print_counts("loop requests", requested);

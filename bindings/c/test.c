@@ -1,6 +1,6 @@
 /*
- * Tests of the interface at its edges: null pointers with length 0, outputs exactly full and one byte short, guard bytes
- * after job, output and page.
+ * Tests of the interface at its edges: null pointers with length 0, outputs exactly full and one byte short, guard
+ * bytes after job, output and page.
  *
  * usage: test FILE.job      (part P9)
  */
@@ -78,7 +78,8 @@ static void test_rooms(const uint8_t *job, size_t length)
     for (int k = 0; k < OPERATIONS; k++) {
         size_t needed = 77;
         size_t number = operations[k].run(job, length, NULL, 0, &needed);
-        expect(number == (needed == 0 ? ZAXCLOVER_DONE : ZAXCLOVER_NO_ROOM), operations[k].name, "no output at a null pointer");
+        size_t wanted = needed == 0 ? ZAXCLOVER_DONE : ZAXCLOVER_NO_ROOM;
+        expect(number == wanted, operations[k].name, "no output at a null pointer");
         size_t rooms[] = {0, needed == 0 ? 0 : needed - 1, needed, needed + 1, 65536};
         for (size_t i = 0; i < sizeof rooms / sizeof rooms[0]; i++)
             test_room(&operations[k], job, length, needed, rooms[i]);
