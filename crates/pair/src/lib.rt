@@ -19,16 +19,30 @@ ghost use Rattle.answers.specs.Index.{Indexed};
 ghost use Rattle.fields.specs.Chains.{Falling};
 ghost use Rattle.uses.specs.Table.{usesIn};
 ghost use Rattle.edge_uses.specs.Links.{nextUse, usesOn, Linked};
-ghost use Rattle.pair.specs.Twins.{pairsOf};
+ghost use Rattle.pair.specs.Twins.{pairsOf, twinsOf};
 
 // What is asked for is paired, or the refusal that ends the stage.
-pub enum Pairs {
+enum Pairs {
     Done,
     Refused(usize, usize),
 }
 
+// The twins of all uses, the entries after them unset; refusal 0: none.
+pub struct Paired {
+    pub refusal: usize,
+    pub place: usize,
+    pub twins: [u32; 2048],
+}
+
+// The same of a part with at most 64 uses: a small table is cleared and handed on sooner.
+pub struct SmallPaired {
+    pub refusal: usize,
+    pub place: usize,
+    pub twins: [u32; 64],
+}
+
 // The mark for no twin yet.
-pub const NONE: u32 = 4294967295;
+const NONE: u32 = 4294967295;
 
 // a and b become twins.
 fn twin(twins: &mut [u32], a: usize, b: usize)
@@ -212,7 +226,7 @@ fn lone(twins: &[u32]) -> usize
 }
 
 // All edges, in a table that has no twin yet; 13 for the lowest use left without.
-pub fn pair(
+fn pair_edges(
     job: &[u8],
     index: &[u32],
     c: Counts,
@@ -240,4 +254,62 @@ pub fn pair(
         return Pairs::Refused(13, h);
     }
     Pairs::Done
+}
+
+// The twins of a job's uses.
+pub fn pair(
+    job: &[u8],
+    index: &[u32],
+    c: Counts,
+    uses: &[u32],
+    firsts: &[u32],
+    nexts: &[u32],
+) -> Paired
+    requires { ⌜ Indexed (now job) (now index) c × Linked (usesIn (now uses)) (now firsts) (now nexts) × (length (usesIn (now uses)) ≤ 2048) × (length (now firsts) ≡ c .edges) × (c .edges ≤ 1024) ⌝ }
+    ensures { λ r. ⌜ (twinsOf (length (usesIn (now (uses .entry)))) (r .refusal) (r .place) (r .twins) ≡ pairAll (answersIn (now (job .entry)) (now (index .entry)) c) (usesIn (now (uses .entry))) (c .edges)) × (length (r .twins) ≡ 2048) ⌝ }
+{
+    let n = uses::count(uses);
+    let mut twins = [NONE; 2048];
+    let r = pair_edges(job, index, c, uses, firsts, nexts, &mut twins[..n]);
+    match r {
+        Pairs::Refused(refusal, place) => Paired {
+            refusal,
+            place,
+            twins,
+        },
+        Pairs::Done => Paired {
+            refusal: 0,
+            place: 0,
+            twins,
+        },
+    }
+}
+
+// The twins of at most 64 uses.
+pub fn pair_small(
+    job: &[u8],
+    index: &[u32],
+    c: Counts,
+    uses: &[u32],
+    firsts: &[u32],
+    nexts: &[u32],
+) -> SmallPaired
+    requires { ⌜ Indexed (now job) (now index) c × Linked (usesIn (now uses)) (now firsts) (now nexts) × (length (usesIn (now uses)) ≤ 64) × (length (now firsts) ≡ c .edges) × (c .edges ≤ 1024) ⌝ }
+    ensures { λ r. ⌜ (twinsOf (length (usesIn (now (uses .entry)))) (r .refusal) (r .place) (r .twins) ≡ pairAll (answersIn (now (job .entry)) (now (index .entry)) c) (usesIn (now (uses .entry))) (c .edges)) × (length (r .twins) ≡ 64) ⌝ }
+{
+    let n = uses::count(uses);
+    let mut twins = [NONE; 64];
+    let r = pair_edges(job, index, c, uses, firsts, nexts, &mut twins[..n]);
+    match r {
+        Pairs::Refused(refusal, place) => SmallPaired {
+            refusal,
+            place,
+            twins,
+        },
+        Pairs::Done => SmallPaired {
+            refusal: 0,
+            place: 0,
+            twins,
+        },
+    }
 }

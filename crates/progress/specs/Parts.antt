@@ -19,8 +19,7 @@ pub zeros-at : (size i : ℕ) → getD (zeros size) i 0 ≡ 0
 unfolding zeros
 zeros-at size i = getD-constant size 0 i
 
--- the first part of a table of one number
-pub take-same : (a n size : ℕ) → n ≤ size → take n (replicate size a) ≡ replicate n a
+take-same : (a n size : ℕ) → n ≤ size → take n (replicate size a) ≡ replicate n a
 take-same a zero size h = refl
 take-same a (suc n) zero h = absurd (omega arith)
 take-same a (suc n) (suc size) h = ap {B = List ℕ} (λ l. a ∷ l) (take-same a n size (omega arith))

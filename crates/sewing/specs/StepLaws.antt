@@ -17,7 +17,7 @@ use Rattle.rules.specs.declared.Use.{Use}
 use Rattle.rules.specs.declared.Ending.{Ending}
 use Rattle.rules.specs.Outcome.{Outcome, ok, refuse, _>>=_}
 use Rattle.rules.specs.OutcomeLaws.{bind-on, bind-stop}
-use Rattle.rules.specs.Job.{Job, unset}
+use Rattle.rules.specs.Job.{Job}
 use Rattle.rules.specs.Load.{loading}
 use Rattle.rules.specs.Read.{usesOf}
 use Rattle.rules.specs.Groups.{isLowest, lowestMembers, groupNumbers}
@@ -40,9 +40,7 @@ use Rattle.load.specs.declared.Loaded.the-variants.{Refused as Stopped, Done as
 use Rattle.load.specs.Going.{LoadedAs}
 use Rattle.answers.specs.Index.{Indexed}
 use Rattle.edge_uses.specs.Links.{Linked}
-use Rattle.pair.specs.declared.Pairs.{Pairs}
-use Rattle.pair.specs.declared.Pairs.the-variants.{Done as Pairing, Refused as Unpaired}
-use Rattle.pair.specs.Twins.{pairsOf}
+use Rattle.pair.specs.Twins.{twinsOf}
 use Rattle.merge_faces.specs.declared.Merging.{Merging}
 use Rattle.merge_faces.specs.declared.Merging.the-variants.{Done as Merges, Refused as Unmerged}
 use Rattle.merge_faces.specs.Merging.{mergedOf}
@@ -53,12 +51,12 @@ use Rattle.vertex_loops.specs.Kept.{keptIn, keptOf, UpTo}
 use Rattle.stages_out.specs.Rows.{Staged, walkRows, walk-rows, pairRows, pair-rows, keptRows, kept-rows, roundRows, round-rows}
 use Rattle.progress.specs.declared.Faces.{Faces}
 use Rattle.progress.specs.declared.Figures.{Figures}
-use Rattle.progress.specs.Parts.{take-same, zeros, zeros-part, part-size, lent-part, lent-long}
+use Rattle.progress.specs.Parts.{zeros, zeros-part, part-size, lent-part, lent-long}
 use Rattle.progress.specs.Endings.{ends-as}
 use Rattle.progress.specs.Chain.{afterLoops, afterWalks, afterKeeping, afterMerging, afterPairing, afterReading, staged, sewnBy}
 use Rattle.progress.specs.Known.{Opened, Paired, boundariesIn, groupsIn, numbersIn, Grouped, mergedIn, walkedIn, Settled as SettledIn}
 use Rattle.progress.specs.KnownLaws.{opened-counted, opened-loaded, opened-edges, opened-faces, opened-limited, paired-uses, paired-few, groups-are-lowest, grouped-merges, settled-permuted}
-use Rattle.sewing.specs.Steps.{Blank, Read as ReadIn, FacesOf, Kept, WalkTables, WalksOf, Walks, Promised}
+use Rattle.sewing.specs.Steps.{Blank, Read as ReadIn, Chained, FacesOf, Kept, WalkTables, WalksOf, Walks, Promised}
 
 -- ENDS
 
@@ -72,31 +70,19 @@ ends-staged fs gs before after r e q S = ends-as _ _ before after r (sym (ap (st
 unfoldable pub unsetFlags : ℕ → List Bool
 unsetFlags size = replicate size false
 
--- a table of uses without twin
-unfoldable pub noTwins : ℕ → List ℕ
-noTwins size = replicate size unset
-
 pub flags-size : (n size : ℕ) → n ≤ size → n ≡ length (take n (unsetFlags size))
 unfolding unsetFlags
 flags-size n size h = sym (length-take-le n (replicate size false) (omega (arith, length-replicate size false)))
 
-no-twins-part : (n size : ℕ) → n ≤ size → take n (noTwins size) ≡ replicate n unset
-unfolding noTwins
-no-twins-part n size h = take-same unset n size h
-
-pub no-twins-size : (n size : ℕ) → n ≤ size → n ≡ length (take n (noTwins size))
-no-twins-size n size h = sym (ap length (no-twins-part n size h) ∙ length-replicate n unset)
-
 -- the tables of a part that has at most u uses, e edges and l loops
 pub tables-made : (c : Counts) (u e l : ℕ) → c .uses ≤ u → c .edges ≤ e → c .loops ≤ l
-    → (length (take (4 * c .uses) (zeros (4 * u))) ≡ 4 * c .uses) × Blank c (take (c .edges) (zeros e)) (take (c .uses) (zeros u)) (take (c .uses) (noTwins u)) (take (2 * c .loops) (zeros (2 * l)))
+    → (length (take (4 * c .uses) (zeros (4 * u))) ≡ 4 * c .uses) × Blank c (take (c .edges) (zeros e)) (take (c .uses) (zeros u)) (take (2 * c .loops) (zeros (2 * l)))
 unfolding zeros
 tables-made c u e l hu he hl = (
   sym (part-size (4 * c .uses) (4 * u) (omega arith)),
   record {
     firsts-are = zeros-part (c .edges) e he;
     nexts-size = sym (part-size (c .uses) u hu);
-    twins-are = no-twins-part (c .uses) u hu;
     kept-size = let k : 2 * c .loops ≤ 2 * l = omega arith in omega (arith, part-size (2 * c .loops) (2 * l) k);
   },
 )
@@ -149,8 +135,8 @@ module _ (bytes ix : List ℕ) (c : Counts) (us : List Use) (R : ReadIn bytes ix
   pub read-count : length us ≡ c .uses
   read-count = ap length (R .uses) ∙ sym (opened-counted bytes ix c (R .opened) .uses)
 
--- what chains and pairing need
-module _ (bytes ix : List ℕ) (c : Counts) (us : List Use) (R : ReadIn bytes ix c us) (firsts nexts twins kept : List ℕ) (B : Blank c firsts nexts twins kept) where
+-- the chains of uses, before and after
+module _ (bytes ix : List ℕ) (c : Counts) (us : List Use) (R : ReadIn bytes ix c us) (firsts nexts kept : List ℕ) (B : Blank c firsts nexts kept) where
   firsts-long : length firsts ≡ c .edges
   firsts-long = ap length (B .firsts-are) ∙ length-replicate {A = ℕ} (c .edges) 0
 
@@ -161,15 +147,19 @@ module _ (bytes ix : List ℕ) (c : Counts) (us : List Use) (R : ReadIn bytes ix
     omega (arith, B .nexts-size, opened-limited bytes ix c (R .opened) .uses),
   )
 
-  pub pair-ready : (heads links : List ℕ) → length heads ≡ length firsts → Linked us heads links
-      → Indexed bytes ix c × Linked us heads links × (length heads ≡ c .edges) × (c .edges ≤ 1024) × (twins ≡ replicate (length us) unset)
-  pair-ready heads links e L = (
-    R .opened .indexed,
-    L,
-    e ∙ firsts-long,
-    opened-limited bytes ix c (R .opened) .edges,
-    B .twins-are ∙ ap (λ n. replicate n unset) (sym (read-count bytes ix c us R)),
-  )
+  pub chained : (heads links : List ℕ) → length heads ≡ length firsts → Linked us heads links → Chained bytes ix c us heads links kept
+  chained heads links e L = record { read = R; linked = L; firsts-size = e ∙ firsts-long; kept-size = B .kept-size }
+
+-- what pairing at most `size` uses needs
+pub pair-ready : (bytes ix : List ℕ) (c : Counts) (us : List Use) (firsts nexts kept : List ℕ) (size : ℕ) → Chained bytes ix c us firsts nexts kept → c .uses ≤ size
+    → Indexed bytes ix c × Linked us firsts nexts × (length us ≤ size) × (length firsts ≡ c .edges) × (c .edges ≤ 1024)
+pair-ready bytes ix c us firsts nexts kept size C h = (
+  C .read .opened .indexed,
+  C .linked,
+  omega (arith, read-count bytes ix c us (C .read)),
+  C .firsts-size,
+  opened-limited bytes ix c (C .read .opened) .edges,
+)
 
 pub reading-asked : (stage : ℕ) (j : Job) (room : ℕ) (us : List Use) → stage ≡ 1 → afterReading stage j room us ≡ stageBytes room (flatMap useFields us)
 unfolding afterReading
@@ -186,12 +176,16 @@ module _ (bytes ix : List ℕ) (c : Counts) (us : List Use) (R : ReadIn bytes ix
   pairing-follows =
       reading-on stage (jobIn bytes ix c) room us other ∙ ap (λ k. pair (answersIn bytes ix c) us k >>= afterPairing stage (jobIn bytes ix c) us room) (sym (opened-edges bytes ix c (R .opened)))
 
-  module _ (r : Pairs) (l : List ℕ) (e : pairsOf r l ≡ pair (answersIn bytes ix c) us (c .edges)) where
-    pub pairs-refused : (n p : ℕ) → r ≡ Unpaired n p → afterReading stage (jobIn bytes ix c) room us ≡ refuse n p
-    pairs-refused n p q = pairing-follows ∙ bind-stop (afterPairing stage (jobIn bytes ix c) us room) (sym e ∙ ap (λ x. pairsOf x l) q)
+  module _ (refusal place : ℕ) (twins : List ℕ) (e : twinsOf (length us) refusal place twins ≡ pair (answersIn bytes ix c) us (c .edges)) where
+    pub pairs-refused : (refusal ≡ 0 → ⊥) → afterReading stage (jobIn bytes ix c) room us ≡ refuse refusal place
+    pairs-refused n =
+        let r : twinsOf (length us) refusal place twins ≡ refuse refusal place = ap (λ t. cond t (ok (take (length us) twins)) (refuse refusal place)) (ne-eqb refusal 0 n) in
+        pairing-follows ∙ bind-stop (afterPairing stage (jobIn bytes ix c) us room) (sym e ∙ r)
 
-    pub pairs-made : r ≡ Pairing → Paired bytes ix c us l
-    pairs-made q = record { opened = R .opened; uses = R .uses; pairs = sym e ∙ ap (λ x. pairsOf x l) q }
+    pub pairs-made : refusal ≡ 0 → Paired bytes ix c us (take (c .uses) twins)
+    pairs-made z =
+        let r : twinsOf (length us) refusal place twins ≡ ok (take (length us) twins) = ap (λ t. cond t (ok (take (length us) twins)) (refuse refusal place)) (eq-eqb refusal 0 z) in
+        record { opened = R .opened; uses = R .uses; pairs = sym e ∙ r ∙ ap (λ k. ok (take k twins)) (read-count bytes ix c us R) }
 
   pub pairs-on : (ts : List ℕ) → Paired bytes ix c us ts → afterPairing stage (jobIn bytes ix c) us room ts ≡ afterReading stage (jobIn bytes ix c) room us
   pairs-on ts P = sym (pairing-follows ∙ bind-on (afterPairing stage (jobIn bytes ix c) us room) (P .pairs))

@@ -8,7 +8,7 @@ use Rattle.lists.specs.Lists.{keep, sumOf}
 use Rattle.rules.specs.declared.Counts.{Counts}
 use Rattle.rules.specs.declared.Use.{Use}
 use Rattle.rules.specs.Outcome.{ok}
-use Rattle.rules.specs.Job.{Job, unset}
+use Rattle.rules.specs.Job.{Job}
 use Rattle.rules.specs.Load.{loaded}
 use Rattle.rules.specs.Read.{usesOf}
 use Rattle.rules.specs.Groups.{lowestMembers, groupNumbers}
@@ -20,22 +20,29 @@ use Rattle.rules.specs.Sew.{Walked}
 use Rattle.theorems.specs.Circuits.{Permuted}
 use Rattle.theorems.specs.Demand3.{Settled, WalksHold}
 use Rattle.job.specs.Lists.{pointsIn, loopsIn, answersIn, jobIn}
+use Rattle.edge_uses.specs.Links.{Linked}
 use Rattle.vertex_loops.specs.Kept.{keptIn}
 use Rattle.progress.specs.declared.Faces.{Faces}
 use Rattle.progress.specs.declared.Figures.{Figures}
 use Rattle.progress.specs.Known.{Opened, Grouped, groupsIn, numbersIn}
 
--- tables before the uses are read: no chain, no twin, room for every vertex loop
-pub record Blank (c : Counts) (firsts nexts twins kept : List ℕ) : Type 0 where
+-- tables before the uses are read: no chain, room for every vertex loop
+pub record Blank (c : Counts) (firsts nexts kept : List ℕ) : Type 0 where
   pub firsts-are : firsts ≡ replicate (c .edges) 0
   pub nexts-size : length nexts ≡ c .uses
-  pub twins-are : twins ≡ replicate (c .uses) unset
   pub kept-size : 2 * c .loops ≤ length kept
 
 -- the uses are read
 pub record Read (bytes ix : List ℕ) (c : Counts) (us : List Use) : Type 0 where
   pub opened : Opened bytes ix c
   pub uses : us ≡ usesOf (jobIn bytes ix c)
+
+-- the uses of each edge are in a chain
+pub record Chained (bytes ix : List ℕ) (c : Counts) (us : List Use) (firsts nexts kept : List ℕ) : Type 0 where
+  pub read : Read bytes ix c us
+  pub linked : Linked us firsts nexts
+  pub firsts-size : length firsts ≡ c .edges
+  pub kept-size : 2 * c .loops ≤ length kept
 
 -- what belongs to merged groups of n selected faces
 pub record FacesOf (n : ℕ) (us : List Use) (ts groups : List ℕ) (m : Faces) : Type 0 where

@@ -9,9 +9,8 @@ use merge_faces::boundaries;
 use merge_faces::merge_faces;
 use merge_faces::number;
 use merge_faces::remove;
-use pair::NONE;
-use pair::Pairs;
 use pair::pair;
+use pair::pair_small;
 use progress::BODY;
 use progress::EDGES;
 use progress::FANS;
@@ -56,7 +55,7 @@ ghost use Rattle.uses.specs.Table.{usesIn};
 ghost use Rattle.stages_out.specs.Rows.{Staged, roundRows};
 ghost use Rattle.progress.specs.Chain.{afterReading, afterPairing, afterMerging, afterKeeping, afterWalks, staged, sewnBy};
 ghost use Rattle.progress.specs.Known.{Opened, Paired, Grouped, Settled, groupsIn, numbersIn, mergedIn, walkedIn};
-ghost use Rattle.sewing.specs.Steps.{Blank, Read, FacesOf, Kept, WalkTables, WalksOf, Walks, Promised};
+ghost use Rattle.sewing.specs.Steps.{Blank, Read, Chained, FacesOf, Kept, WalkTables, WalksOf, Walks, Promised};
 
 // The stage `loops` of walks that are known by their successors.
 fn put_loops(
@@ -358,6 +357,52 @@ fn on_paired(
     }
 }
 
+// The uses of a part with at most 64 uses paired.
+fn pair_in_small_table(
+    stage: usize,
+    job: &[u8],
+    index: &[u32],
+    c: Counts,
+    uses: &[u32],
+    firsts: &[u32],
+    nexts: &[u32],
+    kept: &mut [u32],
+    out: &mut [u8],
+) -> Ending
+    requires { ⌜ Chained (now job) (now index) c (usesIn (now uses)) (now firsts) (now nexts) (now kept) × (c .uses ≤ 64) × (stage ≡ 1 → ⊥) ⌝ }
+    ensures { λ r. ⌜ Ends (afterReading stage (jobIn (now (job .entry)) (now (index .entry)) c) (length (now (out .entry))) (usesIn (now (uses .entry)))) (now (out .entry)) (now (out .exit)) r ⌝ }
+{
+    let p = pair_small(job, index, c, uses, firsts, nexts);
+    if p.refusal != 0 {
+        return Ending::Refused(p.refusal, p.place);
+    }
+    let twins = p.twins;
+    on_paired(stage, job, index, c, uses, &twins[..c.uses], kept, out)
+}
+
+// The uses of any part paired.
+fn pair_in_large_table(
+    stage: usize,
+    job: &[u8],
+    index: &[u32],
+    c: Counts,
+    uses: &[u32],
+    firsts: &[u32],
+    nexts: &[u32],
+    kept: &mut [u32],
+    out: &mut [u8],
+) -> Ending
+    requires { ⌜ Chained (now job) (now index) c (usesIn (now uses)) (now firsts) (now nexts) (now kept) × (c .uses ≤ 2048) × (stage ≡ 1 → ⊥) ⌝ }
+    ensures { λ r. ⌜ Ends (afterReading stage (jobIn (now (job .entry)) (now (index .entry)) c) (length (now (out .entry))) (usesIn (now (uses .entry)))) (now (out .entry)) (now (out .exit)) r ⌝ }
+{
+    let p = pair(job, index, c, uses, firsts, nexts);
+    if p.refusal != 0 {
+        return Ending::Refused(p.refusal, p.place);
+    }
+    let twins = p.twins;
+    on_paired(stage, job, index, c, uses, &twins[..c.uses], kept, out)
+}
+
 // The uses paired, once they are read.
 fn on_read(
     stage: usize,
@@ -367,22 +412,20 @@ fn on_read(
     uses: &[u32],
     firsts: &mut [u32],
     nexts: &mut [u32],
-    twins: &mut [u32],
     kept: &mut [u32],
     out: &mut [u8],
 ) -> Ending
-    requires { ⌜ Read (now job) (now index) c (usesIn (now uses)) × Blank c (now firsts) (now nexts) (now twins) (now kept) ⌝ }
+    requires { ⌜ Read (now job) (now index) c (usesIn (now uses)) × Blank c (now firsts) (now nexts) (now kept) ⌝ }
     ensures { λ r. ⌜ Ends (afterReading stage (jobIn (now (job .entry)) (now (index .entry)) c) (length (now (out .entry))) (usesIn (now (uses .entry)))) (now (out .entry)) (now (out .exit)) r ⌝ }
 {
     if stage == READ {
         return write_read(uses, out);
     }
     link(uses, firsts, nexts);
-    let r = pair(job, index, c, uses, firsts, nexts, twins);
-    match r {
-        Pairs::Refused(n, p) => Ending::Refused(n, p),
-        Pairs::Done => on_paired(stage, job, index, c, uses, twins, kept, out),
+    if c.uses <= 64 {
+        return pair_in_small_table(stage, job, index, c, uses, firsts, nexts, kept, out);
     }
+    pair_in_large_table(stage, job, index, c, uses, firsts, nexts, kept, out)
 }
 
 // The uses read in tables for all uses, edges and loops.
@@ -394,15 +437,14 @@ fn read_in(
     uses: &mut [u32],
     firsts: &mut [u32],
     nexts: &mut [u32],
-    twins: &mut [u32],
     kept: &mut [u32],
     out: &mut [u8],
 ) -> Ending
-    requires { ⌜ Opened (now job) (now index) c × (length (now uses) ≡ 4 * c .uses) × Blank c (now firsts) (now nexts) (now twins) (now kept) ⌝ }
+    requires { ⌜ Opened (now job) (now index) c × (length (now uses) ≡ 4 * c .uses) × Blank c (now firsts) (now nexts) (now kept) ⌝ }
     ensures { λ r. ⌜ Ends (afterReading stage (jobIn (now (job .entry)) (now (index .entry)) c) (length (now (out .entry))) (usesOf (jobIn (now (job .entry)) (now (index .entry)) c))) (now (out .entry)) (now (out .exit)) r ⌝ }
 {
     read(job, index, c, uses);
-    on_read(stage, job, index, c, uses, firsts, nexts, twins, kept, out)
+    on_read(stage, job, index, c, uses, firsts, nexts, kept, out)
 }
 
 // The uses of a part with at most 64 uses, edges and loops: small tables are cleared sooner.
@@ -419,7 +461,6 @@ fn read_in_small_tables(
     let mut uses = [0u32; 256];
     let mut firsts = [0u32; 64];
     let mut nexts = [0u32; 64];
-    let mut twins = [NONE; 64];
     let mut kept = [0u32; 128];
     read_in(
         stage,
@@ -429,7 +470,6 @@ fn read_in_small_tables(
         &mut uses[..4 * c.uses],
         &mut firsts[..c.edges],
         &mut nexts[..c.uses],
-        &mut twins[..c.uses],
         &mut kept[..2 * c.loops],
         out,
     )
@@ -449,7 +489,6 @@ fn read_in_large_tables(
     let mut uses = [0u32; 8192];
     let mut firsts = [0u32; 1024];
     let mut nexts = [0u32; 2048];
-    let mut twins = [NONE; 2048];
     let mut kept = [0u32; 2048];
     read_in(
         stage,
@@ -459,7 +498,6 @@ fn read_in_large_tables(
         &mut uses[..4 * c.uses],
         &mut firsts[..c.edges],
         &mut nexts[..c.uses],
-        &mut twins[..c.uses],
         &mut kept[..2 * c.loops],
         out,
     )
