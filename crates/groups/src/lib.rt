@@ -63,3 +63,26 @@ pub fn settle(parents: &mut [u32])
         i += 1;
     }
 }
+
+// GROUPS LENT WITH THEIR PARENTS INSIDE
+
+// Groups of at most 256 numbers.
+pub struct Groups {
+    pub parents: [u32; 256],
+}
+
+// The label of a number.
+pub fn root(g: &mut Groups, i: usize) -> usize
+    requires { ⌜ Ordered (now g .parents) ⌝ }
+    ensures { λ r. ⌜ Rooted (now (g .entry) .parents) (now (g .exit) .parents) i r ⌝ }
+{
+    root_in(&mut g.parents, i)
+}
+
+// The groups of a and b become one.
+pub fn join(g: &mut Groups, a: usize, b: usize)
+    requires { ⌜ Ordered (now g .parents) ⌝ }
+    ensures { λ _. ⌜ JoinedIn (now (g .entry) .parents) (now (g .exit) .parents) a b ⌝ }
+{
+    join_in(&mut g.parents, a, b)
+}
