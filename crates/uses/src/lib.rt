@@ -4,6 +4,7 @@ use fields::get;
 use fields::put;
 use rules::Counts;
 use rules::Sense;
+use rules::Use;
 ghost use mathlib.Core.Path.{_≡_};
 ghost use Prim.Native.Nat.{_+_, _*_, _/_, _<_, _≤_};
 ghost use lib.ListN.{length, getD};
@@ -84,4 +85,14 @@ pub fn put_use(uses: &mut [u32], h: usize, edge: usize, face: usize, sense: Sens
     put(uses, 4 * h + 1, face);
     put(uses, 4 * h + 2, job::sense_number(sense));
     put(uses, 4 * h + 3, next);
+}
+
+// USES LENT AS A SLICE OF RECORDS
+
+// Use h: its edge, face, sense and old successor.
+pub fn use_at(uses: &[Use], h: usize) -> Use
+    requires { ⌜ h < length (now uses) ⌝ }
+    ensures { λ r. ⌜ r ≡ useAt (now (uses .entry)) h ⌝ }
+{
+    uses[h]
 }
