@@ -96,3 +96,11 @@ pub fn use_at(uses: &[Use], h: usize) -> Use
 {
     uses[h]
 }
+
+// One of two uses, as the two of a pair.
+pub fn of_two(pair: [Use; 2], i: usize) -> Use
+    requires { ⌜ i < 2 ⌝ }
+    ensures { λ r. ⌜ r ≡ useAt pair i ⌝ }
+{
+    use_at(&pair, i)
+}
