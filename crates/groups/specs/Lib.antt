@@ -1,2 +1,3 @@
 pub mod Parents
 pub mod ParentLaws
+pub mod Padding

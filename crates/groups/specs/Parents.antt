@@ -1,8 +1,8 @@
 -- Groups as a table of parents: which labels it stands for, also past its end, where a number reads as 0.
 use Prim.Native.Nat.{ℕ, _≤_, _<_}
 use mathlib.Core.Path.{_≡_}
-use mathlib.Core.List.{List}
-use lib.ListN.{length, getD}
+use mathlib.Core.List.{List, _++_}
+use lib.ListN.{length, getD, replicate}
 use Rattle.rules.specs.Groups.{labelOf, joined}
 
 -- no parent lies above its number
@@ -28,3 +28,7 @@ pub record JoinedIn (before after : List ℕ) (a b : ℕ) : Type 0 where
   pub ordered : Ordered after
   pub size : length after ≡ length before
   pub stands : (ls : List ℕ) → Stands before ls → Stands after (joined ls a b)
+
+-- labels in a table that is k numbers longer
+abbrev pub padded : ℕ → List ℕ → List ℕ
+padded k g = g ++ replicate k 0

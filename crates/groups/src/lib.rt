@@ -4,10 +4,10 @@ use fields::get;
 use fields::put;
 ghost use mathlib.Core.Path.{_≡_};
 ghost use mathlib.Core.List.{List};
-ghost use Prim.Native.Nat.{ℕ, _≤_};
+ghost use Prim.Native.Nat.{ℕ, _-_, _≤_};
 ghost use lib.ListN.{length};
 ghost use Rattle.rules.specs.Groups.{alone as aloneOf};
-ghost use Rattle.groups.specs.Parents.{Ordered, Stands, Rooted, JoinedIn};
+ghost use Rattle.groups.specs.Parents.{Ordered, Stands, Rooted, JoinedIn, padded};
 
 // Each number is alone.
 pub fn alone(parents: &mut [u32])
@@ -69,6 +69,16 @@ pub fn settle(parents: &mut [u32])
 // Groups of at most 256 numbers.
 pub struct Groups {
     pub parents: [u32; 256],
+}
+
+// Each of n numbers alone; past them every number is in the group of 0.
+pub fn new(n: usize) -> Groups
+    requires { ⌜ n ≤ 256 ⌝ }
+    ensures { λ r. ⌜ Stands (r .parents) (padded (256 - n) (aloneOf n)) ⌝ }
+{
+    let mut parents = [0u32; 256];
+    alone(&mut parents[..n]);
+    Groups { parents }
 }
 
 // The label of a number.

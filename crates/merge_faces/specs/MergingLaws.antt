@@ -26,10 +26,10 @@ use Rattle.rules.specs.Pair.{twinOf}
 use Rattle.rules.specs.Rules.{fullTable}
 use Rattle.rules.specs.Merge.{otherFace, surfaceAnswer, vanishing, joinsFaces, unasked, surfaceStep, mergeStep, mergedGroups, boundaryStep, boundaries}
 use Rattle.job.specs.Lists.{facesIn}
-use Rattle.groups.specs.Parents.{Stands, JoinedIn}
+use Rattle.groups.specs.Parents.{Ordered, Stands, JoinedIn}
 use Rattle.merge_faces.specs.declared.Merging.{Merging}
 use Rattle.merge_faces.specs.declared.Merging.the-variants.{Done, Refused}
-use Rattle.merge_faces.specs.Merging.{MergedTo, answeredStep}
+use Rattle.merge_faces.specs.Merging.{MergedTo, answeredStep, JoinedPairs}
 
 -- ONE ANSWER
 
@@ -156,6 +156,20 @@ module _ (answers : List Answer) (fs : List Face) (us : List Use) (ts : List ℕ
         ∙ sym (m .rest ∙ ap (λ l. throughout (mergeStep fullTable answers fs us ts) l (m .groups)) (left-none h (length us) le) ∙ through-none (mergeStep fullTable answers fs us ts) (m .groups))
 
 -- BOUNDARIES
+
+pub pairs-none : (us : List Use) (ts parents : List ℕ) → Ordered parents → JoinedPairs us ts 0 parents parents
+unfolding from
+pairs-none us ts parents o = record { ordered = o; stands = λ g s. s }
+
+-- one pair more: the code's numbers are the faces a and b of use h and its twin
+pub pairs-more : (us : List Use) (ts before parents after : List ℕ) (h a b : ℕ) → JoinedPairs us ts h before parents
+    → a ≡ faceOfUse us h → b ≡ otherFace us ts h → JoinedIn parents after a b → JoinedPairs us ts (h + 1) before after
+pairs-more us ts before parents after h a b s ea eb j = record {
+  ordered = j .ordered;
+  stands = λ g t.
+      let l = foldl (boundaryStep us ts) g (below h) in
+      subst (Stands after) ((λ i. joined l (ea i) (eb i)) ∙ sym (foldl-below (boundaryStep us ts) g h)) (j .stands l (s .stands g t));
+}
 
 -- the parents stand for the groups after h uses
 abbrev pub BoundedAt : List Use → List ℕ → ℕ → List ℕ → ℕ → Type 0

@@ -4,6 +4,8 @@ use ask::Told;
 use fields::get;
 use fields::put;
 use fields::put_flag;
+use groups::Groups;
+use groups::join;
 use groups::join_in;
 use rules::Counts;
 use uses::use_face;
@@ -13,16 +15,17 @@ ghost use mathlib.Core.List.{List};
 ghost use Prim.Native.Nat.{ℕ, _+_, _≤_, _<_, _^_};
 ghost use lib.ListN.{length, take};
 ghost use Rattle.lists.specs.Lists.{keep};
+ghost use Rattle.rules.specs.Read.{faceOfUse};
 ghost use Rattle.rules.specs.Groups.{lowestMembers, groupNumbers};
 ghost use Rattle.rules.specs.GroupLaws.{Lowest};
 ghost use Rattle.rules.specs.Rules.{fullTable};
-ghost use Rattle.rules.specs.Merge.{boundaries as boundariesOf, surfaceAnswer, joinsFaces, mergeStep, mergedGroups, removes, removedUses};
+ghost use Rattle.rules.specs.Merge.{boundaries as boundariesOf, otherFace, surfaceAnswer, joinsFaces, mergeStep, mergedGroups, removes, removedUses};
 ghost use Rattle.job.specs.Lists.{facesIn, answersIn};
 ghost use Rattle.uses.specs.Table.{usesIn};
 ghost use Rattle.groups.specs.Parents.{Ordered, Stands};
 ghost use Rattle.answers.specs.Index.{Indexed};
 ghost use Rattle.ask.specs.Told.{toldOf};
-ghost use Rattle.merge_faces.specs.Merging.{mergedOf, MergedTo, answeredStep};
+ghost use Rattle.merge_faces.specs.Merging.{mergedOf, MergedTo, answeredStep, JoinedPairs};
 ghost use Rattle.merge_faces.specs.Numbering.{Numbering};
 
 // The groups are made, or merging ends with a refusal.
@@ -32,6 +35,38 @@ pub enum Merging {
 }
 
 // BOUNDARIES
+
+// The faces beside a pair.
+struct TwoFaces {
+    face: usize,
+    other: usize,
+}
+
+// The face of use h, and that of its twin.
+fn sides(uses: &[u32], twins: &[u32], h: usize) -> TwoFaces
+    ensures { λ r. ⌜ (r .face ≡ faceOfUse (usesIn (now (uses .entry))) h) × (r .other ≡ otherFace (usesIn (now (uses .entry))) (now (twins .entry)) h) ⌝ }
+{
+    let t = get(twins, h);
+    TwoFaces {
+        face: use_face(uses, h),
+        other: use_face(uses, t),
+    }
+}
+
+// The faces of the first n twin pairs join.
+pub fn join_pairs(g: Groups, uses: &[u32], twins: &[u32], n: usize) -> Groups
+    requires { ⌜ Ordered (g .parents) ⌝ }
+    ensures { λ r. ⌜ JoinedPairs (usesIn (now (uses .entry))) (now (twins .entry)) n (g .parents) (r .parents) ⌝ }
+{
+    let mut groups = g;
+    let mut h: usize = 0;
+    while h < n {
+        let s = sides(uses, twins, h);
+        join(&mut groups, s.face, s.other);
+        h += 1;
+    }
+    groups
+}
 
 // The faces of every twin pair join. Each face's label in the end.
 pub fn boundaries(uses: &[u32], twins: &[u32], labels: &mut [u32])

@@ -119,7 +119,7 @@ module _ {M : Type 1} (𝓤 : URA M) (H : Heap 𝓤) (A : Atoms 𝓤) (W : Given
         -- [the elements; what is kept; the open borrow; obs; auth; true; what a and b own; _6; …]
         lft-new ! tt (λ ν. move ! (1 ∷ []) $
         use1 W (later (some (λ (δ : GName). ‵ (MutSlice (named 0) (ν ∷ []) u32 .own (x δ) (s (length ys) ∷ [])) ⊛ ‵ (flent (ν ∷ []) (Held u32 (length ys) b (o + 0) δ)))))
-            (lends-slice 𝓤 H A W u32 (named 0) (ν ∷ []) ys b (o + 0) (subst (Room u32) (sym e) (lit< tt, lit< tt))) $ await ! tt $ pick ! (λ δ. split ! $
+        (lends-slice 𝓤 H A W u32 (named 0) (ν ∷ []) ys b (o + 0) (subst (Room u32) (sym e) (lit< tt, lit< tt))) $ await ! tt $ pick ! (λ δ. split ! $
         rewrite ! 0 (λ (n : ℕ). ‵ (MutSlice (named 0) (ν ∷ []) u32 .own (x δ) (s n ∷ []))) e refl $
         move ! (2 ∷ 0 ∷ []) $ use2 W (raw (JoinIn 𝓤 H A at-mem run .pre (to-join-in ν δ))) (goes ν δ pre) $
         -- [what `join_in` asks; the lender's part; what is kept; the open borrow; obs; auth; true; what a and b own; _6; …]

@@ -118,7 +118,7 @@ module _ {M : Type 1} (𝓤 : URA M) (H : Heap 𝓤) (A : Atoms 𝓤) (W : Given
         -- [the uses; what the pair owns; what i owns; _5; …; _4; …; (the slot's right to be freed); _2; …; _1; …; room for _0; …; true]
         lft-new ! tt (λ ν. move ! (1 ∷ []) $
         use1 W (later (some (λ (δ : GName). ‵ (ShrSlice (named 0) (ν ∷ []) R .own (x l₃ δ) (s l₃ (length ys) ∷ [])) ⊛ ‵ (flent (ν ∷ []) (arr-parts (shares R) (length ys) .part fullShare ys l₃ 0)))))
-            (lends-shr-slice 𝓤 H A W R (named 0) (ν ∷ []) fullShare ys l₃ 0 (subst (Room R) (sym e) (lit< tt, lit< tt))) $ await ! tt $ pick ! (λ δ. split ! $
+        (lends-shr-slice 𝓤 H A W R (named 0) (ν ∷ []) fullShare ys l₃ 0 (subst (Room R) (sym e) (lit< tt, lit< tt))) $ await ! tt $ pick ! (λ δ. split ! $
         rewrite ! 0 (λ (n : ℕ). ‵ (ShrSlice (named 0) (ν ∷ []) R .own (x l₃ δ) (s l₃ n ∷ []))) e refl $
         move ! (2 ∷ 0 ∷ []) $ use2 W (raw (UseAt 𝓤 H A at-mem run .pre (to-use-at l₃ ν δ))) (goes l₃ ν δ (subst (λ (n : ℕ). i < n) (sym e) within)) $
         -- [what `use_at` asks; the lender's part; what the pair owns; what i owns; _5; …; _4; …; …; _2; …; _1; …; room for _0; …; true]
