@@ -5,10 +5,11 @@ use native.Mathlib.Decide.{decLt, ℕ-discrete}
 use native.Mathlib.Omega.{arith}
 use mathlib.Core.Path.{_≡_, refl, sym, ap, _∙_, subst}
 use mathlib.Core.Logic.{_⊎_, inl, inr, ⊎-elim}
-use mathlib.Core.List.{List}
+use mathlib.Core.List.{List, map}
 use lib.ListN.{length, getD, set, length-set, List·getD-eq-default}
 use lib.Seq.{ext-getD, set-out}
-use Rattle.lists.specs.Runs.{length-below, getD-below}
+use Rattle.lists.specs.Lists.{below}
+use Rattle.lists.specs.Runs.{length-below, getD-below, length-table, getD-table}
 use Rattle.lists.specs.Tables.{set-each}
 use Rattle.rules.specs.Groups.{alone, labelOf, joined}
 use Rattle.rules.specs.GroupLaws.{length-joined, joined-at}
@@ -237,3 +238,29 @@ settled-step p₀ ls p q i up label s h lt e f g =
 
 pub settled-all : (p₀ ls p : List ℕ) (i : ℕ) → Stands p₀ ls → length p ≡ length p₀ → Settled p₀ ls p i → length p₀ ≤ i → p ≡ ls
 settled-all p₀ ls p i s e h l = ext-getD 0 p ls (e ∙ sym (s .size)) (λ j k. h .labels j (omega arith))
+
+-- EACH LABEL BY ITS ROOT
+
+-- the first i of n labels are stored
+pub record Labelling (before : List ℕ) (n i : ℕ) (parents labels : List ℕ) : Type 0 where
+  pub ordered : Ordered parents
+  pub size : length labels ≡ n
+  pub stands : (ls : List ℕ) → Stands before ls → Stands parents ls × ((j : ℕ) → j < i → getD labels j 0 ≡ labelOf ls j)
+
+pub labelling-none : (p labels : List ℕ) → Ordered p → Labelling p (length labels) 0 p labels
+labelling-none p labels o = record { ordered = o; size = refl; stands = λ ls s. (s, λ j l. absurd (not-suc-le-zero l)) }
+
+pub labelling-step : (p₀ : List ℕ) (n i : ℕ) (p q labels after : List ℕ) (r : ℕ) → Labelling p₀ n i p labels → i < n → Rooted p q i r → after ≡ set labels i r → Labelling p₀ n (i + 1) q after
+labelling-step p₀ n i p q labels after r l h f e = record {
+  ordered = f .ordered;
+  size = ap length e ∙ length-set labels i r ∙ l .size;
+  stands = λ ls s.
+      let t = l .stands ls s in
+      let g = f .stands ls (t .0) in
+      (g .1, λ j m. rw e (set-each (λ k x. k < i + 1 → x ≡ labelOf ls k) labels i r 0 (omega (arith, l .size)) (λ _. g .0) j (λ ne k. t .1 j (omega arith)) m));
+}
+
+pub labelling-end : (p₀ : List ℕ) (n i : ℕ) (p labels ls : List ℕ) → Labelling p₀ n i p labels → n ≤ i → Stands p₀ ls → labels ≡ map (labelOf ls) (below n)
+labelling-end p₀ n i p labels ls l h s =
+    ext-getD 0 labels (map (labelOf ls) (below n)) (l .size ∙ sym (length-table (labelOf ls) n))
+    (λ j m. l .stands ls s .1 j (omega (arith, l .size)) ∙ sym (getD-table (labelOf ls) n j 0 (omega (arith, l .size))))

@@ -3,10 +3,11 @@
 use fields::get;
 use fields::put;
 ghost use mathlib.Core.Path.{_≡_};
-ghost use mathlib.Core.List.{List};
+ghost use mathlib.Core.List.{List, map};
 ghost use Prim.Native.Nat.{ℕ, _-_, _≤_};
 ghost use lib.ListN.{length};
-ghost use Rattle.rules.specs.Groups.{alone as aloneOf};
+ghost use Rattle.lists.specs.Lists.{below};
+ghost use Rattle.rules.specs.Groups.{alone as aloneOf, labelOf};
 ghost use Rattle.groups.specs.Parents.{Ordered, Stands, Rooted, JoinedIn, padded};
 
 // Each number is alone.
@@ -95,4 +96,18 @@ pub fn join(g: &mut Groups, a: usize, b: usize)
     ensures { λ _. ⌜ JoinedIn (now (g .entry) .parents) (now (g .exit) .parents) a b ⌝ }
 {
     join_in(&mut g.parents, a, b)
+}
+
+// Each number's label.
+pub fn labels_of(g: Groups, labels: &mut [u32])
+    requires { ⌜ Ordered (g .parents) ⌝ }
+    ensures { λ _. ⌜ ((ls : List ℕ) → Stands (g .parents) ls → now (labels .exit) ≡ map (labelOf ls) (below (length (now (labels .entry))))) ⌝ }
+{
+    let mut groups = g;
+    let mut i: usize = 0;
+    while i < labels.len() {
+        let r = root(&mut groups, i);
+        put(labels, i, r);
+        i += 1;
+    }
 }
