@@ -3,13 +3,15 @@ use Prim.Native.Nat.{ℕ, zero, suc, _+_, _-_, _≤_, _<_}
 use native.Mathlib.Omega.{arith}
 use mathlib.Core.Path.{_≡_, refl, sym, ap, _∙_, subst}
 use mathlib.Core.Bool.{Bool, true, false, not}
-use mathlib.Core.List.{List, [], _∷_, foldl}
+use mathlib.Core.List.{List, [], _∷_, map, foldl}
 use lib.ListN.{length}
+use lib.Seq.{ext-getD}
 use lib.Dec.{leb}
 use borrow.Author.Tests.{le-leb, lt-leb, eq-eqb, ne-eqb}
 use Rattle.lists.specs.Lists.{from, below}
 use Rattle.lists.specs.Tests.{or-first, or-second, none-or, cond-true, cond-false}
-use Rattle.lists.specs.Runs.{left-at, left-none, length-table}
+use Rattle.lists.specs.Members.{foldl-keeps}
+use Rattle.lists.specs.Runs.{left-at, left-none, length-below, length-table, getD-table}
 use Rattle.lists.specs.Prefixes.{foldl-below}
 use Rattle.rules.specs.declared.Counts.{Counts}
 use Rattle.rules.specs.declared.Face.{Face}
@@ -21,12 +23,14 @@ use Rattle.rules.specs.Sense.{sameSense}
 use Rattle.rules.specs.Job.{Answer, faceAt}
 use Rattle.rules.specs.Questions.{ask}
 use Rattle.rules.specs.Read.{faceOfUse, storedSense}
-use Rattle.rules.specs.Groups.{alone, joined}
+use Rattle.rules.specs.Groups.{alone, labelOf, joined}
+use Rattle.rules.specs.GroupLaws.{length-joined}
 use Rattle.rules.specs.Pair.{twinOf}
 use Rattle.rules.specs.Rules.{fullTable}
 use Rattle.rules.specs.Merge.{otherFace, surfaceAnswer, vanishing, joinsFaces, unasked, surfaceStep, mergeStep, mergedGroups, boundaryStep, boundaries}
 use Rattle.job.specs.Lists.{facesIn}
-use Rattle.groups.specs.Parents.{Ordered, Stands, JoinedIn}
+use Rattle.groups.specs.Parents.{Ordered, Stands, JoinedIn, padded}
+use Rattle.groups.specs.Padding.{padded-at, joined-padded}
 use Rattle.merge_faces.specs.declared.Merging.{Merging}
 use Rattle.merge_faces.specs.declared.Merging.the-variants.{Done, Refused}
 use Rattle.merge_faces.specs.Merging.{MergedTo, answeredStep, JoinedPairs}
@@ -171,27 +175,27 @@ pairs-more us ts before parents after h a b s ea eb j = record {
       subst (Stands after) ((λ i. joined l (ea i) (eb i)) ∙ sym (foldl-below (boundaryStep us ts) g h)) (j .stands l (s .stands g t));
 }
 
--- the parents stand for the groups after h uses
-abbrev pub BoundedAt : List Use → List ℕ → ℕ → List ℕ → ℕ → Type 0
-BoundedAt us ts n parents h = Stands parents (foldl (boundaryStep us ts) (alone n) (below h))
+-- the same pairs in a longer table
+fold-padded : (us : List Use) (ts : List ℕ) (k : ℕ) (l g : List ℕ) → foldl (boundaryStep us ts) (padded k g) l ≡ padded k (foldl (boundaryStep us ts) g l)
+fold-padded us ts k [] g = refl
+fold-padded us ts k (h ∷ l) g =
+    ap (λ x. foldl (boundaryStep us ts) x l) (joined-padded k g (faceOfUse us h) (otherFace us ts h)) ∙ fold-padded us ts k l (boundaryStep us ts g h)
 
-pub bounded-start : (us : List Use) (ts : List ℕ) (n : ℕ) (parents : List ℕ) → length parents ≡ n → Stands parents (alone n) → BoundedAt us ts (length parents) parents 0
-unfolding from
-bounded-start us ts n parents e s = subst (λ k. Stands parents (alone k)) (sym e) s
+boundaries-length : (us : List Use) (ts : List ℕ) (n : ℕ) → length (boundaries us ts n) ≡ n
+boundaries-length us ts n =
+    foldl-keeps (boundaryStep us ts) (λ g. length g ≡ n) (below (length us)) (alone n) (length-below n)
+    (λ g h _ e. length-joined g (faceOfUse us h) (otherFace us ts h) ∙ e)
 
--- one use more: the code's numbers are the twin t of use h, their faces a and b
-pub bounded-step : (us : List Use) (ts : List ℕ) (n : ℕ) (parents after : List ℕ) (h t a b : ℕ) → BoundedAt us ts n parents h
-    → t ≡ twinOf ts h → a ≡ faceOfUse us h → b ≡ faceOfUse us t → JoinedIn parents after a b → BoundedAt us ts n after (h + 1)
-bounded-step us ts n parents after h t a b s et ea eb j =
-    let g = foldl (boundaryStep us ts) (alone n) (below h) in
-    let e : joined g a b ≡ foldl (boundaryStep us ts) (alone n) (below (h + 1)) =
-    (λ i. joined g (ea i) ((eb ∙ ap (faceOfUse us) et) i)) ∙ sym (foldl-below (boundaryStep us ts) (alone n) h) in
-    subst (Stands after) e (j .stands g s)
-
-pub bounded-end : (us : List Use) (ts : List ℕ) (n m : ℕ) (parents after : List ℕ) (h : ℕ) → m ≡ n → BoundedAt us ts m parents h → h ≡ length us
-    → ((g : List ℕ) → Stands parents g → after ≡ g) → after ≡ boundaries us ts n
-bounded-end us ts n m parents after h e s last settled =
-    settled (foldl (boundaryStep us ts) (alone m) (below h)) s ∙ (λ i. foldl (boundaryStep us ts) (alone (e i)) (below (last i)))
+-- all pairs were joined, from each face alone, and the labels are stored
+pub boundaries-are : (us : List Use) (ts : List ℕ) (n k m : ℕ) (parents after labels : List ℕ) → Stands parents (padded k (alone n)) → JoinedPairs us ts m parents after → m ≡ length us
+    → ((g : List ℕ) → Stands after g → labels ≡ map (labelOf g) (below n)) → labels ≡ boundaries us ts n
+boundaries-are us ts n k m parents after labels s j e stored =
+    let g = boundaries us ts n in
+    let all : foldl (boundaryStep us ts) (padded k (alone n)) (below m) ≡ padded k g =
+    ap (λ x. foldl (boundaryStep us ts) (padded k (alone n)) (below x)) e ∙ fold-padded us ts k (below (length us)) (alone n) in
+    stored (padded k g) (subst (Stands after) all (j .stands (padded k (alone n)) s))
+    ∙ ext-getD 0 (map (labelOf (padded k g)) (below n)) g (length-table (labelOf (padded k g)) n ∙ sym (boundaries-length us ts n))
+    (λ i l. getD-table (labelOf (padded k g)) n i 0 (omega (arith, length-table (labelOf (padded k g)) n)) ∙ padded-at k g i)
 
 pub length-faces : (bytes ix : List ℕ) (c : Counts) → length (facesIn bytes ix c) ≡ c .faces
 unfolding facesIn

@@ -73,17 +73,9 @@ pub fn boundaries(uses: &[u32], twins: &[u32], labels: &mut [u32])
     requires { ⌜ length (now labels) ≤ 256 ⌝ }
     ensures { λ _. ⌜ now (labels .exit) ≡ boundariesOf (usesIn (now (uses .entry))) (now (twins .entry)) (length (now (labels .entry))) ⌝ }
 {
-    groups::alone(labels);
-    let n = uses::count(uses);
-    let mut h: usize = 0;
-    while h < n {
-        let t = get(twins, h);
-        let a = use_face(uses, h);
-        let b = use_face(uses, t);
-        join_in(labels, a, b);
-        h += 1;
-    }
-    groups::settle(labels);
+    let alone = groups::new(labels.len());
+    let joined = join_pairs(alone, uses, twins, uses::count(uses));
+    groups::labels_of(joined, labels);
 }
 
 // MERGED GROUPS
