@@ -25,11 +25,11 @@ pub pair-falling : (a b : ℕ) → b ≤ a → b ∷ a ∷ [] ≡ min a b ∷ ma
 pair-falling a b h = let p : b ≡ min a b = omega arith in let q : a ≡ max a b = omega arith in λ i. p i ∷ q i ∷ []
 
 -- the merged faces beside a use, step by step
-pub faces-by : (us : List Use) (ts numbers r : List ℕ) (h f a t g b : ℕ) → f ≡ faceOfUse us h → a ≡ getD numbers f 0 → t ≡ twinOf ts h → g ≡ faceOfUse us t → b ≡ getD numbers g 0
-    → r ≡ min a b ∷ max a b ∷ [] → r ≡ facePair us ts numbers h
-faces-by us ts numbers r h f a t g b ef ea et eg eb er =
-    let p : a ≡ getD numbers (faceOfUse us h) 0 = ea ∙ ap (λ x. getD numbers x 0) ef in
-    let q : b ≡ getD numbers (faceOfUse us (twinOf ts h)) 0 = eb ∙ ap (λ x. getD numbers x 0) (eg ∙ ap (faceOfUse us) et) in
+pub faces-by : (us : List Use) (ts numbers r : List ℕ) (h t : ℕ) (pair : List Use) (u v : Use) (a b : ℕ) → t ≡ twinOf ts h → pair ≡ useAt us h ∷ useAt us t ∷ []
+    → u ≡ useAt pair 0 → v ≡ useAt pair 1 → a ≡ getD numbers (u .face) 0 → b ≡ getD numbers (v .face) 0 → r ≡ min a b ∷ max a b ∷ [] → r ≡ facePair us ts numbers h
+faces-by us ts numbers r h t pair u v a b et ep eu ev ea eb er =
+    let p : a ≡ getD numbers (faceOfUse us h) 0 = ea ∙ ap (λ x. getD numbers (x .face) 0) (eu ∙ ap (λ l. useAt l 0) ep) in
+    let q : b ≡ getD numbers (faceOfUse us (twinOf ts h)) 0 = eb ∙ ap (λ x. getD numbers (x .face) 0) (ev ∙ ap (λ l. useAt l 1) ep ∙ ap (useAt us) et) in
     er ∙ (λ i. min (p i) (q i) ∷ max (p i) (q i) ∷ [])
 
 -- the edge of a use, step by step; `way` is the use's sense

@@ -166,8 +166,11 @@ fn ascending(a: usize, b: usize) -> [u32; 2]
 fn faces_beside(uses: &[u32], twins: &[u32], numbers: &[u32], h: usize) -> [u32; 2]
     ensures { λ r. ⌜ r ≡ facePair (usesIn (now (uses .entry))) (now (twins .entry)) (now (numbers .entry)) h ⌝ }
 {
-    let a = get(numbers, use_face(uses, h));
-    let b = get(numbers, use_face(uses, get(twins, h)));
+    let pair = uses::pair_of(uses, h, get(twins, h));
+    let u = uses::of_two(pair, 0);
+    let t = uses::of_two(pair, 1);
+    let a = get(numbers, u.face as usize);
+    let b = get(numbers, t.face as usize);
     ascending(a, b)
 }
 

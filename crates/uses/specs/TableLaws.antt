@@ -60,6 +60,12 @@ pub sense-is : (t : List ℕ) (h : ℕ) → useAt (usesIn t) h .sense ≡ senseO
 unfolding useIn
 sense-is t h = ap (λ u. u .sense) (use-is t h)
 
+-- use h put together from its fields
+pub record-is : (t : List ℕ) (h e f : ℕ) (s : Sense) (n : ℕ) → e ≡ fieldOf t h 0 → f ≡ fieldOf t h 1 → s ≡ useAt (usesIn t) h .sense → n ≡ fieldOf t h 3
+    → record { edge = e; face = f; sense = s; next = n } ≡ useAt (usesIn t) h
+unfolding useIn
+record-is t h e f s n ee ef es en = (λ i. record { edge = ee i; face = ef i; sense = (es ∙ sense-is t h) i; next = en i }) ∙ sym (use-is t h)
+
 pub next-is : (t : List ℕ) (h : ℕ) → useAt (usesIn t) h .next ≡ fieldOf t h 3
 unfolding useIn
 next-is t h = ap (λ u. u .next) (use-is t h)

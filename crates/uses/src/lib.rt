@@ -6,6 +6,7 @@ use rules::Counts;
 use rules::Sense;
 use rules::Use;
 ghost use mathlib.Core.Path.{_≡_};
+ghost use mathlib.Core.List.{[], _∷_};
 ghost use Prim.Native.Nat.{_+_, _*_, _/_, _<_, _≤_};
 ghost use lib.ListN.{length, getD};
 ghost use Rattle.rules.specs.Job.{ring};
@@ -95,6 +96,27 @@ pub fn use_at(uses: &[Use], h: usize) -> Use
     ensures { λ r. ⌜ r ≡ useAt (now (uses .entry)) h ⌝ }
 {
     uses[h]
+}
+
+// Use h of the table as a record.
+fn record_of(uses: &[u32], h: usize) -> Use
+    ensures { λ r. ⌜ r ≡ useAt (usesIn (now (uses .entry))) h ⌝ }
+{
+    Use {
+        edge: field_of(uses, h, 0) as u32,
+        face: field_of(uses, h, 1) as u32,
+        sense: use_sense(uses, h),
+        next: field_of(uses, h, 3) as u32,
+    }
+}
+
+// Uses h and t of the table as records.
+pub fn pair_of(uses: &[u32], h: usize, t: usize) -> [Use; 2]
+    ensures { λ r. ⌜ r ≡ useAt (usesIn (now (uses .entry))) h ∷ useAt (usesIn (now (uses .entry))) t ∷ [] ⌝ }
+{
+    let a = record_of(uses, h);
+    let b = record_of(uses, t);
+    [a, b]
 }
 
 // One of two uses, as the two of a pair.
