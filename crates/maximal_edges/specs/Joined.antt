@@ -105,7 +105,7 @@ pub record JoinedAt (n v a b : ℕ) (rows items stretches ends rows′ items′ 
 
 -- the tables before a sweep: `whole` is what the whole run gives, for the faces of at most so many loops
 pub record Going (answers : List Answer) (starts names : List ℕ) (whole : List ℕ → Outcome Joining) (loops : ℕ) (rows : List ℕ) (n : ℕ) (items stretches ends lows : List ℕ) (joins rings : ℕ) : Type 0 where
-  pub size : length rows ≡ 14336
+  pub size : 7 * (n + length (activeEdges (edgesIn rows n))) ≤ length rows
   pub sizes : loops ≤ length stretches
   pub few : n ≤ 2047
   pub room : n + length (activeEdges (edgesIn rows n)) ≤ 2048

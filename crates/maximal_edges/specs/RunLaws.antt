@@ -67,12 +67,12 @@ state-join rows rows′ n items stretches items′ stretches′ faces joins ring
 -- THE RUN
 
 -- where it starts
-pub going-start : (answers : List Answer) (starts names rows : List ℕ) (n loops : ℕ) (items stretches ends lows : List ℕ) (whole : List ℕ → Outcome Joining) → length rows ≡ 14336 → n ≤ 1024
+pub going-start : (answers : List Answer) (starts names rows : List ℕ) (n loops : ℕ) (items stretches ends lows : List ℕ) (whole : List ℕ → Outcome Joining) → 14 * n ≤ length rows → n ≤ 1024
     → loops ≡ length stretches → Laid stretches items → Tabled (edgesIn rows n) ends lows
     → ((faces : List ℕ) → whole faces ≡ maximalEdges answers starts names (length names) (stateIn rows n items stretches faces 0 0))
     → Going answers starts names whole loops rows n items stretches ends lows 0 0
 going-start answers starts names rows n loops items stretches ends lows whole size few el laid tabled run = record {
-  size = size;
+  size = omega (arith, active-few (edgesIn rows n), count-edges rows n (omega arith));
   sizes = omega arith;
   few = omega arith;
   room = omega (arith, active-few (edgesIn rows n), count-edges rows n (omega arith));
@@ -121,7 +121,7 @@ module _ (answers : List Answer) (starts names : List ℕ) (whole : List ℕ →
 
       -- the edge exists
       pub ring-inside : a < n
-      ring-inside = omega (arith, one-edge es v a (ring-real .1) .inside, count-edges rows n (omega (arith, g .size, g .few)))
+      ring-inside = omega (arith, one-edge es v a (ring-real .1) .inside, count-edges rows n (omega (arith, g .size)))
 
       module _ (rows′ ends′ : List ℕ) (edges : edgesIn rows′ n ≡ set es a (ringOf (edgeDataAt es a))) where
         after-ring : Changed names es (edgesIn rows′ n) v
@@ -134,7 +134,7 @@ module _ (answers : List Answer) (starts names : List ℕ) (whole : List ℕ →
         -- the tables after a ring
         pub going-ring : length rows′ ≡ length rows → ends′ ≡ set ends v 0 → Going answers starts names whole loops rows′ n items stretches ends′ lows joins (rings + 1)
         going-ring size corner = record {
-          size = size ∙ g .size;
+          size = omega (arith, g .size, ap (λ l. length (activeEdges l)) edges, active-ring es v a (ring-real .1));
           sizes = g .sizes;
           few = g .few;
           room = omega (arith, g .room, ap (λ l. length (activeEdges l)) edges, active-ring es v a (ring-real .1));
@@ -151,11 +151,12 @@ module _ (answers : List Answer) (starts names : List ℕ) (whole : List ℕ →
       join-real = subst (Real es names) e (k .real)
 
       -- both edges exist, the first is the lower, and there is room for one more
-      pub join-inside : (a < b) × (b < n) × (n < 2047)
+      pub join-inside : (a < b) × (b < n) × (n < 2047) × (7 * n + 7 ≤ length rows)
       join-inside = (
         join-real .2,
-        omega (arith, two-edges es v a b (join-real .1) (join-real .2) .inside, count-edges rows n (omega (arith, g .size, g .few))),
+        omega (arith, two-edges es v a b (join-real .1) (join-real .2) .inside, count-edges rows n (omega (arith, g .size))),
         omega (arith, g .room, active-join es v a b (join-real .1) (join-real .2) .1),
+        omega (arith, g .size, active-join es v a b (join-real .1) (join-real .2) .1),
       )
 
       module _ (rows′ items′ stretches′ ends′ : List ℕ) (j : JoinedAt n v a b rows items stretches ends rows′ items′ stretches′ ends′) where
@@ -168,7 +169,7 @@ module _ (answers : List Answer) (starts names : List ℕ) (whole : List ℕ →
         -- the tables after a join
         pub going-join : length rows′ ≡ length rows → length stretches′ ≡ length stretches → Going answers starts names whole loops rows′ (n + 1) items′ stretches′ ends′ lows (joins + 1) rings
         going-join size sizes = record {
-          size = size ∙ g .size;
+          size = omega (arith, g .size, ap (λ l. length (activeEdges l)) (j .edges), active-join es v a b (join-real .1) (join-real .2) .0);
           sizes = omega (arith, g .sizes);
           few = omega (arith, join-inside .2);
           room = omega (arith, g .room, ap (λ l. length (activeEdges l)) (j .edges), active-join es v a b (join-real .1) (join-real .2) .0);
@@ -176,6 +177,6 @@ module _ (answers : List Answer) (starts names : List ℕ) (whole : List ℕ →
           tabled = subst (λ l. Tabled (edgesIn rows′ (n + 1)) l lows) (sym (j .corner)) (after-join .tables ends lows (g .tabled));
           budget = omega (arith, g .budget, after-join .twos);
           run = onward (λ faces. stateIn rows′ (n + 1) items′ stretches′ faces (joins + 1) rings) (joins + 1) rings (length (keep (twoEnds (edgesIn rows′ (n + 1))) names))
-              (λ faces h. ap (changeOf (state faces)) e ∙ ap (λ s. ok (changed s)) (state-join rows rows′ n items stretches items′ stretches′ faces joins rings v a b (omega (arith, g .size, g .few)) (j .edges) (j .loops) (omega (arith, g .sizes))))
+              (λ faces h. ap (changeOf (state faces)) e ∙ ap (λ s. ok (changed s)) (state-join rows rows′ n items stretches items′ stretches′ faces joins rings v a b (omega (arith, g .size)) (j .edges) (j .loops) (omega (arith, g .sizes))))
               (after-join .twos) (omega arith);
         }

@@ -41,13 +41,13 @@ mul-sweep c = omega (arith, c .sweeps .inv .4 .few)
 
 -- src/lib.rt:362:58
 slice-reshare-prefix-sweep : tie.Need-slice-reshare-prefix-sweep Inv-sweeps μ-sweeps
-slice-reshare-prefix-sweep c = omega (arith, c .sweeps .inv .4 .few, c .sweeps .inv .4 .size)
+slice-reshare-prefix-sweep c = omega (arith, c .sweeps .inv .4 .size)
 
 -- src/lib.rt:362:58
 slice-aggregate-sweep : tie.Need-slice-aggregate-sweep Inv-sweeps μ-sweeps
 slice-aggregate-sweep c =
     let sweeps-call = c .before .sweeps in
-    sym (length-take-le (7 * sweeps-call .n) (sweeps-call .rows) (omega (arith, sweeps-call .inv .4 .few, sweeps-call .inv .4 .size)))
+    sym (length-take-le (7 * sweeps-call .n) (sweeps-call .rows) (omega (arith, sweeps-call .inv .4 .size)))
 
 -- src/lib.rt:362:13
 sweep-requires : tie.Need-sweep-requires Inv-sweeps μ-sweeps
@@ -137,7 +137,7 @@ ring-at-requires c κs =
     let answers = answersIn (a .job .now) (a .index .now) (a .c) in
     let names = a .names .now in
     let whole = wholeRun answers (a .starts .now) names (a .rows .now) (a .count) (a .items .now) (a .stretches .now) in
-    (omega (arith, sweeps-call .inv .4 .size, sweeps-call .inv .4 .few), omega (arith, sweeps-call .inv .4 .few), ring-inside answers (a .starts .now) names whole (length (a .stretches .now)) (sweeps-call .rows) (sweeps-call .n) (sweeps-call .items) (sweeps-call .stretches) (sweeps-call .ends) (a .lows .now) (sweeps-call .joins) (sweeps-call .rings) (sweeps-call .inv .4) (pre .5) (pre .6) (sweep-call .result) (sweep-call .ensures) _ _ (c .before .before .before .change2 .given .1))
+    (omega (arith, sweeps-call .inv .4 .size), omega (arith, sweeps-call .inv .4 .few), ring-inside answers (a .starts .now) names whole (length (a .stretches .now)) (sweeps-call .rows) (sweeps-call .n) (sweeps-call .items) (sweeps-call .stretches) (sweeps-call .ends) (a .lows .now) (sweeps-call .joins) (sweeps-call .rings) (sweeps-call .inv .4) (pre .5) (pre .6) (sweep-call .result) (sweep-call .ensures) _ _ (c .before .before .before .change2 .given .1))
 
 -- src/lib.rt:368:17
 add-rings : tie.Need-add-rings Inv-sweeps μ-sweeps
@@ -191,7 +191,7 @@ join-at-requires c κs =
     let names = a .names .now in
     let whole = wholeRun answers (a .starts .now) names (a .rows .now) (a .count) (a .items .now) (a .stretches .now) in
     let w = join-inside answers (a .starts .now) names whole (length (a .stretches .now)) (sweeps-call .rows) (sweeps-call .n) (sweeps-call .items) (sweeps-call .stretches) (sweeps-call .ends) (a .lows .now) (sweeps-call .joins) (sweeps-call .rings) (sweeps-call .inv .4) (pre .5) (pre .6) (sweep-call .result) (sweep-call .ensures) _ _ _ (c .before .before .before .before .before .change3 .given .1) in
-    (omega (arith, sweeps-call .inv .4 .size, w .2), omega (arith, w .2), w .0, w .1, sweeps-call .inv .4 .laid)
+    (w .3, omega (arith, w .2), w .0, w .1, sweeps-call .inv .4 .laid)
 
 -- src/lib.rt:373:17
 add-n : tie.Need-add-n Inv-sweeps μ-sweeps

@@ -24,7 +24,7 @@ slice-aggregate-count-ends : tie.Need-slice-aggregate-count-ends
 slice-aggregate-count-ends c =
     let a = c .before .before .before .before .before .before .before .before .args in
     let pre = c .before .before .before .before .before .before .before .before .pre in
-    sym (length-take-le (7 * a .count) (a .rows .now) (omega (arith, pre .1, pre .2)))
+    sym (length-take-le (7 * a .count) (a .rows .now) (omega (arith, pre .1)))
 
 -- src/lib.rt:388:36
 slice-aggregate-count-ends-2 : tie.Need-slice-aggregate-count-ends-2
@@ -38,7 +38,7 @@ slice-aggregate-count-ends-3 c = search needs
 count-ends-requires : tie.Need-count-ends-requires
 count-ends-requires c κs =
     let a = c .before .before .before .before .before .before .before .before .before .before .args in
-    (omega (arith, length-take (7 * a .count) (a .rows .now), c .before .before .before .before .before .before .before .before .before .before .pre .1), refl, refl)
+    (omega (arith, length-take (7 * a .count) (a .rows .now), c .before .before .before .before .before .before .before .before .before .before .pre .2), refl, refl)
 
 -- src/lib.rt:389:44
 slice-aggregate-join-all : tie.Need-slice-aggregate-join-all
