@@ -2,17 +2,17 @@
 use Prim.Native.Nat.{ℕ, _+_, _*_, _-_, _<_, _≤_}
 use mathlib.Core.Path.{_≡_}
 use mathlib.Core.List.{List, [], _∷_}
-use mathlib.Core.Bool.{Bool, true, false}
+use mathlib.Core.Bool.{Bool, true, false, cond}
 use lib.ListN.{length, getD, set, take}
+use lib.Dec.{eqb}
 use Rattle.lists.specs.Lists.{_∈_, keep}
 use Rattle.rules.specs.declared.EdgeData.{EdgeData}
 use Rattle.rules.specs.Outcome.{Outcome, ok, refuse}
 use Rattle.rules.specs.Job.{Answer}
 use Rattle.rules.specs.Fans.{fanPoint}
-use Rattle.rules.specs.Join.{Joining, edgeDataAt, endsAt, activeEdges, twoEnds, joinEdges, joinAt, ringAt, Tried, unchanged, changed, atCorner, sweep, maximalEdges}
+use Rattle.rules.specs.Join.{Joining, edgeDataAt, endsAt, activeEdges, twoEnds, farEnd, joinEdges, joinAt, ringAt, Tried, unchanged, changed, atCorner, sweep, maximalEdges}
 use Rattle.edges.specs.Table.{rowsIn, faceLoopsIn, Laid}
 use Rattle.places.specs.ReplaceAll.{Replaced}
-use Rattle.theorems.specs.Ends.{endsOne}
 use Rattle.maximal_edges.specs.declared.Change.{Change}
 use Rattle.maximal_edges.specs.declared.Change.the-variants.{Unchanged, Ring, Join, Refused as Stopped}
 use Rattle.maximal_edges.specs.declared.Joining.{Joining as Joined}
@@ -48,12 +48,37 @@ Fitting names items stretches (Refused n p) = Unit {0}
 
 -- TABLES OF ENDS
 
--- the number of active edge ends at each fan; and an edge for each fan, below which no edge ends there
-pub record Tabled (es : List EdgeData) (ends lows : List ℕ) : Type 0 where
-  pub size : length ends ≡ 2048
-  pub counts : (v : ℕ) → v < 2048 → getD ends v 0 ≡ length (endsAt es v)
-  pub within : (v : ℕ) → getD lows v 0 ≤ length es
-  pub none-below : (v x : ℕ) → v < 2048 → x < getD lows v 0 → endsOne v (edgeDataAt es x) ≡ 0
+-- tables for as many fans, with no end counted
+pub record Blank (ends lows highs : List ℕ) : Type 0 where
+  pub size : length ends ≤ 2048
+  pub lows-size : length lows ≡ length ends
+  pub highs-size : length highs ≡ length ends
+  pub none : (v : ℕ) → getD ends v 0 ≡ 0
+
+-- the number of active edge ends at each fan; and, where there are exactly two, the lower edge and the higher
+pub record Tabled (es : List EdgeData) (ends lows highs : List ℕ) : Type 0 where
+  pub size : length ends ≤ 2048
+  pub lows-size : length lows ≡ length ends
+  pub highs-size : length highs ≡ length ends
+  pub counts : (v : ℕ) → v < length ends → getD ends v 0 ≡ length (endsAt es v)
+  pub pairs : (v : ℕ) → v < length ends → length (endsAt es v) ≡ 2 → endsAt es v ≡ getD lows v 0 ∷ getD highs v 0 ∷ []
+
+-- one end more at fan v, of edge e, the highest so far
+pub record EndCounted (v e : ℕ) (ends lows highs ends′ lows′ highs′ : List ℕ) : Type 0 where
+  pub count : ends′ ≡ set ends v (getD ends v 0 + 1)
+  pub lowest : lows′ ≡ cond (eqb (getD ends v 0) 0) (set lows v e) lows
+  pub highest : highs′ ≡ set highs v e
+
+-- the lower edges once edge a at fan v has given way to a higher one: if it was the lower, then the other one is now
+abbrev pub lowsAfter : List ℕ → List ℕ → ℕ → ℕ → List ℕ
+lowsAfter lows highs v a = cond (eqb (getD lows v 0) a) (set lows v (getD highs v 0)) lows
+
+-- the lower edges, and the higher, once edge n has the far ends p of edge a and q of edge b
+abbrev pub highsJoined : ℕ → ℕ → ℕ → List ℕ → List ℕ
+highsJoined p q n highs = set (set highs p n) q n
+
+abbrev pub lowsJoined : ℕ → ℕ → ℕ → ℕ → ℕ → List ℕ → List ℕ → List ℕ
+lowsJoined p q a b n lows highs = lowsAfter (lowsAfter lows highs p a) (set highs p n) q b
 
 -- WHAT A SWEEP FINDS
 
@@ -97,19 +122,21 @@ pub record Swept (answers : List Answer) (starts names : List ℕ) (es : List Ed
 
 -- THE TWO CHANGES
 
--- the join of edges a and b, of n edges, at corner v
-pub record JoinedAt (n v a b : ℕ) (rows items stretches ends rows′ items′ stretches′ ends′ : List ℕ) : Type 0 where
+-- the join of edges a and b, of n edges, at corner v: the new edge takes their places at their far ends
+pub record JoinedAt (n v a b : ℕ) (rows items stretches ends lows highs rows′ items′ stretches′ ends′ lows′ highs′ : List ℕ) : Type 0 where
   pub edges : edgesIn rows′ (n + 1) ≡ joinEdges v a b (edgesIn rows n)
   pub loops : Replaced (edgesIn rows n) v a b n items stretches items′ stretches′
   pub corner : ends′ ≡ set ends v 0
+  pub lower : lows′ ≡ lowsJoined (farEnd v (edgeDataAt (edgesIn rows n) a)) (farEnd v (edgeDataAt (edgesIn rows n) b)) a b n lows highs
+  pub higher : highs′ ≡ highsJoined (farEnd v (edgeDataAt (edgesIn rows n) a)) (farEnd v (edgeDataAt (edgesIn rows n) b)) n highs
 
 -- the tables before a sweep: `whole` is what the whole run gives, for the faces of at most so many loops
-pub record Going (answers : List Answer) (starts names : List ℕ) (whole : List ℕ → Outcome Joining) (loops : ℕ) (rows : List ℕ) (n : ℕ) (items stretches ends lows : List ℕ) (joins rings : ℕ) : Type 0 where
+pub record Going (answers : List Answer) (starts names : List ℕ) (whole : List ℕ → Outcome Joining) (loops : ℕ) (rows : List ℕ) (n : ℕ) (items stretches ends lows highs : List ℕ) (joins rings : ℕ) : Type 0 where
   pub size : 7 * (n + length (activeEdges (edgesIn rows n))) ≤ length rows
   pub sizes : loops ≤ length stretches
   pub few : n ≤ 2047
   pub room : n + length (activeEdges (edgesIn rows n)) ≤ 2048
   pub laid : Laid stretches items
-  pub tabled : Tabled (edgesIn rows n) ends lows
+  pub tabled : Tabled (edgesIn rows n) ends lows highs
   pub budget : length (keep (twoEnds (edgesIn rows n)) names) + (joins + rings) ≤ length names
   pub run : (faces : List ℕ) → 2 * length faces ≤ loops → whole faces ≡ maximalEdges answers starts names (length names - (joins + rings)) (stateIn rows n items stretches faces joins rings)

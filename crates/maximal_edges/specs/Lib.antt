@@ -1,5 +1,5 @@
 pub mod Joined
-pub mod ScanLaws
+pub mod PairLaws
 pub mod CountLaws
 pub mod SweepLaws
 pub mod ChangeLaws

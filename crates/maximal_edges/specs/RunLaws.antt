@@ -11,13 +11,13 @@ use Rattle.rules.specs.declared.EdgeData.{EdgeData}
 use Rattle.rules.specs.Outcome.{Outcome, ok, refuse}
 use Rattle.rules.specs.OutcomeLaws.{bind-on, bind-stop}
 use Rattle.rules.specs.Job.{Answer}
-use Rattle.rules.specs.Join.{Joining, edgeDataAt, endsAt, activeEdges, twoEnds, ringOf, replacedAll, joinEdges, joinAt, ringAt, unchanged, changed, sweep, afterSweep, maximalEdges}
+use Rattle.rules.specs.Join.{Joining, edgeDataAt, endsAt, activeEdges, twoEnds, farEnd, ringOf, replacedAll, joinEdges, joinAt, ringAt, unchanged, changed, sweep, afterSweep, maximalEdges}
 use Rattle.edges.specs.Table.{faceLoopsIn, Laid}
 use Rattle.places.specs.ReplaceAll.{Replaced}
 use Rattle.theorems.specs.Ends.{one-edge, two-edges}
 use Rattle.maximal_edges.specs.declared.Change.{Change}
 use Rattle.maximal_edges.specs.declared.Change.the-variants.{Unchanged, Ring, Join, Refused as Stopped}
-use Rattle.maximal_edges.specs.Joined.{edgesIn, stateIn, Tabled, changeOf, Real, Swept, JoinedAt, Going}
+use Rattle.maximal_edges.specs.Joined.{edgesIn, stateIn, Tabled, lowsJoined, highsJoined, changeOf, Real, Swept, JoinedAt, Going}
 use Rattle.maximal_edges.specs.ChangeLaws.{count-edges, Changed, changed-ring, changed-join, active-few, active-ring, active-join}
 
 -- ONE SWEEP OF THE DEFINITION
@@ -67,11 +67,11 @@ state-join rows rows′ n items stretches items′ stretches′ faces joins ring
 -- THE RUN
 
 -- where it starts
-pub going-start : (answers : List Answer) (starts names rows : List ℕ) (n loops : ℕ) (items stretches ends lows : List ℕ) (whole : List ℕ → Outcome Joining) → 14 * n ≤ length rows → n ≤ 1024
-    → loops ≡ length stretches → Laid stretches items → Tabled (edgesIn rows n) ends lows
+pub going-start : (answers : List Answer) (starts names rows : List ℕ) (n loops : ℕ) (items stretches ends lows highs : List ℕ) (whole : List ℕ → Outcome Joining) → 14 * n ≤ length rows → n ≤ 1024
+    → loops ≡ length stretches → Laid stretches items → Tabled (edgesIn rows n) ends lows highs
     → ((faces : List ℕ) → whole faces ≡ maximalEdges answers starts names (length names) (stateIn rows n items stretches faces 0 0))
-    → Going answers starts names whole loops rows n items stretches ends lows 0 0
-going-start answers starts names rows n loops items stretches ends lows whole size few el laid tabled run = record {
+    → Going answers starts names whole loops rows n items stretches ends lows highs 0 0
+going-start answers starts names rows n loops items stretches ends lows highs whole size few el laid tabled run = record {
   size = omega (arith, active-few (edgesIn rows n), count-edges rows n (omega arith));
   sizes = omega arith;
   few = omega arith;
@@ -82,8 +82,8 @@ going-start answers starts names rows n loops items stretches ends lows whole si
   run = λ faces h. let e : length names ≡ length names - (0 + 0) = omega arith in run faces ∙ ap (λ k. maximalEdges answers starts names k (stateIn rows n items stretches faces 0 0)) e;
 }
 
-module _ (answers : List Answer) (starts names : List ℕ) (whole : List ℕ → Outcome Joining) (loops : ℕ) (rows : List ℕ) (n : ℕ) (items stretches ends lows : List ℕ) (joins rings : ℕ)
-    (g : Going answers starts names whole loops rows n items stretches ends lows joins rings) where
+module _ (answers : List Answer) (starts names : List ℕ) (whole : List ℕ → Outcome Joining) (loops : ℕ) (rows : List ℕ) (n : ℕ) (items stretches ends lows highs : List ℕ) (joins rings : ℕ)
+    (g : Going answers starts names whole loops rows n items stretches ends lows highs joins rings) where
   abbrev es : List EdgeData
   es = edgesIn rows n
 
@@ -124,22 +124,22 @@ module _ (answers : List Answer) (starts names : List ℕ) (whole : List ℕ →
       ring-inside = omega (arith, one-edge es v a (ring-real .1) .inside, count-edges rows n (omega (arith, g .size)))
 
       module _ (rows′ ends′ : List ℕ) (edges : edgesIn rows′ n ≡ set es a (ringOf (edgeDataAt es a))) where
-        after-ring : Changed names es (edgesIn rows′ n) v
-        after-ring = subst (λ l. Changed names es l v) (sym edges) (changed-ring names nodup fans es v (ring-real .0) a (ring-real .1))
+        after-ring : Changed names es (edgesIn rows′ n) v lows highs lows highs
+        after-ring = subst (λ l. Changed names es l v lows highs lows highs) (sym edges) (changed-ring names nodup fans es v (ring-real .0) lows highs a (ring-real .1))
 
         -- fewer fans with two ends
         pub ring-less : length (keep (twoEnds (edgesIn rows′ n)) names) < length (keep (twoEnds es) names)
         ring-less = omega (arith, after-ring .twos)
 
         -- the tables after a ring
-        pub going-ring : length rows′ ≡ length rows → ends′ ≡ set ends v 0 → Going answers starts names whole loops rows′ n items stretches ends′ lows joins (rings + 1)
+        pub going-ring : length rows′ ≡ length rows → ends′ ≡ set ends v 0 → Going answers starts names whole loops rows′ n items stretches ends′ lows highs joins (rings + 1)
         going-ring size corner = record {
           size = omega (arith, g .size, ap (λ l. length (activeEdges l)) edges, active-ring es v a (ring-real .1));
           sizes = g .sizes;
           few = g .few;
           room = omega (arith, g .room, ap (λ l. length (activeEdges l)) edges, active-ring es v a (ring-real .1));
           laid = g .laid;
-          tabled = subst (λ l. Tabled (edgesIn rows′ n) l lows) (sym corner) (after-ring .tables ends lows (g .tabled));
+          tabled = subst (λ l. Tabled (edgesIn rows′ n) l lows highs) (sym corner) (after-ring .tables ends (g .tabled));
           budget = omega (arith, g .budget, after-ring .twos);
           run = onward (λ faces. stateIn rows′ n items stretches faces joins (rings + 1)) joins (rings + 1) (length (keep (twoEnds (edgesIn rows′ n)) names))
               (λ faces h. ap (changeOf (state faces)) e ∙ ap (λ s. ok (changed s)) (state-ring rows rows′ n items stretches faces joins rings a edges))
@@ -159,22 +159,30 @@ module _ (answers : List Answer) (starts names : List ℕ) (whole : List ℕ →
         omega (arith, g .size, active-join es v a b (join-real .1) (join-real .2) .1),
       )
 
-      module _ (rows′ items′ stretches′ ends′ : List ℕ) (j : JoinedAt n v a b rows items stretches ends rows′ items′ stretches′ ends′) where
-        after-join : Changed names es (edgesIn rows′ (n + 1)) v
-        after-join = subst (λ l. Changed names es l v) (sym (j .edges)) (changed-join names nodup fans es v (join-real .0) a b (join-real .1) (join-real .2))
+      module _ (rows′ items′ stretches′ ends′ lows′ highs′ : List ℕ) (j : JoinedAt n v a b rows items stretches ends lows highs rows′ items′ stretches′ ends′ lows′ highs′) where
+        abbrev first-far : ℕ
+        first-far = farEnd v (edgeDataAt es a)
+
+        abbrev second-far : ℕ
+        second-far = farEnd v (edgeDataAt es b)
+
+        after-join : Changed names es (edgesIn rows′ (n + 1)) v lows highs (lowsJoined first-far second-far a b n lows highs) (highsJoined first-far second-far n highs)
+        after-join =
+            subst (λ l. Changed names es l v lows highs (lowsJoined first-far second-far a b n lows highs) (highsJoined first-far second-far n highs)) (sym (j .edges))
+            (changed-join names nodup fans es v (join-real .0) lows highs n (count-edges rows n (omega (arith, g .size))) a b (join-real .1) (join-real .2))
 
         pub join-less : length (keep (twoEnds (edgesIn rows′ (n + 1))) names) < length (keep (twoEnds es) names)
         join-less = omega (arith, after-join .twos)
 
         -- the tables after a join
-        pub going-join : length rows′ ≡ length rows → length stretches′ ≡ length stretches → Going answers starts names whole loops rows′ (n + 1) items′ stretches′ ends′ lows (joins + 1) rings
+        pub going-join : length rows′ ≡ length rows → length stretches′ ≡ length stretches → Going answers starts names whole loops rows′ (n + 1) items′ stretches′ ends′ lows′ highs′ (joins + 1) rings
         going-join size sizes = record {
           size = omega (arith, g .size, ap (λ l. length (activeEdges l)) (j .edges), active-join es v a b (join-real .1) (join-real .2) .0);
           sizes = omega (arith, g .sizes);
           few = omega (arith, join-inside .2);
           room = omega (arith, g .room, ap (λ l. length (activeEdges l)) (j .edges), active-join es v a b (join-real .1) (join-real .2) .0);
           laid = j .loops .laid;
-          tabled = subst (λ l. Tabled (edgesIn rows′ (n + 1)) l lows) (sym (j .corner)) (after-join .tables ends lows (g .tabled));
+          tabled = subst (λ l. l) (λ i. Tabled (edgesIn rows′ (n + 1)) (sym (j .corner) i) (sym (j .lower) i) (sym (j .higher) i)) (after-join .tables ends (g .tabled));
           budget = omega (arith, g .budget, after-join .twos);
           run = onward (λ faces. stateIn rows′ (n + 1) items′ stretches′ faces (joins + 1) rings) (joins + 1) rings (length (keep (twoEnds (edgesIn rows′ (n + 1))) names))
               (λ faces h. ap (changeOf (state faces)) e ∙ ap (λ s. ok (changed s)) (state-join rows rows′ n items stretches items′ stretches′ faces joins rings v a b (omega (arith, g .size)) (j .edges) (j .loops) (omega (arith, g .sizes))))

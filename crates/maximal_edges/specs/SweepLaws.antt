@@ -28,7 +28,6 @@ use Rattle.theorems.specs.Changes.{corner-still}
 use Rattle.maximal_edges.specs.declared.Change.{Change}
 use Rattle.maximal_edges.specs.declared.Change.the-variants.{Unchanged, Ring, Join, Refused as Stopped}
 use Rattle.maximal_edges.specs.Joined.{Tabled, changeOf, isStill, AtEdges, TriedAt, Real, Swept}
-use Rattle.maximal_edges.specs.ScanLaws.{Scan, scan-start}
 
 -- QUESTIONS
 
@@ -177,17 +176,17 @@ real-at es names v a b (Stopped n p) m e k = keep-counts (twoEnds es) m (eq-eqb 
 
 -- THE TABLES AT A CORNER
 
-module _ (es : List EdgeData) (ends lows names : List ℕ) (tabled : Tabled es ends lows) (fans : (v : ℕ) → v ∈ names → v < 2048) (i v : ℕ) (h : i < length names) (ev : v ≡ getD names i 0) where
-  few : v < 2048
-  few = fans v (subst (λ x. x ∈ names) (sym ev) (getD-in names i 0 h))
+module _ (es : List EdgeData) (ends lows highs names : List ℕ) (tabled : Tabled es ends lows highs) (fans : (v : ℕ) → v ∈ names → v < length ends) (i v : ℕ) (h : i < length names) (ev : v ≡ getD names i 0) where
+  inside : v < length ends
+  inside = fans v (subst (λ x. x ∈ names) (sym ev) (getD-in names i 0 h))
 
   -- its number of ends
   pub corner-count : (n : ℕ) → n ≡ getD ends v 0 → n ≡ length (endsAt es v)
-  corner-count n e = e ∙ tabled .counts v few
+  corner-count n e = e ∙ tabled .counts v inside
 
-  -- the scan for them
-  pub corner-scan : (a low : ℕ) → low ≡ getD lows v 0 → Scan es v 0 a low
-  corner-scan a low e = scan-start es v a low (λ x b. tabled .none-below v x few (omega (arith, e))) (omega (arith, e, tabled .within v))
+  -- its two edges
+  pub corner-pair : (n a b : ℕ) → n ≡ getD ends v 0 → n ≡ 2 → a ≡ getD lows v 0 → b ≡ getD highs v 0 → endsAt es v ≡ a ∷ b ∷ []
+  corner-pair n a b e two ea eb = tabled .pairs v inside (sym (corner-count n e) ∙ two) ∙ (λ i. sym ea i ∷ sym eb i ∷ [])
 
 -- THE SWEEP
 

@@ -14,7 +14,7 @@ ghost use mathlib.Core.Path.{_≡_};
 ghost use Prim.Native.Nat.{ℕ, _+_, _*_, _<_, _≤_};
 ghost use mathlib.Core.List.{List, [], _∷_, _++_};
 ghost use mathlib.Core.Bool.{cond};
-ghost use lib.ListN.{length, getD, set, replicate};
+ghost use lib.ListN.{length, getD, set};
 ghost use lib.Dec.{eqb};
 ghost use Rattle.lists.specs.Lists.{_∈_, Nodup, same};
 ghost use Rattle.rules.specs.Sense.{reverse};
@@ -24,8 +24,7 @@ ghost use Rattle.job.specs.Lists.{answersIn};
 ghost use Rattle.answers.specs.Index.{Indexed};
 ghost use Rattle.ask.specs.Told.{toldOf};
 ghost use Rattle.edges.specs.Table.{rowsIn, Laid};
-ghost use Rattle.theorems.specs.Ends.{oneAt, endsOne};
-ghost use Rattle.maximal_edges.specs.Joined.{edgesIn, stateIn, joiningOf, Fitting, Tabled, isStill, TriedAt, Swept, JoinedAt, doneWith};
+ghost use Rattle.maximal_edges.specs.Joined.{edgesIn, stateIn, joiningOf, Fitting, Blank, Tabled, EndCounted, lowsAfter, isStill, TriedAt, Swept, JoinedAt, doneWith};
 ghost use Rattle.maximal_edges.specs.CountLaws.{Counted};
 ghost use Rattle.maximal_edges.specs.SweepLaws.{mayChange, changeAt};
 
@@ -51,26 +50,6 @@ pub enum Joining {
 
 // ENDS
 
-// 1 where two numbers are equal.
-fn one_at(a: usize, x: usize) -> usize
-    ensures { λ r. ⌜ (r ≡ oneAt a x) × (r ≤ 1) ⌝ }
-{
-    if a == x {
-        return 1;
-    }
-    0
-}
-
-// The active ends of edge e at corner v: 0, 1 or 2.
-fn ends_of(rows: &[u32], e: usize, v: usize) -> usize
-    ensures { λ r. ⌜ (r ≡ endsOne v (edgeDataAt (rowsIn (now (rows .entry))) e)) × (r ≤ 2) ⌝ }
-{
-    if edge_active(rows, e) {
-        return one_at(edge_start(rows, e), v) + one_at(edge_end(rows, e), v);
-    }
-    0
-}
-
 // Edge e is the lowest at fan v, where n ends were counted before.
 fn note_lowest(lows: &mut [u32], v: usize, e: usize, n: usize)
     requires { ⌜ e < 4294967296 ⌝ }
@@ -81,36 +60,37 @@ fn note_lowest(lows: &mut [u32], v: usize, e: usize, n: usize)
     }
 }
 
-// One end more at fan v, of edge e.
-fn count_end(ends: &mut [u32], lows: &mut [u32], v: usize, e: usize)
+// One end more at fan v, of edge e, the highest so far.
+fn count_end(ends: &mut [u32], lows: &mut [u32], highs: &mut [u32], v: usize, e: usize)
     requires { ⌜ (getD (now ends) v 0 < 4294967295) × (e < 4294967296) ⌝ }
-    ensures { λ _. ⌜ (now (ends .exit) ≡ set (now (ends .entry)) v (getD (now (ends .entry)) v 0 + 1)) × (now (lows .exit) ≡ cond (eqb (getD (now (ends .entry)) v 0) 0) (set (now (lows .entry)) v e) (now (lows .entry))) ⌝ }
+    ensures { λ _. ⌜ EndCounted v e (now (ends .entry)) (now (lows .entry)) (now (highs .entry)) (now (ends .exit)) (now (lows .exit)) (now (highs .exit)) ⌝ }
 {
     let n = get(ends, v);
     note_lowest(lows, v, e, n);
+    put(highs, v, e);
     put(ends, v, n + 1);
 }
 
 // The ends of edge e.
-fn count_edge(rows: &[u32], ends: &mut [u32], lows: &mut [u32], e: usize)
-    requires { ⌜ Counted (rowsIn (now rows)) (now ends) (now lows) e × (e < length (rowsIn (now rows))) × (e < 2048) ⌝ }
-    ensures { λ _. ⌜ Counted (rowsIn (now (rows .entry))) (now (ends .exit)) (now (lows .exit)) (e + 1) ⌝ }
+fn count_edge(rows: &[u32], ends: &mut [u32], lows: &mut [u32], highs: &mut [u32], e: usize)
+    requires { ⌜ Counted (rowsIn (now rows)) (now ends) (now lows) (now highs) e × (e < length (rowsIn (now rows))) × (e < 2048) ⌝ }
+    ensures { λ _. ⌜ Counted (rowsIn (now (rows .entry))) (now (ends .exit)) (now (lows .exit)) (now (highs .exit)) (e + 1) ⌝ }
 {
     if edge_active(rows, e) {
-        count_end(ends, lows, edge_start(rows, e), e);
-        count_end(ends, lows, edge_end(rows, e), e);
+        count_end(ends, lows, highs, edge_start(rows, e), e);
+        count_end(ends, lows, highs, edge_end(rows, e), e);
     }
 }
 
-// The number of active edge ends at each fan, and the lowest edge there; both tables are all 0 at first.
-fn count_ends(rows: &[u32], ends: &mut [u32], lows: &mut [u32])
-    requires { ⌜ (length (now rows) ≤ 14336) × (now ends ≡ replicate 2048 0) × (now lows ≡ replicate 2048 0) ⌝ }
-    ensures { λ _. ⌜ Tabled (rowsIn (now (rows .entry))) (now (ends .exit)) (now (lows .exit)) ⌝ }
+// The number of active edge ends at each fan, and the lowest and the highest edge there; the tables are all 0 at first.
+fn count_ends(rows: &[u32], ends: &mut [u32], lows: &mut [u32], highs: &mut [u32])
+    requires { ⌜ (length (now rows) ≤ 14336) × Blank (now ends) (now lows) (now highs) ⌝ }
+    ensures { λ _. ⌜ Tabled (rowsIn (now (rows .entry))) (now (ends .exit)) (now (lows .exit)) (now (highs .exit)) ⌝ }
 {
     let n = rows.len() / 7;
     let mut e: usize = 0;
     while e < n {
-        count_edge(rows, ends, lows, e);
+        count_edge(rows, ends, lows, highs, e);
         e += 1;
     }
 }
@@ -242,16 +222,6 @@ fn stays(change: Change) -> bool
     }
 }
 
-// The lower edge of a corner, where `seen` of its ends were met before edge e.
-fn lower(seen: usize, a: usize, e: usize) -> usize
-    ensures { λ r. ⌜ r ≡ cond (eqb seen 0) e a ⌝ }
-{
-    if seen == 0 {
-        return e;
-    }
-    a
-}
-
 // One sweep over the corners: it stops at its first change.
 fn sweep(
     job: &[u8],
@@ -262,32 +232,22 @@ fn sweep(
     rows: &[u32],
     ends: &[u32],
     lows: &[u32],
+    highs: &[u32],
 ) -> Change
-    requires { ⌜ Indexed (now job) (now index) c × Tabled (rowsIn (now rows)) (now ends) (now lows) × ((v : ℕ) → v ∈ now names → v < 2048) ⌝ }
+    requires { ⌜ Indexed (now job) (now index) c × Tabled (rowsIn (now rows)) (now ends) (now lows) (now highs) × ((v : ℕ) → v ∈ now names → v < length (now ends)) ⌝ }
     ensures { λ r. ⌜ Swept (answersIn (now (job .entry)) (now (index .entry)) c) (now (starts .entry)) (now (names .entry)) (rowsIn (now (rows .entry))) r ⌝ }
 {
-    let count = rows.len() / 7;
     let mut change = Change::Unchanged;
     let mut i: usize = 0;
     'corners: while i < names.len() {
         let v = get(names, i);
         i += 1;
         if get(ends, v) == 2 {
-            let mut a: usize = 0;
-            let mut seen: usize = 0;
-            let mut e = get(lows, v);
-            'edges: while e < count {
-                a = lower(seen, a, e);
-                seen += ends_of(rows, e, v);
-                if seen == 2 {
-                    change = try_corner(job, index, c, starts, rows, v, a, e);
-                    if stays(change) {
-                        continue 'corners;
-                    }
-                    break 'corners;
-                }
-                e += 1;
+            change = try_corner(job, index, c, starts, rows, v, get(lows, v), get(highs, v));
+            if stays(change) {
+                continue 'corners;
             }
+            break 'corners;
         }
     }
     change
@@ -376,6 +336,25 @@ fn ring_at(rows: &mut [u32], n: usize, ends: &mut [u32], v: usize, a: usize)
     put(ends, v, 0);
 }
 
+// At fan v the edge h is the lower one where edge a was.
+fn replace_low(lows: &mut [u32], v: usize, a: usize, h: usize)
+    requires { ⌜ h < 4294967296 ⌝ }
+    ensures { λ _. ⌜ now (lows .exit) ≡ cond (eqb (getD (now (lows .entry)) v 0) a) (set (now (lows .entry)) v h) (now (lows .entry)) ⌝ }
+{
+    if get(lows, v) == a {
+        put(lows, v, h);
+    }
+}
+
+// Of the two edges at fan v, edge a gives way to edge n, which is the higher one then.
+fn replace_end(lows: &mut [u32], highs: &mut [u32], v: usize, a: usize, n: usize)
+    requires { ⌜ n < 4294967296 ⌝ }
+    ensures { λ _. ⌜ (now (lows .exit) ≡ lowsAfter (now (lows .entry)) (now (highs .entry)) v a) × (now (highs .exit) ≡ set (now (highs .entry)) v n) ⌝ }
+{
+    replace_low(lows, v, a, get(highs, v));
+    put(highs, v, n);
+}
+
 // The join of edges a and b, of n edges, at corner v; the new edge is numbered last.
 fn join_at(
     rows: &mut [u32],
@@ -383,12 +362,14 @@ fn join_at(
     items: &mut [u32],
     stretches: &mut [u32],
     ends: &mut [u32],
+    lows: &mut [u32],
+    highs: &mut [u32],
     v: usize,
     a: usize,
     b: usize,
 )
     requires { ⌜ (7 * n + 7 ≤ length (now rows)) × (n < 2048) × (a < b) × (b < n) × Laid (now stretches) (now items) ⌝ }
-    ensures { λ _. ⌜ JoinedAt n v a b (now (rows .entry)) (now (items .entry)) (now (stretches .entry)) (now (ends .entry)) (now (rows .exit)) (now (items .exit)) (now (stretches .exit)) (now (ends .exit)) ⌝ }
+    ensures { λ _. ⌜ JoinedAt n v a b (now (rows .entry)) (now (items .entry)) (now (stretches .entry)) (now (ends .entry)) (now (lows .entry)) (now (highs .entry)) (now (rows .exit)) (now (items .exit)) (now (stretches .exit)) (now (ends .exit)) (now (lows .exit)) (now (highs .exit)) ⌝ }
 {
     let x = edge_at(&rows[..7 * n], a);
     let y = edge_at(&rows[..7 * n], b);
@@ -397,6 +378,8 @@ fn join_at(
     put_edge(rows, b, retired(y));
     put_edge(rows, n, joined_edge(v, x, y));
     put(ends, v, 0);
+    replace_end(lows, highs, wide(far_end(x.start, x.end, v)), a, n);
+    replace_end(lows, highs, wide(far_end(y.start, y.end, v)), b, n);
 }
 
 // The answer of a run that is not refused.
@@ -417,21 +400,32 @@ fn join_all(
     c: Counts,
     starts: &[u32],
     names: &[u32],
-    lows: &[u32],
     ends: &mut [u32],
+    lows: &mut [u32],
+    highs: &mut [u32],
     rows: &mut [u32],
     count: usize,
     items: &mut [u32],
     stretches: &mut [u32],
 ) -> Joining
-    requires { ⌜ Indexed (now job) (now index) c × (14 * count ≤ length (now rows)) × (count ≤ 1024) × Laid (now stretches) (now items) × Tabled (edgesIn (now rows) count) (now ends) (now lows) × Nodup (now names) × ((v : ℕ) → v ∈ now names → v < 2048) ⌝ }
+    requires { ⌜ Indexed (now job) (now index) c × (14 * count ≤ length (now rows)) × (count ≤ 1024) × Laid (now stretches) (now items) × Tabled (edgesIn (now rows) count) (now ends) (now lows) (now highs) × Nodup (now names) × ((v : ℕ) → v ∈ now names → v < length (now ends)) ⌝ }
     ensures { λ r. ⌜ ((faces : List ℕ) → 2 * length faces ≤ length (now (stretches .entry)) → joiningOf (now (rows .exit)) (now (items .exit)) (now (stretches .exit)) faces r ≡ maximalEdges (answersIn (now (job .entry)) (now (index .entry)) c) (now (starts .entry)) (now (names .entry)) (length (now (names .entry))) (stateIn (now (rows .entry)) count (now (items .entry)) (now (stretches .entry)) faces 0 0)) × Fitting (now (names .entry)) (now (items .exit)) (now (stretches .exit)) r ⌝ }
 {
     let mut n = count;
     let mut joins: usize = 0;
     let mut rings: usize = 0;
     'sweeps: loop {
-        let change = sweep(job, index, c, starts, names, &rows[..7 * n], ends, lows);
+        let change = sweep(
+            job,
+            index,
+            c,
+            starts,
+            names,
+            &rows[..7 * n],
+            ends,
+            lows,
+            highs,
+        );
         match change {
             Change::Unchanged => return done(n, joins, rings),
             Change::Refused(number, place) => return Joining::Refused(number, place),
@@ -441,7 +435,7 @@ fn join_all(
                 continue 'sweeps;
             }
             Change::Join(v, a, b) => {
-                join_at(rows, n, items, stretches, ends, v, a, b);
+                join_at(rows, n, items, stretches, ends, lows, highs, v, a, b);
                 n += 1;
                 joins += 1;
                 continue 'sweeps;
@@ -467,15 +461,17 @@ pub fn maximal_edges(
 {
     let mut ends = [0u32; 2048];
     let mut lows = [0u32; 2048];
-    count_ends(&rows[..7 * count], &mut ends, &mut lows);
+    let mut highs = [0u32; 2048];
+    count_ends(&rows[..7 * count], &mut ends, &mut lows, &mut highs);
     join_all(
         job,
         index,
         c,
         starts,
         names,
-        &lows,
         &mut ends,
+        &mut lows,
+        &mut highs,
         rows,
         count,
         items,

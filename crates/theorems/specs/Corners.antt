@@ -30,7 +30,7 @@ pub far-end : (e : EdgeData) (v : ℕ) → (e .start ≡ v → ⊥) → farEnd v
 far-end e v p = rw (ne-eqb (e .start) v p)
 
 -- an edge with one end at v ends there and at its far end
-far-ends : (e : EdgeData) (v x : ℕ) → endsOne v e ≡ 1 → endsOne x e ≡ oneAt v x + oneAt (farEnd v e) x
+pub far-ends : (e : EdgeData) (v x : ℕ) → endsOne v e ≡ 1 → endsOne x e ≡ oneAt v x + oneAt (farEnd v e) x
 far-ends e v x h =
     let z = active-ends e x (ends-active e v (omega arith)) in
     ⊎-elim
@@ -38,12 +38,12 @@ far-ends e v x h =
     (λ w. let p = ap (λ y. oneAt y x) (w .1) in let q = ap (λ y. oneAt y x) (far-end e v (w .0)) in omega arith)
     (one-end e v h)
 
-new-ends : (a b : EdgeData) (v x : ℕ) → endsOne x (joinedEdge v a b) ≡ oneAt (farEnd v a) x + oneAt (farEnd v b) x
+pub new-ends : (a b : EdgeData) (v x : ℕ) → endsOne x (joinedEdge v a b) ≡ oneAt (farEnd v a) x + oneAt (farEnd v b) x
 unfolding joinedEdge
 new-ends a b v x = active-ends (joinedEdge v a b) x refl
 
 -- a ring ends at no fan
-ring-ends : (e : EdgeData) (x : ℕ) → x < unset → endsOne x (ringOf e) ≡ 0
+pub ring-ends : (e : EdgeData) (x : ℕ) → x < unset → endsOne x (ringOf e) ≡ 0
 ring-ends e x h = go (e .active) refl
   where
     go : (t : Bool) → e .active ≡ t → endsOne x (ringOf e) ≡ 0

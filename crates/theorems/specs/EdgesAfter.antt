@@ -40,7 +40,7 @@ module _ (es : List EdgeData) (v a b : ℕ) (k : TwoEdges es v a b) where
   stored-length = length-set (set es a (retired (edgeDataAt es a))) b (retired (edgeDataAt es b)) ∙ length-set es a (retired (edgeDataAt es a))
 
   -- what each edge is after the join: those before it but for their activity, then the new one
-  old-edge : (e : ℕ) → e < length es → edgeDataAt (joinEdges v a b es) e ≡ edgeDataAt stored e
+  pub old-edge : (e : ℕ) → e < length es → edgeDataAt (joinEdges v a b es) e ≡ edgeDataAt stored e
   unfolding joinEdges
   old-edge e h = getD-snoc-before stored (joinedEdge v (edgeDataAt es a) (edgeDataAt es b)) noEdgeData e (omega (arith, stored-length))
 
@@ -50,7 +50,7 @@ module _ (es : List EdgeData) (v a b : ℕ) (k : TwoEdges es v a b) where
       let d : EdgeData = joinedEdge v (edgeDataAt es a) (edgeDataAt es b) in
       ap (λ n. getD (stored ++ (d ∷ [])) n noEdgeData) (sym stored-length) ∙ getD-snoc-last stored d noEdgeData
 
-  no-edge : (e : ℕ) → length es < e → edgeDataAt (joinEdges v a b es) e ≡ noEdgeData
+  pub no-edge : (e : ℕ) → length es < e → edgeDataAt (joinEdges v a b es) e ≡ noEdgeData
   unfolding joinEdges
   no-edge e h =
       let d : EdgeData = joinedEdge v (edgeDataAt es a) (edgeDataAt es b) in

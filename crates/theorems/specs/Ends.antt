@@ -27,7 +27,7 @@ pub one-at-other : (a x : ℕ) → (a ≡ x → ⊥) → oneAt a x ≡ 0
 unfolding oneAt
 one-at-other a x h = rw (ne-eqb a x h)
 
-one-at-cases : (a x : ℕ) → ((a ≡ x) × (oneAt a x ≡ 1)) ⊎ ((a ≡ x → ⊥) × (oneAt a x ≡ 0))
+pub one-at-cases : (a x : ℕ) → ((a ≡ x) × (oneAt a x ≡ 1)) ⊎ ((a ≡ x → ⊥) × (oneAt a x ≡ 0))
 one-at-cases a x = ⊎-elim (λ w. inl (w .0, one-at-same a x (w .0))) (λ w. inr (w .0, one-at-other a x (w .0))) (equal-or-not a x)
 
 -- the ends of one edge at a fan, if the edge is active
