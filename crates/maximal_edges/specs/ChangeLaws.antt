@@ -56,7 +56,7 @@ rows-join rows once twice thrice n v a b x y p q new fits ha hb ex ey ep eq en e
 -- A CHANGE OF THE EDGES ALONE
 
 -- a state with such edges
-abbrev bare : List EdgeData → Joining
+abbrev pub bare : List EdgeData → Joining
 bare es = record { edges = es; loops = []; joins = 0; rings = 0 }
 
 -- what a change at fan v leaves right

@@ -20,6 +20,7 @@ use Rattle.rules.specs.declared.EdgeData.{EdgeData}
 use Rattle.rules.specs.Join.{noEdgeData, edgeDataAt, oneIf, endsFrom, endsAt}
 use Rattle.theorems.specs.Ends.{endsOne, ends-sum}
 use Rattle.maximal_edges.specs.Joined.{Blank, Tabled, EndCounted}
+use Rattle.maximal_edges.specs.PairLaws.{exactly-two}
 
 -- ENDS, EDGE BY EDGE
 
@@ -238,11 +239,5 @@ counted-all es ends lows highs e k q =
       lows-size = r .lows-size;
       highs-size = r .highs-size;
       counts = r .counts;
-      pairs = λ v h two. exactly (endsAt es v) two ∙ (λ i. sym (r .first v h (omega arith)) i ∷ sym (r .last v 1 h two) i ∷ []);
+      pairs = λ v h two. exactly-two (endsAt es v) two ∙ (λ i. sym (r .first v h (omega arith)) i ∷ sym (r .last v 1 h two) i ∷ []);
     }
-  where
-    exactly : (l : List ℕ) → length l ≡ 2 → l ≡ getD l 0 0 ∷ getD l 1 0 ∷ []
-    exactly [] h = absurd (omega arith)
-    exactly (x ∷ []) h = absurd (omega arith)
-    exactly (x ∷ y ∷ []) h = refl
-    exactly (x ∷ y ∷ z ∷ l) h = absurd (omega arith)

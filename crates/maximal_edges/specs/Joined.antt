@@ -4,13 +4,13 @@ use mathlib.Core.Path.{_≡_}
 use mathlib.Core.List.{List, [], _∷_}
 use mathlib.Core.Bool.{Bool, true, false, cond}
 use lib.ListN.{length, getD, set, take}
-use lib.Dec.{eqb}
+use lib.Dec.{eqb, ltb}
 use Rattle.lists.specs.Lists.{_∈_, keep}
 use Rattle.rules.specs.declared.EdgeData.{EdgeData}
 use Rattle.rules.specs.Outcome.{Outcome, ok, refuse}
 use Rattle.rules.specs.Job.{Answer}
 use Rattle.rules.specs.Fans.{fanPoint}
-use Rattle.rules.specs.Join.{Joining, edgeDataAt, endsAt, activeEdges, twoEnds, farEnd, joinEdges, joinAt, ringAt, Tried, unchanged, changed, atCorner, sweep, maximalEdges}
+use Rattle.rules.specs.Join.{Joining, edgeDataAt, endsAt, activeEdges, twoEnds, farEnd, joinedEdge, joinEdges, joinAt, ringAt, notSingular, mayJoin, Tried, unchanged, changed, atCorner, sweep, maximalEdges}
 use Rattle.edges.specs.Table.{rowsIn, faceLoopsIn, Laid}
 use Rattle.places.specs.ReplaceAll.{Replaced}
 use Rattle.maximal_edges.specs.declared.Change.{Change}
@@ -45,6 +45,11 @@ doneWith edges joins rings = Done (record { edges = edges; joins = joins; rings 
 abbrev pub Fitting : List ℕ → List ℕ → List ℕ → Joined → Type 0
 Fitting names items stretches (Done k) = Laid stretches items × (k .edges ≤ 2047) × (k .joins + k .rings ≤ length names)
 Fitting names items stretches (Refused n p) = Unit {0}
+
+-- what the stage leaves in the tables and answers
+abbrev pub Ran : List Answer → List ℕ → List ℕ → List ℕ → ℕ → List ℕ → List ℕ → List ℕ → List ℕ → List ℕ → Joined → Type 0
+Ran answers starts names rows n items stretches rows′ items′ stretches′ r =
+    ((faces : List ℕ) → 2 * length faces ≤ length stretches → joiningOf rows′ items′ stretches′ faces r ≡ wholeRun answers starts names rows n items stretches faces) × Fitting names items′ stretches′ r
 
 -- TABLES OF ENDS
 
@@ -103,10 +108,15 @@ AtEdges v a b (Ring w x) = (w ≡ v) × (x ≡ a) × (b ≡ a)
 AtEdges v a b (Join w x y) = (w ≡ v) × (x ≡ a) × (y ≡ b) × (a ≡ b → ⊥)
 AtEdges v a b (Stopped n p) = Unit {0}
 
+-- whether the corner of edges a and b may change
+abbrev pub mayChange : List Answer → List EdgeData → ℕ → ℕ → ℕ → Outcome Bool
+mayChange answers es a b point = cond (eqb a b) (notSingular answers (edgeDataAt es a) point) (mayJoin answers (edgeDataAt es a) (edgeDataAt es b) point)
+
 -- corner v with the active ends of edges a and b is tried, in any state with such edges
 pub record TriedAt (answers : List Answer) (starts : List ℕ) (es : List EdgeData) (v a b : ℕ) (r : Change) : Type 0 where
   pub same : (s : Joining) → s .edges ≡ es → changeOf s r ≡ atCorner answers (fanPoint starts v) s v (a ∷ b ∷ [])
   pub at : AtEdges v a b r
+  pub still : isStill r ≡ true → mayChange answers es a b (fanPoint starts v) ≡ ok false
 
 -- a change is at a fan with exactly two active edge ends, and so is a refusal
 abbrev pub Real : List EdgeData → List ℕ → Change → Type 0
@@ -115,28 +125,79 @@ Real es names (Ring v a) = (v ∈ names) × (endsAt es v ≡ a ∷ a ∷ [])
 Real es names (Join v a b) = (v ∈ names) × (endsAt es v ≡ a ∷ b ∷ []) × (a < b)
 Real es names (Stopped n p) = 1 ≤ length (keep (twoEnds es) names)
 
+-- STILL CORNERS
+
+-- the positions of the first fans of the list, and of all
+abbrev pub RankedTo : List ℕ → List ℕ → ℕ → Type 0
+RankedTo names ranks i = (k : ℕ) → k < i → getD ranks (getD names k 0) 0 ≡ k
+
+abbrev pub Ranked : List ℕ → List ℕ → Type 0
+Ranked names ranks = RankedTo names ranks (length names)
+
+-- a fan does not change: if exactly two edges end there, the answers do not let them
+abbrev pub Still : List Answer → List ℕ → List EdgeData → ℕ → Type 0
+Still answers starts es v = (a b : ℕ) → endsAt es v ≡ a ∷ b ∷ [] → mayChange answers es a b (fanPoint starts v) ≡ ok false
+
+-- those before a position are still
+abbrev pub AllStill : List Answer → List ℕ → List ℕ → List EdgeData → ℕ → Type 0
+AllStill answers starts names es i = (k : ℕ) → k < i → k < length names → Still answers starts es (getD names k 0)
+
+-- those before position `top` are still, but the ones at `low` and `high`
+pub record StillBut (answers : List Answer) (starts names : List ℕ) (es : List EdgeData) (low high top : ℕ) : Type 0 where
+  pub low-high : low ≤ high
+  pub high-top : high ≤ top
+  pub others : (k : ℕ) → k < top → k < length names → (k ≡ low → ⊥) → (k ≡ high → ⊥) → Still answers starts es (getD names k 0)
+
+-- where a sweep goes on after position i: at `high` and at `top`, while they are to come, then one by one
+abbrev pub nextAfter : ℕ → ℕ → ℕ → ℕ
+nextAfter high top i = cond (ltb i high) high (cond (ltb i top) top (i + 1))
+
+-- fan v stands at a position, and the fans before the next one to be tried are still but it
+pub record Found (answers : List Answer) (starts names : List ℕ) (es : List EdgeData) (high top v : ℕ) : Type 0 where
+  pub at : ℕ
+  pub inside : at < length names
+  pub here : getD names at 0 ≡ v
+  pub before : (k : ℕ) → k < nextAfter high top at → k < length names → (k ≡ at → ⊥) → Still answers starts es (getD names k 0)
+
+-- a change is at such a fan
+abbrev pub Past : List Answer → List ℕ → List ℕ → List EdgeData → ℕ → ℕ → Change → Type 0
+Past answers starts names es high top Unchanged = Unit {0}
+Past answers starts names es high top (Ring v a) = Found answers starts names es high top v
+Past answers starts names es high top (Join v a b) = Found answers starts names es high top v
+Past answers starts names es high top (Stopped n p) = Unit {0}
+
 -- a sweep, in any state with such edges
-pub record Swept (answers : List Answer) (starts names : List ℕ) (es : List EdgeData) (r : Change) : Type 0 where
+pub record Swept (answers : List Answer) (starts names : List ℕ) (es : List EdgeData) (high top : ℕ) (r : Change) : Type 0 where
   pub same : (s : Joining) → s .edges ≡ es → changeOf s r ≡ sweep answers starts s names
   pub real : Real es names r
+  pub past : Past answers starts names es high top r
+
+-- the lower of two numbers, and the higher
+abbrev pub lowerOf : ℕ → ℕ → ℕ
+lowerOf a b = cond (ltb a b) a b
+
+abbrev pub higherOf : ℕ → ℕ → ℕ
+higherOf a b = cond (ltb a b) b a
 
 -- THE TWO CHANGES
 
 -- the join of edges a and b, of n edges, at corner v: the new edge takes their places at their far ends
-pub record JoinedAt (n v a b : ℕ) (rows items stretches ends lows highs rows′ items′ stretches′ ends′ lows′ highs′ : List ℕ) : Type 0 where
+pub record JoinedAt (n v a b : ℕ) (rows items stretches ends lows highs rows′ items′ stretches′ ends′ lows′ highs′ : List ℕ) (new : EdgeData) : Type 0 where
   pub edges : edgesIn rows′ (n + 1) ≡ joinEdges v a b (edgesIn rows n)
   pub loops : Replaced (edgesIn rows n) v a b n items stretches items′ stretches′
   pub corner : ends′ ≡ set ends v 0
   pub lower : lows′ ≡ lowsJoined (farEnd v (edgeDataAt (edgesIn rows n) a)) (farEnd v (edgeDataAt (edgesIn rows n) b)) a b n lows highs
   pub higher : highs′ ≡ highsJoined (farEnd v (edgeDataAt (edgesIn rows n) a)) (farEnd v (edgeDataAt (edgesIn rows n) b)) n highs
+  pub made : new ≡ joinedEdge v (edgeDataAt (edgesIn rows n) a) (edgeDataAt (edgesIn rows n) b)
 
 -- the tables before a sweep: `whole` is what the whole run gives, for the faces of at most so many loops
-pub record Going (answers : List Answer) (starts names : List ℕ) (whole : List ℕ → Outcome Joining) (loops : ℕ) (rows : List ℕ) (n : ℕ) (items stretches ends lows highs : List ℕ) (joins rings : ℕ) : Type 0 where
+pub record Going (answers : List Answer) (starts names : List ℕ) (whole : List ℕ → Outcome Joining) (loops : ℕ) (rows : List ℕ) (n : ℕ) (items stretches ends lows highs : List ℕ) (joins rings low high top : ℕ) : Type 0 where
   pub size : 7 * (n + length (activeEdges (edgesIn rows n))) ≤ length rows
   pub sizes : loops ≤ length stretches
   pub few : n ≤ 2047
   pub room : n + length (activeEdges (edgesIn rows n)) ≤ 2048
   pub laid : Laid stretches items
   pub tabled : Tabled (edgesIn rows n) ends lows highs
+  pub known : StillBut answers starts names (edgesIn rows n) low high top
   pub budget : length (keep (twoEnds (edgesIn rows n)) names) + (joins + rings) ≤ length names
   pub run : (faces : List ℕ) → 2 * length faces ≤ loops → whole faces ≡ maximalEdges answers starts names (length names - (joins + rings)) (stateIn rows n items stretches faces joins rings)

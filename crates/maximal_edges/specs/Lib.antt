@@ -3,4 +3,5 @@ pub mod PairLaws
 pub mod CountLaws
 pub mod SweepLaws
 pub mod ChangeLaws
+pub mod StillLaws
 pub mod RunLaws

@@ -6,7 +6,7 @@ use mathlib.Core.Path.{_≡_, refl, sym, ap, _∙_}
 use mathlib.Core.Logic.{⊎-elim}
 use mathlib.Core.List.{List, [], _∷_}
 use mathlib.Core.Bool.{cond}
-use lib.ListN.{length, set, length-set, List·getD-eq-default}
+use lib.ListN.{length, getD, set, length-set, List·getD-eq-default}
 use lib.Seq.{getD-set-same, getD-set-other}
 use lib.Dec.{eqb}
 use Rattle.lists.specs.Lists.{times}
@@ -67,6 +67,13 @@ pair-of es v c d two le each = go (endsAt es v) refl two
         let r = pair-same x y c d (ends-ascend 0 es v x y [] e) le (λ z. sym (pair-each es v x y e z) ∙ each z) in
         λ i. r .0 i ∷ r .1 i ∷ []
     go (x ∷ y ∷ z ∷ l) e h = absurd (omega arith)
+
+-- a list of two
+pub exactly-two : (l : List ℕ) → length l ≡ 2 → l ≡ getD l 0 0 ∷ getD l 1 0 ∷ []
+exactly-two [] h = absurd (omega arith)
+exactly-two (x ∷ []) h = absurd (omega arith)
+exactly-two (x ∷ y ∷ []) h = refl
+exactly-two (x ∷ y ∷ z ∷ l) h = absurd (omega arith)
 
 -- both edges exist
 pub pair-inside : (es : List EdgeData) (v c d : ℕ) → endsAt es v ≡ c ∷ d ∷ [] → (c ≤ d) × (d < length es)
@@ -131,7 +138,7 @@ module _ (es : List EdgeData) (v a b : ℕ) (k : TwoEdges es v a b) where
       ]
 
   module _ (u : ℕ) where
-    first-gone : endsOne u (edgeDataAt after a) ≡ 0
+    pub first-gone : endsOne u (edgeDataAt after a) ≡ 0
     first-gone =
         let p : EdgeData = retired (edgeDataAt es a) in
         let q : EdgeData = retired (edgeDataAt es b) in
@@ -140,13 +147,13 @@ module _ (es : List EdgeData) (v a b : ℕ) (k : TwoEdges es v a b) where
         ∙ getD-set-same es a p noEdgeData (omega (arith, k .lower, k .inside)))
         ∙ idle-ends p u refl
 
-    second-gone : endsOne u (edgeDataAt after b) ≡ 0
+    pub second-gone : endsOne u (edgeDataAt after b) ≡ 0
     second-gone =
         let p : EdgeData = retired (edgeDataAt es a) in
         let q : EdgeData = retired (edgeDataAt es b) in
         ap (endsOne u) (old-edge es v a b k b (k .inside) ∙ getD-set-same (set es a p) b q noEdgeData (omega (arith, k .inside, length-set es a p))) ∙ idle-ends q u refl
 
-    new-there : endsOne u (edgeDataAt after (length es)) ≡ oneAt (farEnd v (edgeDataAt es a)) u + oneAt (farEnd v (edgeDataAt es b)) u
+    pub new-there : endsOne u (edgeDataAt after (length es)) ≡ oneAt (farEnd v (edgeDataAt es a)) u + oneAt (farEnd v (edgeDataAt es b)) u
     new-there = ap (endsOne u) (new-edge es v a b k) ∙ new-ends (edgeDataAt es a) (edgeDataAt es b) v u
 
     none-before : endsOne u (edgeDataAt es (length es)) ≡ 0

@@ -4,7 +4,7 @@ use native.Mathlib.Numerals.{add-one}
 use native.Mathlib.Omega.{arith}
 use mathlib.Core.Path.{_≡_, refl, sym, ap, subst, _∙_}
 use mathlib.Core.List.{List, [], _∷_}
-use lib.ListN.{length, set}
+use lib.ListN.{length, getD, set}
 use Rattle.lists.specs.Lists.{_∈_, Nodup, keep}
 use Rattle.lists.specs.Members.{keep-length}
 use Rattle.rules.specs.declared.EdgeData.{EdgeData}
@@ -17,7 +17,8 @@ use Rattle.places.specs.ReplaceAll.{Replaced}
 use Rattle.theorems.specs.Ends.{one-edge, two-edges}
 use Rattle.maximal_edges.specs.declared.Change.{Change}
 use Rattle.maximal_edges.specs.declared.Change.the-variants.{Unchanged, Ring, Join, Refused as Stopped}
-use Rattle.maximal_edges.specs.Joined.{edgesIn, stateIn, Tabled, lowsJoined, highsJoined, changeOf, Real, Swept, JoinedAt, Going}
+use Rattle.maximal_edges.specs.Joined.{edgesIn, stateIn, Tabled, lowsJoined, highsJoined, changeOf, Real, Ranked, StillBut, nextAfter, Past, Swept, lowerOf, higherOf, JoinedAt, Going}
+use Rattle.maximal_edges.specs.StillLaws.{but-ring, but-join, new-start, new-end}
 use Rattle.maximal_edges.specs.ChangeLaws.{count-edges, Changed, changed-ring, changed-join, active-few, active-ring, active-join}
 
 -- ONE SWEEP OF THE DEFINITION
@@ -70,7 +71,7 @@ state-join rows rows′ n items stretches items′ stretches′ faces joins ring
 pub going-start : (answers : List Answer) (starts names rows : List ℕ) (n loops : ℕ) (items stretches ends lows highs : List ℕ) (whole : List ℕ → Outcome Joining) → 14 * n ≤ length rows → n ≤ 1024
     → loops ≡ length stretches → Laid stretches items → Tabled (edgesIn rows n) ends lows highs
     → ((faces : List ℕ) → whole faces ≡ maximalEdges answers starts names (length names) (stateIn rows n items stretches faces 0 0))
-    → Going answers starts names whole loops rows n items stretches ends lows highs 0 0
+    → Going answers starts names whole loops rows n items stretches ends lows highs 0 0 0 0 0
 going-start answers starts names rows n loops items stretches ends lows highs whole size few el laid tabled run = record {
   size = omega (arith, active-few (edgesIn rows n), count-edges rows n (omega arith));
   sizes = omega arith;
@@ -78,35 +79,36 @@ going-start answers starts names rows n loops items stretches ends lows highs wh
   room = omega (arith, active-few (edgesIn rows n), count-edges rows n (omega arith));
   laid = laid;
   tabled = tabled;
+  known = record { low-high = omega arith; high-top = omega arith; others = λ k h. absurd (omega arith) };
   budget = omega (arith, keep-length (twoEnds (edgesIn rows n)) names);
   run = λ faces h. let e : length names ≡ length names - (0 + 0) = omega arith in run faces ∙ ap (λ k. maximalEdges answers starts names k (stateIn rows n items stretches faces 0 0)) e;
 }
 
-module _ (answers : List Answer) (starts names : List ℕ) (whole : List ℕ → Outcome Joining) (loops : ℕ) (rows : List ℕ) (n : ℕ) (items stretches ends lows highs : List ℕ) (joins rings : ℕ)
-    (g : Going answers starts names whole loops rows n items stretches ends lows highs joins rings) where
+module _ (answers : List Answer) (starts names : List ℕ) (whole : List ℕ → Outcome Joining) (loops : ℕ) (rows : List ℕ) (n : ℕ) (items stretches ends lows highs : List ℕ) (joins rings low high top : ℕ)
+    (g : Going answers starts names whole loops rows n items stretches ends lows highs joins rings low high top) where
   abbrev es : List EdgeData
   es = edgesIn rows n
 
   abbrev state : List ℕ → Joining
   state faces = stateIn rows n items stretches faces joins rings
 
-  swept : (r : Change) → Swept answers starts names es r → (faces : List ℕ) → sweep answers starts (state faces) names ≡ changeOf (state faces) r
+  swept : (r : Change) → Swept answers starts names es high top r → (faces : List ℕ) → sweep answers starts (state faces) names ≡ changeOf (state faces) r
   swept r k faces = sym (k .same (state faces) (state-edges rows n items stretches faces joins rings))
 
   -- the sweep changes nothing: the run is over
-  pub going-done : (r : Change) → Swept answers starts names es r → r ≡ Unchanged → (faces : List ℕ) → 2 * length faces ≤ loops → ok (state faces) ≡ whole faces
+  pub going-done : (r : Change) → Swept answers starts names es high top r → r ≡ Unchanged → (faces : List ℕ) → 2 * length faces ≤ loops → ok (state faces) ≡ whole faces
   going-done r k e faces h =
       sym (g .run faces h ∙ run-still answers starts names (length names - (joins + rings)) (state faces) (swept r k faces ∙ ap (changeOf (state faces)) e))
 
   -- the sweep is refused
-  pub going-stopped : (r : Change) (number place : ℕ) → Swept answers starts names es r → r ≡ Stopped number place → (faces : List ℕ) → 2 * length faces ≤ loops → refuse number place ≡ whole faces
+  pub going-stopped : (r : Change) (number place : ℕ) → Swept answers starts names es high top r → r ≡ Stopped number place → (faces : List ℕ) → 2 * length faces ≤ loops → refuse number place ≡ whole faces
   going-stopped r number place k e faces h =
       let some : 1 ≤ length (keep (twoEnds es) names) = subst (Real es names) e (k .real) in
       let d : length names - (joins + rings) ≡ suc (length names - (joins + rings) - 1) = omega (arith, g .budget) in
       sym (g .run faces h ∙ ap (λ m. maximalEdges answers starts names m (state faces)) d
       ∙ run-stopped answers starts names (length names - (joins + rings) - 1) (state faces) number place (swept r k faces ∙ ap (changeOf (state faces)) e))
 
-  module _ (nodup : Nodup names) (fans : (x : ℕ) → x ∈ names → x < 2048) (r : Change) (k : Swept answers starts names es r) where
+  module _ (nodup : Nodup names) (fans : (x : ℕ) → x ∈ names → x < 2048) (ranks : List ℕ) (ranked : Ranked names ranks) (r : Change) (k : Swept answers starts names es high top r) where
     -- one change less is left
     onward : (t : List ℕ → Joining) (joins′ rings′ twos : ℕ) → ((faces : List ℕ) → 2 * length faces ≤ loops → changeOf (state faces) r ≡ ok (changed (t faces)))
         → length (keep (twoEnds es) names) ≡ suc twos → joins′ + rings′ ≡ suc (joins + rings) → (faces : List ℕ) → 2 * length faces ≤ loops → whole faces ≡ maximalEdges answers starts names (length names - (joins′ + rings′)) (t faces)
@@ -132,14 +134,17 @@ module _ (answers : List Answer) (starts names : List ℕ) (whole : List ℕ →
         ring-less = omega (arith, after-ring .twos)
 
         -- the tables after a ring
-        pub going-ring : length rows′ ≡ length rows → ends′ ≡ set ends v 0 → Going answers starts names whole loops rows′ n items stretches ends′ lows highs joins (rings + 1)
-        going-ring size corner = record {
+        pub going-ring : (top′ : ℕ) → length rows′ ≡ length rows → ends′ ≡ set ends v 0 → top′ ≡ nextAfter high top (getD ranks v 0)
+            → Going answers starts names whole loops rows′ n items stretches ends′ lows highs joins (rings + 1) top′ top′ top′
+        going-ring top′ size corner et = record {
           size = omega (arith, g .size, ap (λ l. length (activeEdges l)) edges, active-ring es v a (ring-real .1));
           sizes = g .sizes;
           few = g .few;
           room = omega (arith, g .room, ap (λ l. length (activeEdges l)) edges, active-ring es v a (ring-real .1));
           laid = g .laid;
           tabled = subst (λ l. Tabled (edgesIn rows′ n) l lows highs) (sym corner) (after-ring .tables ends (g .tabled));
+          known = subst (λ l. StillBut answers starts names l top′ top′ top′) (sym edges)
+              (but-ring answers starts names fans es high top v (ring-real .0) (subst (Past answers starts names es high top) e (k .past)) ranks ranked top′ et a (ring-real .1));
           budget = omega (arith, g .budget, after-ring .twos);
           run = onward (λ faces. stateIn rows′ n items stretches faces joins (rings + 1)) joins (rings + 1) (length (keep (twoEnds (edgesIn rows′ n)) names))
               (λ faces h. ap (changeOf (state faces)) e ∙ ap (λ s. ok (changed s)) (state-ring rows rows′ n items stretches faces joins rings a edges))
@@ -159,7 +164,7 @@ module _ (answers : List Answer) (starts names : List ℕ) (whole : List ℕ →
         omega (arith, g .size, active-join es v a b (join-real .1) (join-real .2) .1),
       )
 
-      module _ (rows′ items′ stretches′ ends′ lows′ highs′ : List ℕ) (j : JoinedAt n v a b rows items stretches ends lows highs rows′ items′ stretches′ ends′ lows′ highs′) where
+      module _ (rows′ items′ stretches′ ends′ lows′ highs′ : List ℕ) (new : EdgeData) (j : JoinedAt n v a b rows items stretches ends lows highs rows′ items′ stretches′ ends′ lows′ highs′ new) where
         abbrev first-far : ℕ
         first-far = farEnd v (edgeDataAt es a)
 
@@ -175,14 +180,20 @@ module _ (answers : List Answer) (starts names : List ℕ) (whole : List ℕ →
         join-less = omega (arith, after-join .twos)
 
         -- the tables after a join
-        pub going-join : length rows′ ≡ length rows → length stretches′ ≡ length stretches → Going answers starts names whole loops rows′ (n + 1) items′ stretches′ ends′ lows′ highs′ (joins + 1) rings
-        going-join size sizes = record {
+        pub going-join : (top′ p q low′ high′ : ℕ) → length rows′ ≡ length rows → length stretches′ ≡ length stretches → top′ ≡ nextAfter high top (getD ranks v 0) → p ≡ getD ranks (new .start) 0
+            → q ≡ getD ranks (new .end) 0 → low′ ≡ lowerOf top′ (lowerOf p q) → high′ ≡ lowerOf top′ (higherOf p q)
+            → Going answers starts names whole loops rows′ (n + 1) items′ stretches′ ends′ lows′ highs′ (joins + 1) rings low′ high′ top′
+        going-join top′ p q low′ high′ size sizes et ep eq el eh = record {
           size = omega (arith, g .size, ap (λ l. length (activeEdges l)) (j .edges), active-join es v a b (join-real .1) (join-real .2) .0);
           sizes = omega (arith, g .sizes);
           few = omega (arith, join-inside .2);
           room = omega (arith, g .room, ap (λ l. length (activeEdges l)) (j .edges), active-join es v a b (join-real .1) (join-real .2) .0);
           laid = j .loops .laid;
           tabled = subst (λ l. l) (λ i. Tabled (edgesIn rows′ (n + 1)) (sym (j .corner) i) (sym (j .lower) i) (sym (j .higher) i)) (after-join .tables ends (g .tabled));
+          known = subst (λ l. l) (λ i. StillBut answers starts names (sym (j .edges) i) (sym el i) (sym eh i) top′)
+              (but-join answers starts names fans es high top v (join-real .0) (subst (Past answers starts names es high top) e (k .past)) ranks ranked top′ et a b p q (join-real .1) (join-real .2)
+              (ep ∙ ap (λ x. getD ranks x 0) (new-start new (edgeDataAt es a) (edgeDataAt es b) v (j .made)))
+              (eq ∙ ap (λ x. getD ranks x 0) (new-end new (edgeDataAt es a) (edgeDataAt es b) v (j .made))));
           budget = omega (arith, g .budget, after-join .twos);
           run = onward (λ faces. stateIn rows′ (n + 1) items′ stretches′ faces (joins + 1) rings) (joins + 1) rings (length (keep (twoEnds (edgesIn rows′ (n + 1))) names))
               (λ faces h. ap (changeOf (state faces)) e ∙ ap (λ s. ok (changed s)) (state-join rows rows′ n items stretches items′ stretches′ faces joins rings v a b (omega (arith, g .size)) (j .edges) (j .loops) (omega (arith, g .sizes))))

@@ -11,7 +11,7 @@ use rules::Counts;
 use rules::EdgeData;
 use rules::Sense;
 ghost use mathlib.Core.Path.{_≡_};
-ghost use Prim.Native.Nat.{ℕ, _+_, _*_, _<_, _≤_};
+ghost use Prim.Native.Nat.{ℕ, _+_, _*_, _<_, _≤_, _^_};
 ghost use mathlib.Core.List.{List, [], _∷_, _++_};
 ghost use mathlib.Core.Bool.{cond};
 ghost use lib.ListN.{length, getD, set};
@@ -24,9 +24,9 @@ ghost use Rattle.job.specs.Lists.{answersIn};
 ghost use Rattle.answers.specs.Index.{Indexed};
 ghost use Rattle.ask.specs.Told.{toldOf};
 ghost use Rattle.edges.specs.Table.{rowsIn, Laid};
-ghost use Rattle.maximal_edges.specs.Joined.{edgesIn, stateIn, joiningOf, Fitting, Blank, Tabled, EndCounted, lowsAfter, isStill, TriedAt, Swept, JoinedAt, doneWith};
+ghost use Rattle.maximal_edges.specs.Joined.{edgesIn, stateIn, joiningOf, Fitting, Ran, Blank, Tabled, EndCounted, lowsAfter, mayChange, StillBut, nextAfter, Ranked, lowerOf, higherOf, isStill, TriedAt, Swept, JoinedAt, doneWith};
 ghost use Rattle.maximal_edges.specs.CountLaws.{Counted};
-ghost use Rattle.maximal_edges.specs.SweepLaws.{mayChange, changeAt};
+ghost use Rattle.maximal_edges.specs.SweepLaws.{changeAt};
 
 // What a sweep finds: no change; the corner and the edge of a ring; the corner and the two edges of a join; or a refusal.
 pub enum Change {
@@ -222,7 +222,22 @@ fn stays(change: Change) -> bool
     }
 }
 
-// One sweep over the corners: it stops at its first change.
+// Where a sweep goes on after position i: at `high` and at `top`, while they are to come, then one by one.
+fn next_after(i: usize, high: usize, top: usize) -> usize
+    requires { ⌜ i + 1 < 2 ^ 64 ⌝ }
+    ensures { λ r. ⌜ r ≡ nextAfter high top i ⌝ }
+{
+    if i < high {
+        return high;
+    }
+    if i < top {
+        return top;
+    }
+    i + 1
+}
+
+// One sweep over the corners, which stops at its first change. Those before `top` are still but for the ones at `low` and
+// `high`, so that it begins at `low`.
 fn sweep(
     job: &[u8],
     index: &[u32],
@@ -233,15 +248,18 @@ fn sweep(
     ends: &[u32],
     lows: &[u32],
     highs: &[u32],
+    low: usize,
+    high: usize,
+    top: usize,
 ) -> Change
-    requires { ⌜ Indexed (now job) (now index) c × Tabled (rowsIn (now rows)) (now ends) (now lows) (now highs) × ((v : ℕ) → v ∈ now names → v < length (now ends)) ⌝ }
-    ensures { λ r. ⌜ Swept (answersIn (now (job .entry)) (now (index .entry)) c) (now (starts .entry)) (now (names .entry)) (rowsIn (now (rows .entry))) r ⌝ }
+    requires { ⌜ Indexed (now job) (now index) c × Tabled (rowsIn (now rows)) (now ends) (now lows) (now highs) × ((v : ℕ) → v ∈ now names → v < length (now ends)) × StillBut (answersIn (now job) (now index) c) (now starts) (now names) (rowsIn (now rows)) low high top ⌝ }
+    ensures { λ r. ⌜ Swept (answersIn (now (job .entry)) (now (index .entry)) c) (now (starts .entry)) (now (names .entry)) (rowsIn (now (rows .entry))) high top r ⌝ }
 {
     let mut change = Change::Unchanged;
-    let mut i: usize = 0;
+    let mut i = low;
     'corners: while i < names.len() {
         let v = get(names, i);
-        i += 1;
+        i = next_after(i, high, top);
         if get(ends, v) == 2 {
             change = try_corner(job, index, c, starts, rows, v, get(lows, v), get(highs, v));
             if stays(change) {
@@ -251,6 +269,38 @@ fn sweep(
         }
     }
     change
+}
+
+// Each fan's position among the names.
+fn rank(names: &[u32], ranks: &mut [u32])
+    requires { ⌜ Nodup (now names) × (length (now ranks) ≤ 2048) × ((v : ℕ) → v ∈ now names → v < length (now ranks)) ⌝ }
+    ensures { λ _. ⌜ Ranked (now (names .entry)) (now (ranks .exit)) ⌝ }
+{
+    let mut i: usize = 0;
+    while i < names.len() {
+        put(ranks, get(names, i), i);
+        i += 1;
+    }
+}
+
+// The lower of two numbers.
+fn lower(a: usize, b: usize) -> usize
+    ensures { λ r. ⌜ r ≡ lowerOf a b ⌝ }
+{
+    if a < b {
+        return a;
+    }
+    b
+}
+
+// The higher of two numbers.
+fn higher(a: usize, b: usize) -> usize
+    ensures { λ r. ⌜ r ≡ higherOf a b ⌝ }
+{
+    if a < b {
+        return b;
+    }
+    a
 }
 
 // THE TWO CHANGES
@@ -367,19 +417,21 @@ fn join_at(
     v: usize,
     a: usize,
     b: usize,
-)
+) -> EdgeData
     requires { ⌜ (7 * n + 7 ≤ length (now rows)) × (n < 2048) × (a < b) × (b < n) × Laid (now stretches) (now items) ⌝ }
-    ensures { λ _. ⌜ JoinedAt n v a b (now (rows .entry)) (now (items .entry)) (now (stretches .entry)) (now (ends .entry)) (now (lows .entry)) (now (highs .entry)) (now (rows .exit)) (now (items .exit)) (now (stretches .exit)) (now (ends .exit)) (now (lows .exit)) (now (highs .exit)) ⌝ }
+    ensures { λ r. ⌜ JoinedAt n v a b (now (rows .entry)) (now (items .entry)) (now (stretches .entry)) (now (ends .entry)) (now (lows .entry)) (now (highs .entry)) (now (rows .exit)) (now (items .exit)) (now (stretches .exit)) (now (ends .exit)) (now (lows .exit)) (now (highs .exit)) r ⌝ }
 {
     let x = edge_at(&rows[..7 * n], a);
     let y = edge_at(&rows[..7 * n], b);
     places::replace_all(&rows[..7 * n], items, stretches, v, a, b, n);
     put_edge(rows, a, retired(x));
     put_edge(rows, b, retired(y));
-    put_edge(rows, n, joined_edge(v, x, y));
+    let e = joined_edge(v, x, y);
+    put_edge(rows, n, e);
     put(ends, v, 0);
-    replace_end(lows, highs, wide(far_end(x.start, x.end, v)), a, n);
-    replace_end(lows, highs, wide(far_end(y.start, y.end, v)), b, n);
+    replace_end(lows, highs, wide(e.start), a, n);
+    replace_end(lows, highs, wide(e.end), b, n);
+    e
 }
 
 // The answer of a run that is not refused.
@@ -393,13 +445,15 @@ fn done(edges: usize, joins: usize, rings: usize) -> Joining
     })
 }
 
-// After a change the sweep begins afresh, up to a sweep without change.
+// After a change the sweep begins afresh, up to a sweep without change. What was tried in vain before is tried again only at
+// the far ends of a join: nowhere else can something have changed.
 fn join_all(
     job: &[u8],
     index: &[u32],
     c: Counts,
     starts: &[u32],
     names: &[u32],
+    ranks: &[u32],
     ends: &mut [u32],
     lows: &mut [u32],
     highs: &mut [u32],
@@ -408,40 +462,93 @@ fn join_all(
     items: &mut [u32],
     stretches: &mut [u32],
 ) -> Joining
-    requires { ⌜ Indexed (now job) (now index) c × (14 * count ≤ length (now rows)) × (count ≤ 1024) × Laid (now stretches) (now items) × Tabled (edgesIn (now rows) count) (now ends) (now lows) (now highs) × Nodup (now names) × ((v : ℕ) → v ∈ now names → v < length (now ends)) ⌝ }
-    ensures { λ r. ⌜ ((faces : List ℕ) → 2 * length faces ≤ length (now (stretches .entry)) → joiningOf (now (rows .exit)) (now (items .exit)) (now (stretches .exit)) faces r ≡ maximalEdges (answersIn (now (job .entry)) (now (index .entry)) c) (now (starts .entry)) (now (names .entry)) (length (now (names .entry))) (stateIn (now (rows .entry)) count (now (items .entry)) (now (stretches .entry)) faces 0 0)) × Fitting (now (names .entry)) (now (items .exit)) (now (stretches .exit)) r ⌝ }
+    requires { ⌜ Indexed (now job) (now index) c × (14 * count ≤ length (now rows)) × (count ≤ 1024) × Laid (now stretches) (now items) × Tabled (edgesIn (now rows) count) (now ends) (now lows) (now highs) × Nodup (now names) × ((v : ℕ) → v ∈ now names → v < length (now ends)) × Ranked (now names) (now ranks) ⌝ }
+    ensures { λ r. ⌜ Ran (answersIn (now (job .entry)) (now (index .entry)) c) (now (starts .entry)) (now (names .entry)) (now (rows .entry)) count (now (items .entry)) (now (stretches .entry)) (now (rows .exit)) (now (items .exit)) (now (stretches .exit)) r ⌝ }
 {
     let mut n = count;
     let mut joins: usize = 0;
     let mut rings: usize = 0;
+    let mut low: usize = 0;
+    let mut high: usize = 0;
+    let mut top: usize = 0;
     'sweeps: loop {
+        let part = &rows[..7 * n];
         let change = sweep(
             job,
             index,
             c,
             starts,
             names,
-            &rows[..7 * n],
+            part,
             ends,
             lows,
             highs,
+            low,
+            high,
+            top,
         );
         match change {
             Change::Unchanged => return done(n, joins, rings),
             Change::Refused(number, place) => return Joining::Refused(number, place),
             Change::Ring(v, a) => {
                 ring_at(rows, n, ends, v, a);
+                top = next_after(get(ranks, v), high, top);
+                low = top;
+                high = top;
                 rings += 1;
                 continue 'sweeps;
             }
             Change::Join(v, a, b) => {
-                join_at(rows, n, items, stretches, ends, lows, highs, v, a, b);
+                let e = join_at(rows, n, items, stretches, ends, lows, highs, v, a, b);
+                top = next_after(get(ranks, v), high, top);
+                let p = get(ranks, wide(e.start));
+                let q = get(ranks, wide(e.end));
+                low = lower(top, lower(p, q));
+                high = lower(top, higher(p, q));
                 n += 1;
                 joins += 1;
                 continue 'sweeps;
             }
         }
     }
+}
+
+// The same, with tables for the fans that are still blank.
+fn join_with(
+    job: &[u8],
+    index: &[u32],
+    c: Counts,
+    starts: &[u32],
+    names: &[u32],
+    ranks: &mut [u32],
+    ends: &mut [u32],
+    lows: &mut [u32],
+    highs: &mut [u32],
+    rows: &mut [u32],
+    count: usize,
+    items: &mut [u32],
+    stretches: &mut [u32],
+) -> Joining
+    requires { ⌜ Indexed (now job) (now index) c × (14 * count ≤ length (now rows)) × (count ≤ 1024) × Laid (now stretches) (now items) × Nodup (now names) × ((v : ℕ) → v ∈ now names → v < length (now ends)) × Blank (now ends) (now lows) (now highs) × (length (now ranks) ≡ length (now ends)) ⌝ }
+    ensures { λ r. ⌜ Ran (answersIn (now (job .entry)) (now (index .entry)) c) (now (starts .entry)) (now (names .entry)) (now (rows .entry)) count (now (items .entry)) (now (stretches .entry)) (now (rows .exit)) (now (items .exit)) (now (stretches .exit)) r ⌝ }
+{
+    count_ends(&rows[..7 * count], ends, lows, highs);
+    rank(names, ranks);
+    join_all(
+        job,
+        index,
+        c,
+        starts,
+        names,
+        ranks,
+        ends,
+        lows,
+        highs,
+        rows,
+        count,
+        items,
+        stretches,
+    )
 }
 
 // The edges joined: corners with exactly two active edge ends are taken away until no sweep changes anything.
@@ -459,16 +566,17 @@ pub fn maximal_edges(
     requires { ⌜ Indexed (now job) (now index) c × (14 * count ≤ length (now rows)) × (count ≤ 1024) × Laid (now stretches) (now items) × Nodup (now names) × ((v : ℕ) → v ∈ now names → v < 2048) ⌝ }
     ensures { λ r. ⌜ ((faces : List ℕ) → 2 * length faces ≤ length (now (stretches .entry)) → joiningOf (now (rows .exit)) (now (items .exit)) (now (stretches .exit)) faces r ≡ maximalEdges (answersIn (now (job .entry)) (now (index .entry)) c) (now (starts .entry)) (now (names .entry)) (length (now (names .entry))) (stateIn (now (rows .entry)) count (now (items .entry)) (now (stretches .entry)) faces 0 0)) × Fitting (now (names .entry)) (now (items .exit)) (now (stretches .exit)) r ⌝ }
 {
+    let mut ranks = [0u32; 2048];
     let mut ends = [0u32; 2048];
     let mut lows = [0u32; 2048];
     let mut highs = [0u32; 2048];
-    count_ends(&rows[..7 * count], &mut ends, &mut lows, &mut highs);
-    join_all(
+    join_with(
         job,
         index,
         c,
         starts,
         names,
+        &mut ranks,
         &mut ends,
         &mut lows,
         &mut highs,
