@@ -13,7 +13,7 @@ use rules::Sense;
 ghost use mathlib.Core.Path.{_≡_};
 ghost use Prim.Native.Nat.{ℕ, _+_, _*_, _<_, _≤_, _^_};
 ghost use mathlib.Core.List.{List, [], _∷_, _++_};
-ghost use mathlib.Core.Bool.{cond};
+ghost use mathlib.Core.Bool.{true, cond};
 ghost use lib.ListN.{length, getD, set};
 ghost use lib.Dec.{eqb};
 ghost use Rattle.lists.specs.Lists.{_∈_, Nodup, same};
@@ -551,8 +551,44 @@ fn join_with(
     )
 }
 
-// The edges joined: corners with exactly two active edge ends are taken away until no sweep changes anything.
-pub fn maximal_edges(
+// The same for fans below 64: their tables cost little to clear.
+fn join_small(
+    job: &[u8],
+    index: &[u32],
+    c: Counts,
+    starts: &[u32],
+    names: &[u32],
+    rows: &mut [u32],
+    count: usize,
+    items: &mut [u32],
+    stretches: &mut [u32],
+) -> Joining
+    requires { ⌜ Indexed (now job) (now index) c × (14 * count ≤ length (now rows)) × (count ≤ 1024) × Laid (now stretches) (now items) × Nodup (now names) × ((v : ℕ) → v ∈ now names → v < 64) ⌝ }
+    ensures { λ r. ⌜ Ran (answersIn (now (job .entry)) (now (index .entry)) c) (now (starts .entry)) (now (names .entry)) (now (rows .entry)) count (now (items .entry)) (now (stretches .entry)) (now (rows .exit)) (now (items .exit)) (now (stretches .exit)) r ⌝ }
+{
+    let mut ranks = [0u32; 64];
+    let mut ends = [0u32; 64];
+    let mut lows = [0u32; 64];
+    let mut highs = [0u32; 64];
+    join_with(
+        job,
+        index,
+        c,
+        starts,
+        names,
+        &mut ranks,
+        &mut ends,
+        &mut lows,
+        &mut highs,
+        rows,
+        count,
+        items,
+        stretches,
+    )
+}
+
+// The same for any fans.
+fn join_large(
     job: &[u8],
     index: &[u32],
     c: Counts,
@@ -564,7 +600,7 @@ pub fn maximal_edges(
     stretches: &mut [u32],
 ) -> Joining
     requires { ⌜ Indexed (now job) (now index) c × (14 * count ≤ length (now rows)) × (count ≤ 1024) × Laid (now stretches) (now items) × Nodup (now names) × ((v : ℕ) → v ∈ now names → v < 2048) ⌝ }
-    ensures { λ r. ⌜ ((faces : List ℕ) → 2 * length faces ≤ length (now (stretches .entry)) → joiningOf (now (rows .exit)) (now (items .exit)) (now (stretches .exit)) faces r ≡ maximalEdges (answersIn (now (job .entry)) (now (index .entry)) c) (now (starts .entry)) (now (names .entry)) (length (now (names .entry))) (stateIn (now (rows .entry)) count (now (items .entry)) (now (stretches .entry)) faces 0 0)) × Fitting (now (names .entry)) (now (items .exit)) (now (stretches .exit)) r ⌝ }
+    ensures { λ r. ⌜ Ran (answersIn (now (job .entry)) (now (index .entry)) c) (now (starts .entry)) (now (names .entry)) (now (rows .entry)) count (now (items .entry)) (now (stretches .entry)) (now (rows .exit)) (now (items .exit)) (now (stretches .exit)) r ⌝ }
 {
     let mut ranks = [0u32; 2048];
     let mut ends = [0u32; 2048];
@@ -585,4 +621,39 @@ pub fn maximal_edges(
         items,
         stretches,
     )
+}
+
+// All names are below n.
+fn all_below(names: &[u32], n: usize) -> bool
+    ensures { λ r. ⌜ (r ≡ true → (v : ℕ) → v ∈ now (names .entry) → v < n) ⌝ }
+{
+    let mut i: usize = 0;
+    while i < names.len() {
+        if get(names, i) >= n {
+            return false;
+        }
+        i += 1;
+    }
+    true
+}
+
+// The edges joined: corners with exactly two active edge ends are taken away until no sweep changes anything.
+pub fn maximal_edges(
+    job: &[u8],
+    index: &[u32],
+    c: Counts,
+    starts: &[u32],
+    names: &[u32],
+    rows: &mut [u32],
+    count: usize,
+    items: &mut [u32],
+    stretches: &mut [u32],
+) -> Joining
+    requires { ⌜ Indexed (now job) (now index) c × (14 * count ≤ length (now rows)) × (count ≤ 1024) × Laid (now stretches) (now items) × Nodup (now names) × ((v : ℕ) → v ∈ now names → v < 2048) ⌝ }
+    ensures { λ r. ⌜ ((faces : List ℕ) → 2 * length faces ≤ length (now (stretches .entry)) → joiningOf (now (rows .exit)) (now (items .exit)) (now (stretches .exit)) faces r ≡ maximalEdges (answersIn (now (job .entry)) (now (index .entry)) c) (now (starts .entry)) (now (names .entry)) (length (now (names .entry))) (stateIn (now (rows .entry)) count (now (items .entry)) (now (stretches .entry)) faces 0 0)) × Fitting (now (names .entry)) (now (items .exit)) (now (stretches .exit)) r ⌝ }
+{
+    if all_below(names, 64) {
+        return join_small(job, index, c, starts, names, rows, count, items, stretches);
+    }
+    join_large(job, index, c, starts, names, rows, count, items, stretches)
 }
