@@ -30,7 +30,7 @@ use Rattle.progress.specs.declared.Faces.{Faces}
 use Rattle.progress.specs.declared.Figures.{Figures}
 use Rattle.progress.specs.Known.{boundariesIn, membersIn, walkedIn, Settled}
 use Rattle.progress.specs.KnownLaws.{opened-limited, paired-few, paired-twins, bounded-lowest, settled-ground, settled-linked, settled-permuted}
-use Rattle.progress.specs.Parts.{zeros, zeros-size, part-size, lent-part, lent-first}
+use Rattle.progress.specs.Parts.{zeros, zeros-size, zeros-first, part-size}
 use Rattle.rebuild.specs.Lined.{Linable}
 use Rattle.rebuild.specs.Ended.{Ended}
 
@@ -88,6 +88,13 @@ low-labels labels L few f =
       | no h ↦ omega (arith, List·getD-eq-default labels 0 {n = f} (omega arith))
     ]
 
+-- blank tables for chains of the uses by edge, cut from tables with room for them
+pub chain-room : (edges n e u : ℕ) (us : List Use) (labels : List ℕ) → edges ≤ e → e ≤ 1024 → n ≡ length us → length us ≤ u → u ≤ 2048 → LowLabels labels
+    → (take edges (zeros e) ≡ zeros (length (take edges (zeros e)))) × (length (take edges (zeros e)) ≤ 1024) × (length (take n (zeros u)) ≡ length us) × (length (take n (zeros u)) ≤ 2048) × LowLabels labels
+chain-room edges n e u us labels fe le en fu lu low =
+    let cut : n ≡ length (take n (zeros u)) = part-size n u (omega (arith, en)) in
+    (zeros-first edges e fe, omega (arith, part-size edges e fe), sym cut ∙ en, omega (arith, cut, en), low)
+
 -- SETTLED
 
 module _ {bytes ix : List ℕ} {c : Counts} {us : List Use} {ts : List ℕ} {m : Faces} {rm : List Bool} {ss kept : List ℕ} {g : Figures} (S : Settled bytes ix c us ts m rm ss kept g) where
@@ -135,19 +142,6 @@ module _ {bytes ix : List ℕ} {c : Counts} {us : List Use} {ts : List ℕ} {m :
 
   pub settled-low : LowLabels (boundariesIn c m)
   settled-low = low-labels (boundariesIn c m) settled-lowest (omega (arith, settled-cut, settled-limited .faces))
-
-  -- the tables of the fans, as the code cuts them
-  pub fanning : (fans names starts : List ℕ) (k : ℕ) → length fans ≡ length (take (length ts) (zeros 2048)) → length names ≡ length (take (length ts) (zeros 2048)) → length starts ≡ length (take (length ts) (zeros 2048))
-      → fans ≡ fansBy (edgesIn bytes c) us ts rm ss
-      → take k names ≡ fanNames (edgesIn bytes c) us rm (take (length ts) (fans ++ drop (length ts) (zeros 2048))) → k ≤ length us
-      → starts ≡ startPoints (pointsIn bytes c) (edgesIn bytes c) us
-      → Fanning bytes ix c us ts m rm ss kept g (take (length ts) (fans ++ drop (length ts) (zeros 2048))) (take k (names ++ drop (length ts) (zeros 2048))) (take (length ts) (starts ++ drop (length ts) (zeros 2048)))
-  fanning fans names starts k lf ln ls ef en few es = record {
-    settled = S;
-    fans-are = lent-part 2048 (length ts) fans lf settled-room ∙ ef;
-    names-are = lent-first 2048 (length ts) names ln settled-room k (omega (arith, few, settled-twins)) ∙ en;
-    starts-are = lent-part 2048 (length ts) starts ls settled-room ∙ es;
-  }
 
   -- the blank tables of edges and loops, as the code cuts them
   pub linable : Linable ts rm ss (zeros 14336) (take (length ts) (zeros 2048)) (take (2 * length ts) (zeros 4096)) (take (length ts) (zeros 2048))

@@ -32,7 +32,7 @@ use shells::nest;
 use uses::count;
 ghost use mathlib.Core.Path.{_≡_};
 ghost use Prim.Native.Nat.{_≤_};
-ghost use lib.ListN.{length};
+ghost use lib.ListN.{length, replicate};
 ghost use Rattle.rules.specs.Contact.{edgesClear};
 ghost use Rattle.rules.specs.Sew.{Fanned, fansOf, unjoined, Ends};
 ghost use Rattle.job.specs.Lists.{edgesIn, jobIn};
@@ -50,16 +50,69 @@ ghost use Rattle.rebuild.specs.ShellExits.{Shellable, Shells};
 
 // CONTACT TESTS
 
-// 30 by boundary, 33 by lump: the uses of each edge are chained first.
-fn clear_edges(number: usize, c: Counts, uses: &[u32], twins: &[u32], labels: &[u32]) -> Clear
-    requires { ⌜ (c .edges ≤ 1024) × (length (usesIn (now uses)) ≤ 2048) × LowLabels (now labels) ⌝ }
-    ensures { λ r. ⌜ clearOf r ≡ edgesClear number (usesIn (now (uses .entry))) (now (twins .entry)) (now (labels .entry)) (c .edges) ⌝ }
+// 30 by boundary, 33 by lump: the uses of each edge are chained first, in blank tables.
+fn clear_linked(
+    number: usize,
+    uses: &[u32],
+    twins: &[u32],
+    labels: &[u32],
+    firsts: &mut [u32],
+    nexts: &mut [u32],
+) -> Clear
+    requires { ⌜ (now firsts ≡ replicate (length (now firsts)) 0) × (length (now firsts) ≤ 1024) × (length (now nexts) ≡ length (usesIn (now uses))) × (length (now nexts) ≤ 2048) × LowLabels (now labels) ⌝ }
+    ensures { λ r. ⌜ clearOf r ≡ edgesClear number (usesIn (now (uses .entry))) (now (twins .entry)) (now (labels .entry)) (length (now (firsts .entry))) ⌝ }
+{
+    link(uses, firsts, nexts);
+    edges_clear(number, uses, twins, firsts, nexts, labels)
+}
+
+// In tables for up to 64 edges and uses: clearing tables of the limits' size costs more than all else of a small part.
+fn clear_in_small(number: usize, edges: usize, uses: &[u32], twins: &[u32], labels: &[u32]) -> Clear
+    requires { ⌜ (edges ≤ 64) × (length (usesIn (now uses)) ≤ 64) × LowLabels (now labels) ⌝ }
+    ensures { λ r. ⌜ clearOf r ≡ edgesClear number (usesIn (now (uses .entry))) (now (twins .entry)) (now (labels .entry)) edges ⌝ }
+{
+    let n = count(uses);
+    let mut firsts = [0u32; 64];
+    let mut nexts = [0u32; 64];
+    clear_linked(
+        number,
+        uses,
+        twins,
+        labels,
+        &mut firsts[..edges],
+        &mut nexts[..n],
+    )
+}
+
+// In tables for as many as there may be.
+fn clear_in_large(number: usize, edges: usize, uses: &[u32], twins: &[u32], labels: &[u32]) -> Clear
+    requires { ⌜ (edges ≤ 1024) × (length (usesIn (now uses)) ≤ 2048) × LowLabels (now labels) ⌝ }
+    ensures { λ r. ⌜ clearOf r ≡ edgesClear number (usesIn (now (uses .entry))) (now (twins .entry)) (now (labels .entry)) edges ⌝ }
 {
     let n = count(uses);
     let mut firsts = [0u32; 1024];
     let mut nexts = [0u32; 2048];
-    link(uses, &mut firsts[..c.edges], &mut nexts[..n]);
-    edges_clear(number, uses, twins, &firsts[..c.edges], &nexts[..n], labels)
+    clear_linked(
+        number,
+        uses,
+        twins,
+        labels,
+        &mut firsts[..edges],
+        &mut nexts[..n],
+    )
+}
+
+// In the tables that the part needs.
+fn clear_edges(number: usize, c: Counts, uses: &[u32], twins: &[u32], labels: &[u32]) -> Clear
+    requires { ⌜ (c .edges ≤ 1024) × (length (usesIn (now uses)) ≤ 2048) × LowLabels (now labels) ⌝ }
+    ensures { λ r. ⌜ clearOf r ≡ edgesClear number (usesIn (now (uses .entry))) (now (twins .entry)) (now (labels .entry)) (c .edges) ⌝ }
+{
+    if c.edges <= 64 {
+        if count(uses) <= 64 {
+            return clear_in_small(number, c.edges, uses, twins, labels);
+        }
+    }
+    clear_in_large(number, c.edges, uses, twins, labels)
 }
 
 // THE BODY
@@ -507,6 +560,131 @@ fn on_fanned(
     }
 }
 
+// The fans in tables with an entry for each use, then the stage `fans`.
+fn make_fans(
+    stage: usize,
+    job: &[u8],
+    index: &[u32],
+    c: Counts,
+    m: Faces,
+    uses: &[u32],
+    twins: &[u32],
+    removed: &[bool],
+    succ: &[u32],
+    kept: &[u32],
+    g: Figures,
+    fans: &mut [u32],
+    names: &mut [u32],
+    starts: &mut [u32],
+    out: &mut [u8],
+) -> Ending
+    requires { ⌜ Settled (now job) (now index) c (usesIn (now uses)) (now twins) m (now removed) (now succ) (now kept) g × (length (now fans) ≡ length (now twins)) × (length (now names) ≡ length (now twins)) × (length (now starts) ≡ length (now twins)) ⌝ }
+    ensures { λ r. ⌜ Ends (afterFans stage (jobIn (now (job .entry)) (now (index .entry)) c) (length (now (out .entry))) (fansOf (jobIn (now (job .entry)) (now (index .entry)) c) (walkedIn c m (usesIn (now (uses .entry))) (now (twins .entry)) (now (removed .entry)) (g .kept) (now (kept .entry))))) (now (out .entry)) (now (out .exit)) r ⌝ }
+{
+    fans::fans(job, c, uses, twins, removed, succ, fans);
+    let k = fan_names(job, c, uses, removed, fans, names);
+    start_points(job, c, uses, starts);
+    on_fanned(
+        stage,
+        job,
+        index,
+        c,
+        m,
+        uses,
+        twins,
+        removed,
+        succ,
+        kept,
+        g,
+        fans,
+        &names[..k],
+        starts,
+        out,
+    )
+}
+
+// In tables for up to 64 uses.
+fn fans_in_small(
+    stage: usize,
+    job: &[u8],
+    index: &[u32],
+    c: Counts,
+    m: Faces,
+    uses: &[u32],
+    twins: &[u32],
+    removed: &[bool],
+    succ: &[u32],
+    kept: &[u32],
+    g: Figures,
+    out: &mut [u8],
+) -> Ending
+    requires { ⌜ Settled (now job) (now index) c (usesIn (now uses)) (now twins) m (now removed) (now succ) (now kept) g × (length (now twins) ≤ 64) ⌝ }
+    ensures { λ r. ⌜ Ends (afterFans stage (jobIn (now (job .entry)) (now (index .entry)) c) (length (now (out .entry))) (fansOf (jobIn (now (job .entry)) (now (index .entry)) c) (walkedIn c m (usesIn (now (uses .entry))) (now (twins .entry)) (now (removed .entry)) (g .kept) (now (kept .entry))))) (now (out .entry)) (now (out .exit)) r ⌝ }
+{
+    let n = twins.len();
+    let mut fans = [0u32; 64];
+    let mut names = [0u32; 64];
+    let mut starts = [0u32; 64];
+    make_fans(
+        stage,
+        job,
+        index,
+        c,
+        m,
+        uses,
+        twins,
+        removed,
+        succ,
+        kept,
+        g,
+        &mut fans[..n],
+        &mut names[..n],
+        &mut starts[..n],
+        out,
+    )
+}
+
+// In tables for as many as there may be.
+fn fans_in_large(
+    stage: usize,
+    job: &[u8],
+    index: &[u32],
+    c: Counts,
+    m: Faces,
+    uses: &[u32],
+    twins: &[u32],
+    removed: &[bool],
+    succ: &[u32],
+    kept: &[u32],
+    g: Figures,
+    out: &mut [u8],
+) -> Ending
+    requires { ⌜ Settled (now job) (now index) c (usesIn (now uses)) (now twins) m (now removed) (now succ) (now kept) g ⌝ }
+    ensures { λ r. ⌜ Ends (afterFans stage (jobIn (now (job .entry)) (now (index .entry)) c) (length (now (out .entry))) (fansOf (jobIn (now (job .entry)) (now (index .entry)) c) (walkedIn c m (usesIn (now (uses .entry))) (now (twins .entry)) (now (removed .entry)) (g .kept) (now (kept .entry))))) (now (out .entry)) (now (out .exit)) r ⌝ }
+{
+    let n = twins.len();
+    let mut fans = [0u32; 2048];
+    let mut names = [0u32; 2048];
+    let mut starts = [0u32; 2048];
+    make_fans(
+        stage,
+        job,
+        index,
+        c,
+        m,
+        uses,
+        twins,
+        removed,
+        succ,
+        kept,
+        g,
+        &mut fans[..n],
+        &mut names[..n],
+        &mut starts[..n],
+        out,
+    )
+}
+
 // The stages from 30 on: the fans, and what follows them.
 pub fn rebuild(
     stage: usize,
@@ -533,14 +711,23 @@ pub fn rebuild(
         }
         Clear::Done => {}
     }
-    let n = twins.len();
-    let mut fans = [0u32; 2048];
-    let mut names = [0u32; 2048];
-    let mut starts = [0u32; 2048];
-    fans::fans(job, c, uses, twins, removed, succ, &mut fans[..n]);
-    let k = fan_names(job, c, uses, removed, &fans[..n], &mut names[..n]);
-    start_points(job, c, uses, &mut starts[..n]);
-    on_fanned(
+    if twins.len() <= 64 {
+        return fans_in_small(
+            stage,
+            job,
+            index,
+            c,
+            m,
+            uses,
+            twins,
+            removed,
+            succ,
+            kept,
+            g,
+            out,
+        );
+    }
+    fans_in_large(
         stage,
         job,
         index,
@@ -552,9 +739,6 @@ pub fn rebuild(
         succ,
         kept,
         g,
-        &fans[..n],
-        &names[..k],
-        &starts[..n],
         out,
     )
 }
