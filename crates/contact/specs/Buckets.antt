@@ -1,4 +1,4 @@
--- Fans on chains: those whose points leave one remainder by 1024 are on one chain, the last first.
+-- Fans on chains: those whose points leave one remainder by the number of chains are on one chain, the last first.
 use Prim.Native.Nat.{ℕ, _%_, _<_, _≤_}
 use mathlib.Core.Path.{_≡_}
 use mathlib.Core.List.{List}
@@ -23,11 +23,11 @@ standsWith us starts labels p l g = eqb p (fanPoint starts g) && eqb l (useLabel
 abbrev pub pointAt : List ℕ → List ℕ → ℕ → ℕ
 pointAt starts names k = fanPoint starts (getD names k 0)
 
--- each of the first k fans is on the chain of its point
-pub record Bucketed (starts names heads nexts : List ℕ) (k : ℕ) : Type 0 where
+-- each of the first k fans is on the chain of its point, one of w chains
+pub record Bucketed (w : ℕ) (starts names heads nexts : List ℕ) (k : ℕ) : Type 0 where
   pub falling : Falling (nextFan nexts)
   pub entries : (b : ℕ) → getD heads b 0 ≤ k
-  pub holds : (j : ℕ) → j < k → j ∈ chain (nextFan nexts) (getD heads (pointAt starts names j % 1024) 0)
+  pub holds : (j : ℕ) → j < k → j ∈ chain (nextFan nexts) (getD heads (pointAt starts names j % w) 0)
 
 -- the fan at place k touches an earlier one
 abbrev pub touchesEarlier : List Use → List ℕ → List ℕ → List ℕ → ℕ → Bool

@@ -176,11 +176,11 @@ module _ (us : List Use) (starts labels names : List ℕ) (k lowest f p : ℕ) (
   }
 
   -- lower than the lowest so far: t says whether some fan on the chain of its point stands there with its label l
-  module _ (heads nexts : List ℕ) (s : Bucketed starts names heads nexts k) (within : k < length names) (lt : p < lowest) (face l entry : ℕ) (t : Bool)
-      (eface : face ≡ faceOfUse us f) (el : l ≡ labelOf labels face) (ee : entry ≡ getD heads (p % 1024) 0)
+  module _ (w : ℕ) (heads nexts : List ℕ) (s : Bucketed w starts names heads nexts k) (within : k < length names) (lt : p < lowest) (face l entry : ℕ) (t : Bool)
+      (eface : face ≡ faceOfUse us f) (el : l ≡ labelOf labels face) (ee : entry ≡ getD heads (p % w) 0)
       (et : t ≡ some (λ j. standsWith us starts labels p l (getD names j 0)) (chain (nextFan nexts) entry)) where
     earlier : t ≡ touchesEarlier us starts labels names k
-    earlier = et ∙ chain-touches starts names heads nexts k s us labels f p face l entry within ef ep eface el ee
+    earlier = et ∙ chain-touches w starts names heads nexts k s us labels f p face l entry within ef ep eface el ee
 
     pub lower-touches : t ≡ true → Lowered us starts labels names k lowest p
     lower-touches y = record {

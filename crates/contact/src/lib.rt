@@ -5,7 +5,7 @@ use fields::put;
 use uses::use_face;
 ghost use mathlib.Core.Path.{_≡_};
 ghost use Prim.Native.Nat.{_+_, _≤_, _<_};
-ghost use lib.ListN.{length, getD};
+ghost use lib.ListN.{length, getD, replicate};
 ghost use Rattle.lists.specs.Lists.{repeats, some};
 ghost use Rattle.rules.specs.Pair.{usesOfEdge};
 ghost use Rattle.rules.specs.Contact.{pairLabels, edgeTouches, edgesClear, pointsClear};
@@ -161,7 +161,7 @@ fn lower(
     k: usize,
     lowest: usize,
 ) -> usize
-    requires { ⌜ (k < length (now names)) × Bucketed (now starts) (now names) (now heads) (now nexts) k ⌝ }
+    requires { ⌜ (k < length (now names)) × (0 < length (now heads)) × Bucketed (length (now heads)) (now starts) (now names) (now heads) (now nexts) k ⌝ }
     ensures { λ r. ⌜ Lowered (usesIn (now (uses .entry))) (now (starts .entry)) (now (labels .entry)) (now (names .entry)) k lowest r ⌝ }
 {
     let f = get(names, k);
@@ -169,7 +169,7 @@ fn lower(
     if lowest <= p {
         return lowest;
     }
-    let entry = get(heads, p % 1024);
+    let entry = get(heads, p % heads.len());
     let l = get(labels, use_face(uses, f));
     if one_stands(uses, starts, labels, names, nexts, entry, p, l) {
         return p;
@@ -179,18 +179,60 @@ fn lower(
 
 // The fan at place k on the chain of its point.
 fn enter(starts: &[u32], names: &[u32], heads: &mut [u32], nexts: &mut [u32], k: usize)
-    requires { ⌜ (k < length (now nexts)) × (k < 2048) × (length (now heads) ≡ 1024) × Bucketed (now starts) (now names) (now heads) (now nexts) k ⌝ }
-    ensures { λ _. ⌜ Bucketed (now (starts .entry)) (now (names .entry)) (now (heads .exit)) (now (nexts .exit)) (k + 1) ⌝ }
+    requires { ⌜ (k < length (now nexts)) × (k < 2048) × (0 < length (now heads)) × Bucketed (length (now heads)) (now starts) (now names) (now heads) (now nexts) k ⌝ }
+    ensures { λ _. ⌜ Bucketed (length (now (heads .entry))) (now (starts .entry)) (now (names .entry)) (now (heads .exit)) (now (nexts .exit)) (k + 1) ⌝ }
 {
     let p = get(starts, get(names, k));
-    let b = p % 1024;
+    let b = p % heads.len();
     let entry = get(heads, b);
     put(nexts, k, entry);
     put(heads, b, k + 1);
 }
 
-// 31 and 32: the lowest point at which two fans have one label.
-pub fn points_clear(
+// 31 and 32: the lowest point at which two fans have one label, with the fans chained in blank tables.
+fn points_chained(
+    number: usize,
+    uses: &[u32],
+    starts: &[u32],
+    labels: &[u32],
+    names: &[u32],
+    heads: &mut [u32],
+    nexts: &mut [u32],
+) -> Clear
+    requires { ⌜ (0 < length (now heads)) × (length (now names) ≤ length (now nexts)) × (length (now nexts) ≤ 2048) × (now heads ≡ replicate (length (now heads)) 0) × (now nexts ≡ replicate (length (now nexts)) 0) ⌝ }
+    ensures { λ r. ⌜ clearOf r ≡ pointsClear number (usesIn (now (uses .entry))) (now (starts .entry)) (now (labels .entry)) (now (names .entry)) ⌝ }
+{
+    let mut lowest = UNSET + 1;
+    let mut k: usize = 0;
+    while k < names.len() {
+        lowest = lower(uses, starts, labels, names, heads, nexts, k, lowest);
+        enter(starts, names, heads, nexts, k);
+        k += 1;
+    }
+    if lowest <= UNSET {
+        return Clear::Refused(number, lowest);
+    }
+    Clear::Done
+}
+
+// In tables for up to 64 fans: clearing tables of the limits' size costs more than all else of a small part.
+fn points_in_small(
+    number: usize,
+    uses: &[u32],
+    starts: &[u32],
+    labels: &[u32],
+    names: &[u32],
+) -> Clear
+    requires { ⌜ length (now names) ≤ 64 ⌝ }
+    ensures { λ r. ⌜ clearOf r ≡ pointsClear number (usesIn (now (uses .entry))) (now (starts .entry)) (now (labels .entry)) (now (names .entry)) ⌝ }
+{
+    let mut heads = [0u32; 64];
+    let mut nexts = [0u32; 64];
+    points_chained(number, uses, starts, labels, names, &mut heads, &mut nexts)
+}
+
+// In tables for as many as there may be.
+fn points_in_large(
     number: usize,
     uses: &[u32],
     starts: &[u32],
@@ -202,15 +244,22 @@ pub fn points_clear(
 {
     let mut heads = [0u32; 1024];
     let mut nexts = [0u32; 2048];
-    let mut lowest = UNSET + 1;
-    let mut k: usize = 0;
-    while k < names.len() {
-        lowest = lower(uses, starts, labels, names, &heads, &nexts, k, lowest);
-        enter(starts, names, &mut heads, &mut nexts, k);
-        k += 1;
+    points_chained(number, uses, starts, labels, names, &mut heads, &mut nexts)
+}
+
+// In the tables that the fans need.
+pub fn points_clear(
+    number: usize,
+    uses: &[u32],
+    starts: &[u32],
+    labels: &[u32],
+    names: &[u32],
+) -> Clear
+    requires { ⌜ length (now names) ≤ 2048 ⌝ }
+    ensures { λ r. ⌜ clearOf r ≡ pointsClear number (usesIn (now (uses .entry))) (now (starts .entry)) (now (labels .entry)) (now (names .entry)) ⌝ }
+{
+    if names.len() <= 64 {
+        return points_in_small(number, uses, starts, labels, names);
     }
-    if lowest <= UNSET {
-        return Clear::Refused(number, lowest);
-    }
-    Clear::Done
+    points_in_large(number, uses, starts, labels, names)
 }
