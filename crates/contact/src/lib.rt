@@ -215,7 +215,7 @@ fn points_chained(
     Clear::Done
 }
 
-// In tables for up to 64 fans: clearing tables of the limits' size costs more than all else of a small part.
+// In tables for up to 64 fans: clearing larger ones costs more than all else of a small part.
 fn points_in_small(
     number: usize,
     uses: &[u32],

@@ -70,19 +70,19 @@ set-at-most l i v k b p q =
       | no n ↦ omega (arith, getD-set-other l i k v 0 n)
     ]
 
--- the edges of the pairs whose lower use is below i
-pub record SoFar (ts : List ℕ) (rm : List Bool) (make : ℕ → EdgeData) (owns₀ rows owns : List ℕ) (count i : ℕ) : Type 0 where
+-- the edges of the pairs whose lower use is below i, in a table of so many entries
+pub record SoFar (ts : List ℕ) (rm : List Bool) (make : ℕ → EdgeData) (owns₀ : List ℕ) (wide : ℕ) (rows owns : List ℕ) (count i : ℕ) : Type 0 where
   pub within : i ≤ length ts
   pub counted : count ≡ length (keep (lowerKept ts rm) (below i))
-  pub room : length rows ≡ 14336
+  pub room : length rows ≡ wide
   pub size : length owns ≡ length owns₀
   pub edges : rowsIn (take (7 * count) rows) ≡ map make (keep (lowerKept ts rm) (below i))
   pub owners : Mated ts rm → (h : ℕ) → h < length ts → isRemoved rm h ≡ false → lowerOf ts h < i → getD owns h 0 ≡ length (keep (lowerKept ts rm) (below (lowerOf ts h)))
   pub few : (k : ℕ) → getD owns₀ k 0 ≤ 2048 → getD owns k 0 ≤ 2048
 
-pub so-far-none : (ts : List ℕ) (rm : List Bool) (make : ℕ → EdgeData) (owns₀ rows : List ℕ) → length rows ≡ 14336 → SoFar ts rm make owns₀ rows owns₀ 0 0
+pub so-far-none : (ts : List ℕ) (rm : List Bool) (make : ℕ → EdgeData) (owns₀ rows : List ℕ) (wide : ℕ) → length rows ≡ wide → SoFar ts rm make owns₀ wide rows owns₀ 0 0
 unfolding from keep rowsIn
-so-far-none ts rm make owns₀ rows e = record {
+so-far-none ts rm make owns₀ rows wide e = record {
   within = omega arith;
   counted = refl;
   room = e;
@@ -117,13 +117,16 @@ module _ (ts : List ℕ) (rm : List Bool) (mated : Mated ts rm) where
             m (sym (mated .twice h b) ∙ ap (twinOf ts) f)
       ]
 
-module _ (ts : List ℕ) (rm : List Bool) (make : ℕ → EdgeData) (paired : (h : ℕ) → length (make h .faces) ≡ 2) (few-uses : length ts ≤ 2048) (owns₀ : List ℕ) (sizes : length owns₀ ≡ length ts) where
-  -- the number of edges so far is below that of uses
-  pub so-far-few : (rows owns : List ℕ) (count i : ℕ) → SoFar ts rm make owns₀ rows owns count i → i < length ts → count < 2048
-  so-far-few rows owns count i s h = omega (arith, s .counted, keep-length (lowerKept ts rm) (below i), length-below i)
+module _ (ts : List ℕ) (rm : List Bool) (make : ℕ → EdgeData) (paired : (h : ℕ) → length (make h .faces) ≡ 2) (few-uses : length ts ≤ 2048) (owns₀ : List ℕ) (sizes : length owns₀ ≡ length ts) (wide : ℕ) (roomy : 7 * length ts ≤ wide) where
+  so-far-below : (rows owns : List ℕ) (count i : ℕ) → SoFar ts rm make owns₀ wide rows owns count i → count ≤ i
+  so-far-below rows owns count i s = omega (arith, s .counted, keep-length (lowerKept ts rm) (below i), length-below i)
 
-  more : (rows owns : List ℕ) (count i : ℕ) → SoFar ts rm make owns₀ rows owns count i → i < length ts → lowerKept ts rm i ≡ true
-      → SoFar ts rm make owns₀ (withRow rows count (make i)) (set (set owns i count) (twinOf ts i) count) (count + 1) (i + 1)
+  -- the number of edges so far is below that of uses
+  pub so-far-few : (rows owns : List ℕ) (count i : ℕ) → SoFar ts rm make owns₀ wide rows owns count i → i < length ts → count < 2048
+  so-far-few rows owns count i s h = omega (arith, so-far-below rows owns count i s)
+
+  more : (rows owns : List ℕ) (count i : ℕ) → SoFar ts rm make owns₀ wide rows owns count i → i < length ts → lowerKept ts rm i ≡ true
+      → SoFar ts rm make owns₀ wide (withRow rows count (make i)) (set (set owns i count) (twinOf ts i) count) (count + 1) (i + 1)
   more rows owns count i s h k =
       let kept : List ℕ = keep (lowerKept ts rm) (below i) in
       let longer : keep (lowerKept ts rm) (below (i + 1)) ≡ kept ++ (i ∷ []) = keep-below-yes (lowerKept ts rm) i k in
@@ -136,7 +139,7 @@ module _ (ts : List ℕ) (rm : List Bool) (make : ℕ → EdgeData) (paired : (h
         room = length-with rows count (make i) ∙ s .room;
         size = length-set (set owns i count) (twinOf ts i) count ∙ length-set owns i count ∙ s .size;
         edges =
-            rows-pushed rows count (make i) (omega (arith, s .room)) (paired i) ∙ ap (λ l. l ++ (make i ∷ [])) (s .edges)
+            rows-pushed rows count (make i) (omega (arith, s .room, so-far-below rows owns count i s)) (paired i) ∙ ap (λ l. l ++ (make i ∷ [])) (s .edges)
             ∙ sym (ap (map make) longer ∙ map-append make kept (i ∷ []));
         owners = λ m g b u l.
             set-two (λ g v. g < length ts → isRemoved rm g ≡ false → lowerOf ts g < i + 1 → v ≡ length (keep (lowerKept ts rm) (below (lowerOf ts g)))) owns i (twinOf ts i) count count 0
@@ -153,7 +156,7 @@ module _ (ts : List ℕ) (rm : List Bool) (make : ℕ → EdgeData) (paired : (h
       earlier m g b l ni nt (yes e) = absurd (pair-of ts rm m g i b e ni nt)
       earlier m g b l ni nt (no e) = omega (arith, e)
 
-  less : (rows owns : List ℕ) (count i : ℕ) → SoFar ts rm make owns₀ rows owns count i → i < length ts → lowerKept ts rm i ≡ false → SoFar ts rm make owns₀ rows owns count (i + 1)
+  less : (rows owns : List ℕ) (count i : ℕ) → SoFar ts rm make owns₀ wide rows owns count i → i < length ts → lowerKept ts rm i ≡ false → SoFar ts rm make owns₀ wide rows owns count (i + 1)
   less rows owns count i s h k =
       let same : keep (lowerKept ts rm) (below (i + 1)) ≡ keep (lowerKept ts rm) (below i) = keep-below-no (lowerKept ts rm) i k in
       record {
@@ -171,8 +174,8 @@ module _ (ts : List ℕ) (rm : List Bool) (make : ℕ → EdgeData) (paired : (h
       earlier m g b u l (no e) = omega (arith, e)
 
   -- one use more
-  pub so-far-step : (rows owns rows′ owns′ : List ℕ) (count i r : ℕ) → SoFar ts rm make owns₀ rows owns count i → i < length ts
-      → OneEdge (lowerKept ts rm i) (make i) (twinOf ts i) i count rows owns rows′ owns′ r → SoFar ts rm make owns₀ rows′ owns′ r (i + 1)
+  pub so-far-step : (rows owns rows′ owns′ : List ℕ) (count i r : ℕ) → SoFar ts rm make owns₀ wide rows owns count i → i < length ts
+      → OneEdge (lowerKept ts rm i) (make i) (twinOf ts i) i count rows owns rows′ owns′ r → SoFar ts rm make owns₀ wide rows′ owns′ r (i + 1)
   so-far-step rows owns rows′ owns′ count i r s h o =
       ⊎-elim
       (λ k. by (withRow rows count (make i)) (set (set owns i count) (twinOf ts i) count) (count + 1) (o .table ∙ ap (λ b. cond b (withRow rows count (make i)) rows) k)
@@ -181,8 +184,8 @@ module _ (ts : List ℕ) (rm : List Bool) (make : ℕ → EdgeData) (paired : (h
       (o .owners ∙ ap (λ b. cond b (set (set owns i count) (twinOf ts i) count) owns) k) (o .next ∙ ap (λ b. cond b (count + 1) count) k) (less rows owns count i s h k))
       (both-ways (lowerKept ts rm i))
     where
-      by : (a b : List ℕ) (n : ℕ) → rows′ ≡ a → owns′ ≡ b → r ≡ n → SoFar ts rm make owns₀ a b n (i + 1) → SoFar ts rm make owns₀ rows′ owns′ r (i + 1)
-      by a b n ea eb en s = subst (λ n. SoFar ts rm make owns₀ rows′ owns′ n (i + 1)) (sym en) (subst (λ b. SoFar ts rm make owns₀ rows′ b n (i + 1)) (sym eb) (subst (λ a. SoFar ts rm make owns₀ a b n (i + 1)) (sym ea) s))
+      by : (a b : List ℕ) (n : ℕ) → rows′ ≡ a → owns′ ≡ b → r ≡ n → SoFar ts rm make owns₀ wide a b n (i + 1) → SoFar ts rm make owns₀ wide rows′ owns′ r (i + 1)
+      by a b n ea eb en s = subst (λ n. SoFar ts rm make owns₀ wide rows′ owns′ n (i + 1)) (sym en) (subst (λ b. SoFar ts rm make owns₀ wide rows′ b n (i + 1)) (sym eb) (subst (λ a. SoFar ts rm make owns₀ wide a b n (i + 1)) (sym ea) s))
 
 -- all of them: the edges, how many, and for each kept use the number of its pair's edge
 pub record Made (es : List Edge) (us : List Use) (ts : List ℕ) (rm : List Bool) (numbers ss g owns₀ rows owns : List ℕ) (r : ℕ) : Type 0 where
@@ -195,9 +198,9 @@ pub two-faces : (es : List Edge) (us : List Use) (ts numbers ss g : List ℕ) (h
 unfolding edgeData
 two-faces es us ts numbers ss g h = refl
 
-pub made : (es : List Edge) (us : List Use) (ts : List ℕ) (rm : List Bool) (numbers ss g owns₀ rows owns : List ℕ) (r i : ℕ) → SoFar ts rm (edgeData es us ts numbers ss g) owns₀ rows owns r i
+pub made : (es : List Edge) (us : List Use) (ts : List ℕ) (rm : List Bool) (numbers ss g owns₀ : List ℕ) (wide : ℕ) (rows owns : List ℕ) (r i : ℕ) → SoFar ts rm (edgeData es us ts numbers ss g) owns₀ wide rows owns r i
     → length ts ≤ i → Made es us ts rm numbers ss g owns₀ rows owns r
-made es us ts rm numbers ss g owns₀ rows owns r i s h =
+made es us ts rm numbers ss g owns₀ wide rows owns r i s h =
     let e : i ≡ length ts = omega (arith, s .within) in
     let all : keep (lowerKept ts rm) (below i) ≡ lowerUses ts rm = ap (λ n. keep (lowerKept ts rm) (below n)) e in
     record {

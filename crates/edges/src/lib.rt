@@ -268,7 +268,7 @@ pub fn edges(
     rows: &mut [u32],
     owns: &mut [u32],
 ) -> usize
-    requires { ⌜ (c .vertices ≤ 1024) × (c .edges ≤ 1024) × (length (now twins) ≤ 2048) × (length (now succ) ≡ length (now twins)) × (length (now owns) ≡ length (now twins)) × (length (now rows) ≡ 14336) ⌝ }
+    requires { ⌜ (c .vertices ≤ 1024) × (c .edges ≤ 1024) × (length (now twins) ≤ 2048) × (length (now succ) ≡ length (now twins)) × (length (now owns) ≡ length (now twins)) × (7 * length (now twins) ≤ length (now rows)) ⌝ }
     ensures { λ r. ⌜ Made (edgesIn (now (job .entry)) c) (usesIn (now (uses .entry))) (now (twins .entry)) (now (removed .entry)) (now (numbers .entry)) (now (succ .entry)) (now (fans .entry)) (now (owns .entry)) (now (rows .exit)) (now (owns .exit)) r ⌝ }
 {
     let mut count: usize = 0;

@@ -41,15 +41,15 @@ wholeRun answers starts names rows n items stretches faces = maximalEdges answer
 abbrev pub doneWith : ℕ → ℕ → ℕ → Joined
 doneWith edges joins rings = Done (record { edges = edges; joins = joins; rings = rings })
 
--- what later stages need: the loops lie one after the other, there are at most 2,047 edges, and at most as many changes as fans
-abbrev pub Fitting : List ℕ → List ℕ → List ℕ → Joined → Type 0
-Fitting names items stretches (Done k) = Laid stretches items × (k .edges ≤ 2047) × (k .joins + k .rings ≤ length names)
-Fitting names items stretches (Refused n p) = Unit {0}
+-- what later stages need: the loops lie one after the other, there are at most 2,047 edges, and at most as many changes as fans; the table has the edges
+abbrev pub Fitting : List ℕ → List ℕ → List ℕ → List ℕ → Joined → Type 0
+Fitting names rows items stretches (Done k) = Laid stretches items × (k .edges ≤ 2047) × (k .joins + k .rings ≤ length names) × (7 * k .edges ≤ length rows)
+Fitting names rows items stretches (Refused n p) = Unit {0}
 
 -- what the stage leaves in the tables and answers
 abbrev pub Ran : List Answer → List ℕ → List ℕ → List ℕ → ℕ → List ℕ → List ℕ → List ℕ → List ℕ → List ℕ → Joined → Type 0
 Ran answers starts names rows n items stretches rows′ items′ stretches′ r =
-    ((faces : List ℕ) → 2 * length faces ≤ length stretches → joiningOf rows′ items′ stretches′ faces r ≡ wholeRun answers starts names rows n items stretches faces) × Fitting names items′ stretches′ r
+    ((faces : List ℕ) → 2 * length faces ≤ length stretches → joiningOf rows′ items′ stretches′ faces r ≡ wholeRun answers starts names rows n items stretches faces) × Fitting names rows′ items′ stretches′ r
 
 -- TABLES OF ENDS
 

@@ -650,7 +650,7 @@ pub fn maximal_edges(
     stretches: &mut [u32],
 ) -> Joining
     requires { ⌜ Indexed (now job) (now index) c × (14 * count ≤ length (now rows)) × (count ≤ 1024) × Laid (now stretches) (now items) × Nodup (now names) × ((v : ℕ) → v ∈ now names → v < 2048) ⌝ }
-    ensures { λ r. ⌜ ((faces : List ℕ) → 2 * length faces ≤ length (now (stretches .entry)) → joiningOf (now (rows .exit)) (now (items .exit)) (now (stretches .exit)) faces r ≡ maximalEdges (answersIn (now (job .entry)) (now (index .entry)) c) (now (starts .entry)) (now (names .entry)) (length (now (names .entry))) (stateIn (now (rows .entry)) count (now (items .entry)) (now (stretches .entry)) faces 0 0)) × Fitting (now (names .entry)) (now (items .exit)) (now (stretches .exit)) r ⌝ }
+    ensures { λ r. ⌜ ((faces : List ℕ) → 2 * length faces ≤ length (now (stretches .entry)) → joiningOf (now (rows .exit)) (now (items .exit)) (now (stretches .exit)) faces r ≡ maximalEdges (answersIn (now (job .entry)) (now (index .entry)) c) (now (starts .entry)) (now (names .entry)) (length (now (names .entry))) (stateIn (now (rows .entry)) count (now (items .entry)) (now (stretches .entry)) faces 0 0)) × Fitting (now (names .entry)) (now (rows .exit)) (now (items .exit)) (now (stretches .exit)) r ⌝ }
 {
     if all_below(names, 64) {
         return join_small(job, index, c, starts, names, rows, count, items, stretches);

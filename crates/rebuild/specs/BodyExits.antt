@@ -82,7 +82,7 @@ module _ {bytes ix : List ℕ} {c : Counts} {us : List Use} {m : Faces} {names :
 
   -- the rows of n edges
   pub rows-room : (rows : List ℕ) (n : ℕ) (items stretches faces : List ℕ) → Tables names rows n items stretches faces → 7 * n ≤ length rows
-  rows-room rows n items stretches faces T = omega (arith, T .rows-size, T .few)
+  rows-room rows n items stretches faces T = T .rows-room
 
   pub rows-cut : (rows : List ℕ) (n : ℕ) (items stretches faces : List ℕ) → Tables names rows n items stretches faces → 7 * n ≡ length (take (7 * n) rows)
   rows-cut rows n items stretches faces T = sym (length-take-le (7 * n) rows (rows-room rows n items stretches faces T))
@@ -91,7 +91,7 @@ module _ {bytes ix : List ℕ} {c : Counts} {us : List Use} {m : Faces} {names :
       → BodySized c (take (7 * k) rows) items stretches faces (membersIn m) (g .kept) n
   body-sized rows k items stretches faces n t T S = record {
     few-faces = Z .limited .faces;
-    few-edges = omega (arith, T .rows-size, length-take (7 * k) rows);
+    few-edges = omega (arith, T .few, length-take (7 * k) rows);
     ends = ends-ok (rowsTo rows k) (T .ended);
     loops = record { laid = T .laid; few-items = T .items-few; few = T .faces-few; room = T .loops };
     few-members = members-few;

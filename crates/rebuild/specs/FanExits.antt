@@ -1,10 +1,10 @@
 -- After the fans: the stage `fans`, test 31, then edges and loops.
 use Prim.Native.Nat.{ℕ, _*_, _≤_}
 use native.Mathlib.Omega.{arith}
-use mathlib.Core.Path.{_≡_, refl, sym, ap, subst, subst₂, _∙_}
-use mathlib.Core.List.{List, _++_, flatMap}
+use mathlib.Core.Path.{_≡_, sym, ap, subst, subst₂, _∙_}
+use mathlib.Core.List.{List, flatMap}
 use mathlib.Core.Bool.{Bool}
-use lib.ListN.{length, take, drop}
+use lib.ListN.{length, take}
 use lib.Seq.{length-take-le}
 use Rattle.lists.specs.Lists.{below, keep}
 use Rattle.rules.specs.declared.Counts.{Counts}
@@ -32,10 +32,9 @@ use Rattle.progress.specs.declared.Figures.{Figures}
 use Rattle.progress.specs.Chain.{afterFans, afterEdges}
 use Rattle.progress.specs.Known.{boundariesIn, numbersIn, walkedIn, Settled}
 use Rattle.progress.specs.KnownLaws.{settled-ground}
-use Rattle.progress.specs.Parts.{zeros, zeros-size, lent-part, lent-first}
 use Rattle.rebuild.specs.Ended.{Ended, first-ended}
-use Rattle.rebuild.specs.Sizes.{Fanning, Holds, Tables, settled-few, settled-room, settled-twins, settled-succ, linable, fanned-names, fanned-holds}
-use Rattle.rebuild.specs.Lined.{Lined}
+use Rattle.rebuild.specs.Sizes.{Fanning, Holds, Tables, Roomy, linable, fanned-names, fanned-holds}
+use Rattle.rebuild.specs.Lined.{Linable, Lined}
 use Rattle.progress.specs.Endings.{ends-as, ends-refused, asked, unasked}
 
 module _ {bytes ix : List ℕ} {c : Counts} {us : List Use} {ts : List ℕ} {m : Faces} {rm : List Bool} {ss kept : List ℕ} {g : Figures} {fans names starts : List ℕ}
@@ -110,44 +109,38 @@ module _ {bytes ix : List ℕ} {c : Counts} {us : List Use} {ts : List ℕ} {m :
         subst₂ Ended (sym (fanned-names F)) (sym (L .edges-are ∙ (λ k. edgesOf (edgesIn bytes c) us ts rm (S .grouped .numbered k) (S .follows k) (fans-same k))))
         (first-ended j (walkedIn c m us ts rm (g .kept) kept) (settled-ground bytes ix c us ts m rm ss kept g S))
 
-    drawn-tables : length rows ≡ 14336 → length items ≡ length ss → length stretches ≡ 2 * length ss → length faces ≡ length ss → Tables names rows edges items (take (2 * loops) stretches) (take loops faces)
-    drawn-tables er ei es ef = record {
-      rows-size = er;
-      few = omega (arith, L .few-edges);
-      laid = L .laid;
-      loops = omega (arith, length-take-le loops faces (omega (arith, ef, L .few-loops)), length-take-le (2 * loops) stretches (omega (arith, es, L .few-loops)));
-      items-few = omega (arith, ei, settled-succ S, settled-few S);
-      faces-few = omega (arith, length-take-le loops faces (omega (arith, ef, L .few-loops)), L .few-loops, settled-succ S, settled-few S);
-      ended = drawn-ended;
-    }
+    -- in tables that have room for them
+    module _ (rows₀ owns₀ items₀ stretches₀ faces₀ : List ℕ) (R : Roomy (length ts) rows₀ owns₀ items₀ stretches₀ faces₀)
+        (er : length rows ≡ length rows₀) (ei : length items ≡ length items₀) (es : length stretches ≡ length stretches₀) (ef : length faces ≡ length faces₀) where
+      abbrev K : Linable ts rm ss rows₀ owns₀ items₀ stretches₀ faces₀
+      K = linable S rows₀ owns₀ items₀ stretches₀ faces₀ R
 
-    -- the tables as the code cuts them
-    module _ (er : length rows ≡ length (zeros 14336)) (ei : length items ≡ length (take (length ts) (zeros 2048))) (es : length stretches ≡ length (take (2 * length ts) (zeros 4096)))
-        (ef : length faces ≡ length (take (length ts) (zeros 2048))) where
-      twice : 2 * length ts ≤ 4096
-      twice = omega (arith, settled-room S)
+      pub loops-room : loops ≤ length faces
+      loops-room = omega (arith, ef, K .faces-size, L .few-loops)
 
-      fit : loops ≤ length ts
-      fit = omega (arith, L .few-loops, settled-succ S, settled-twins S)
+      pub stretches-room : 2 * loops ≤ length stretches
+      stretches-room = omega (arith, es, K .stretches-size, L .few-loops)
 
-      as-cut : (P : List ℕ → List ℕ → List ℕ → Type 0) → P items (take (2 * loops) stretches) (take loops faces)
-          → P (take (length ts) (items ++ drop (length ts) (zeros 2048))) (take (2 * loops) (stretches ++ drop (2 * length ts) (zeros 4096))) (take loops (faces ++ drop (length ts) (zeros 2048)))
-      as-cut P p =
-          subst (λ a. P a (take (2 * loops) (stretches ++ drop (2 * length ts) (zeros 4096))) (take loops (faces ++ drop (length ts) (zeros 2048)))) (sym (lent-part 2048 (length ts) items ei (settled-room S)))
-          (subst₂ (P items) (sym (lent-first 4096 (2 * length ts) stretches es twice (2 * loops) (omega (arith, fit)))) (sym (lent-first 2048 (length ts) faces ef (settled-room S) loops fit)) p)
+      -- for twice as many edges, too
+      pub twice-room : 14 * edges ≤ length rows
+      twice-room = omega (arith, er, K .rows-size, L .few-edges)
 
-      pub drawn-cut : Tables names rows edges (take (length ts) (items ++ drop (length ts) (zeros 2048))) (take (2 * loops) (stretches ++ drop (2 * length ts) (zeros 4096))) (take loops (faces ++ drop (length ts) (zeros 2048)))
-      drawn-cut =
-          as-cut (Tables names rows edges)
-          (drawn-tables (er ∙ zeros-size 14336) (ei ∙ linable S .items-size) (es ∙ linable S .stretches-size) (ef ∙ linable S .faces-size))
+      pub edges-few : edges ≤ 1024
+      edges-few = omega (arith, L .few-edges, K .uses)
 
-      pub edges-on : (after : List ℕ) (r : Ending)
-          → ((h : Fanned) → Holds c us ts m kept g names starts h
-          → Ends (afterEdges stage j (length out) (record {
-            fan = h;
-            joining = stateIn rows edges (take (length ts) (items ++ drop (length ts) (zeros 2048))) (take (2 * loops) (stretches ++ drop (2 * length ts) (zeros 4096))) (take loops (faces ++ drop (length ts) (zeros 2048))) 0 0;
-          })) out after r)
-          → Ends (afterEdges stage j (length out) x) out after r
-      edges-on after r each =
-          subst (λ s. Ends (afterEdges stage j (length out) (record { fan = f; joining = s })) out after r)
-          (sym (as-cut (λ a b d. stateIn rows edges items (take (2 * loops) stretches) (take loops faces) 0 0 ≡ stateIn rows edges a b d 0 0) refl) ∙ drawn) (each f H)
+      pub drawn-tables : Tables names rows edges items (take (2 * loops) stretches) (take loops faces)
+      drawn-tables = record {
+        rows-room = omega (arith, twice-room);
+        few = omega (arith, edges-few);
+        laid = L .laid;
+        loops = omega (arith, length-take-le loops faces loops-room, length-take-le (2 * loops) stretches stretches-room);
+        items-few = omega (arith, ei, K .items-size, K .uses);
+        faces-few = omega (arith, length-take-le loops faces loops-room, L .few-loops, K .uses);
+        ended = drawn-ended;
+      }
+
+    pub edges-on : (after : List ℕ) (r : Ending)
+        → ((h : Fanned) → Holds c us ts m kept g names starts h
+        → Ends (afterEdges stage j (length out) (record { fan = h; joining = stateIn rows edges items (take (2 * loops) stretches) (take loops faces) 0 0 })) out after r)
+        → Ends (afterEdges stage j (length out) x) out after r
+    edges-on after r each = subst (λ s. Ends (afterEdges stage j (length out) (record { fan = f; joining = s })) out after r) drawn (each f H)

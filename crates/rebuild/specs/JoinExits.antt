@@ -29,15 +29,15 @@ use Rattle.progress.specs.Endings.{ends-as, ends-refused, asked, unasked}
 
 -- joined, the tables are still such
 pub joined-tables : (bytes ix : List ℕ) (c : Counts) (starts names rows rows′ : List ℕ) (n : ℕ) (items items′ stretches stretches′ faces : List ℕ) (q : Joining) (k : Joins)
-    → Tables names rows n items stretches faces → length rows′ ≡ length rows → length items′ ≡ length items → length stretches′ ≡ length stretches
-    → joiningOf rows′ items′ stretches′ faces q ≡ maximalEdges (answersIn bytes ix c) starts names (length names) (stateIn rows n items stretches faces 0 0) → Fitting names items′ stretches′ q → q ≡ Done k
+    → Tables names rows n items stretches faces → length items′ ≡ length items → length stretches′ ≡ length stretches
+    → joiningOf rows′ items′ stretches′ faces q ≡ maximalEdges (answersIn bytes ix c) starts names (length names) (stateIn rows n items stretches faces 0 0) → Fitting names rows′ items′ stretches′ q → q ≡ Done k
     → Tables names rows′ (k .edges) items′ stretches′ faces
 unfolding stateIn
-joined-tables bytes ix c starts names rows rows′ n items items′ stretches stretches′ faces q k T er ei es e F d =
-    let fits : Fitting names items′ stretches′ (Done k) = subst (Fitting names items′ stretches′) d F in
+joined-tables bytes ix c starts names rows rows′ n items items′ stretches stretches′ faces q k T ei es e F d =
+    let fits : Fitting names rows′ items′ stretches′ (Done k) = subst (Fitting names rows′ items′ stretches′) d F in
     let run = sym e ∙ ap (joiningOf rows′ items′ stretches′ faces) d in
     record {
-      rows-size = er ∙ T .rows-size;
+      rows-room = fits .3;
       few = fits .1;
       laid = fits .0;
       loops = omega (arith, T .loops, es);

@@ -21,16 +21,17 @@ use Rattle.edges.specs.Made.{Mated, Made}
 use Rattle.edges.specs.LoopLaws.{face-loops, laid-first}
 use Rattle.maximal_edges.specs.Joined.{edgesIn}
 use Rattle.walk.specs.Walks.{loopsIn, Following}
-use Rattle.progress.specs.Parts.{zeros, part-at}
 use Rattle.rebuild.specs.Halves.{half-of-uses}
 
 -- the successors permute the kept uses, of which twins are removed together; there is room for edges and loops
-pub record Linable (ts : List ℕ) (rm : List Bool) (ss rows items stretches faces : List ℕ) : Type 0 where
+pub record Linable (ts : List ℕ) (rm : List Bool) (ss rows owns items stretches faces : List ℕ) : Type 0 where
   pub permuted : Permuted (length ss) rm ss
   pub mated : Mated ts rm
   pub uses : length ss ≤ 2048
   pub twins : length ts ≡ length ss
-  pub rows-size : length rows ≡ 14336
+  pub rows-size : 7 * length ss ≤ length rows
+  pub owns-size : length owns ≡ length ss
+  pub owns-blank : (k : ℕ) → getD owns k 0 ≡ 0
   pub items-size : length items ≡ length ss
   pub stretches-size : length stretches ≡ 2 * length ss
   pub faces-size : length faces ≡ length ss
@@ -38,7 +39,7 @@ pub record Linable (ts : List ℕ) (rm : List Bool) (ss rows items stretches fac
 -- the tables have the edges and loops of the definition, so many of each
 pub record Lined (es : List Edge) (us : List Use) (ts : List ℕ) (rm : List Bool) (numbers ss g rows items stretches faces : List ℕ) (edges loops : ℕ) : Type 0 where
   pub edges-are : edgesIn rows edges ≡ edgesOf es us ts rm numbers ss g
-  pub few-edges : edges ≤ 1024
+  pub few-edges : 2 * edges ≤ length ss
   pub loops-are : faceLoopsIn items (take (2 * loops) stretches) (take loops faces) ≡ faceLoops us ts rm numbers (loopsOf (circuits rm ss))
   pub few-loops : loops ≤ length ss
   pub laid : Laid (take (2 * loops) stretches) items
@@ -59,11 +60,9 @@ faces-first items stretches faces n e =
     loop s k = record { face = getD faces k 0; items = map itemIn (loopAt items s k) }
 
 -- the numbers of edges in the table of the uses' edges are small
-pub few-owners : (es : List Edge) (us : List Use) (ts : List ℕ) (rm : List Bool) (numbers ss g rows owns owns′ : List ℕ) (edges n : ℕ) → n ≤ 2048
-    → Made es us ts rm numbers ss g (take n (zeros 2048)) rows owns edges → owns′ ≡ owns → (k : ℕ) → getD owns′ k 0 ≤ 2048
-few-owners es us ts rm numbers ss g rows owns owns′ edges n h M e k =
-    let few = M .few k (omega (arith, part-at n 2048 k h)) in
-    omega (arith, few, ap (λ o. getD o k 0) e)
+pub few-owners : (es : List Edge) (us : List Use) (ts : List ℕ) (rm : List Bool) (numbers ss g owns₀ rows owns : List ℕ) (edges : ℕ) → ((k : ℕ) → getD owns₀ k 0 ≡ 0)
+    → Made es us ts rm numbers ss g owns₀ rows owns edges → (k : ℕ) → getD owns k 0 ≤ 2048
+few-owners es us ts rm numbers ss g owns₀ rows owns edges blank M k = M .few k (omega (arith, blank k))
 
 -- the uses of the loops are kept
 loop-kept : (n : ℕ) (rm : List Bool) (ss : List ℕ) → Permuted n rm ss → (l : List ℕ) → l ∈ loopsOf (circuits rm ss) → (h : ℕ) → h ∈ l → Kept n rm h
@@ -71,16 +70,16 @@ loop-kept n rm ss P l m h i =
     let r = map-in circuitUses (circuits rm ss) l m in
     closed-kept P (r .0) h (circuits-parting P .closed (r .0) (r .1)) (subst (λ x. h ∈ x) (r .2) i)
 
-module _ (es : List Edge) (us : List Use) (ts : List ℕ) (rm : List Bool) (numbers ss g rows₀ items₀ stretches₀ faces₀ : List ℕ) (L : Linable ts rm ss rows₀ items₀ stretches₀ faces₀) where
+module _ (es : List Edge) (us : List Use) (ts : List ℕ) (rm : List Bool) (numbers ss g rows₀ owns₀ items₀ stretches₀ faces₀ : List ℕ) (L : Linable ts rm ss rows₀ owns₀ items₀ stretches₀ faces₀) where
   -- the walks' loops, their faces, the edges, and the uses made items
-  pub lined : (ways stretches faces faces′ owns₀ owns owns′ rows items : List ℕ) (loops edges : ℕ)
+  pub lined : (ways stretches faces faces′ owns rows items : List ℕ) (loops edges : ℕ)
       → loopsIn loops ways stretches ≡ loopsOf (circuits rm ss) → loops ≤ length ss → Following loops ways stretches
       → faces ≡ map (loopFace us numbers ways stretches) (below loops) → take loops faces′ ≡ faces
-      → Made es us ts rm numbers ss g owns₀ rows owns edges → owns′ ≡ owns → items ≡ map (itemCode us owns′) ways
+      → Made es us ts rm numbers ss g owns₀ rows owns edges → items ≡ map (itemCode us owns) ways
       → Lined es us ts rm numbers ss g rows items stretches faces′ edges loops
-  lined ways stretches faces faces′ owns₀ owns owns′ rows items loops edges el few F ef cut M eo ei′ = record {
+  lined ways stretches faces faces′ owns rows items loops edges el few F ef cut M ei = record {
     edges-are = M .edges;
-    few-edges = omega (arith, M .counted, half-of-uses ts rm (L .mated), L .uses, L .twins);
+    few-edges = omega (arith, M .counted, half-of-uses ts rm (L .mated), L .twins);
     loops-are =
         (λ i. faceLoopsIn (ei i) (take (2 * loops) stretches) ((cut ∙ ef) i))
         ∙ faces-first (map (itemCode us owns) ways) stretches (map (loopFace us numbers ways stretches) (below loops)) loops (length-faces)
@@ -92,8 +91,5 @@ module _ (es : List Edge) (us : List Use) (ts : List ℕ) (rm : List Bool) (numb
         (λ k b. omega (arith, F .within k b, ap length ei, length-map ways (itemCode us owns)));
   }
     where
-      ei : items ≡ map (itemCode us owns) ways
-      ei = ei′ ∙ ap (λ o. map (itemCode us o) ways) eo
-
       length-faces : length (map (loopFace us numbers ways stretches) (below loops)) ≡ loops
       length-faces = length-table (loopFace us numbers ways stretches) loops

@@ -3,9 +3,9 @@ use Prim.Native.Nat.{ℕ, _+_, _*_, _<_, _≤_}
 use native.Mathlib.Decide.{decLt}
 use native.Mathlib.Omega.{arith}
 use mathlib.Core.Path.{_≡_, refl, sym, ap, subst, _∙_}
-use mathlib.Core.List.{List, _++_}
+use mathlib.Core.List.{List}
 use mathlib.Core.Bool.{Bool}
-use lib.ListN.{length, take, drop, List·getD-eq-default}
+use lib.ListN.{length, getD, take, List·getD-eq-default}
 use lib.Seq.{length-take-le}
 use Rattle.lists.specs.Lists.{_∈_, Nodup, keep, sumOf}
 use Rattle.lists.specs.Runs.{pigeon-below}
@@ -30,7 +30,7 @@ use Rattle.progress.specs.declared.Faces.{Faces}
 use Rattle.progress.specs.declared.Figures.{Figures}
 use Rattle.progress.specs.Known.{boundariesIn, membersIn, walkedIn, Settled}
 use Rattle.progress.specs.KnownLaws.{opened-limited, paired-few, paired-twins, bounded-lowest, settled-ground, settled-linked, settled-permuted}
-use Rattle.progress.specs.Parts.{zeros, zeros-size, zeros-first, part-size}
+use Rattle.progress.specs.Parts.{zeros, zeros-first, part-size, part-at}
 use Rattle.rebuild.specs.Lined.{Linable}
 use Rattle.rebuild.specs.Ended.{Ended}
 
@@ -68,13 +68,34 @@ pub record Holds (c : Counts) (us : List Use) (ts : List ℕ) (m : Faces) (kept 
 
 -- n edges, and loops one after the other, in their tables; each edge's ends are fans or none
 pub record Tables (names rows : List ℕ) (n : ℕ) (items stretches faces : List ℕ) : Type 0 where
-  pub rows-size : length rows ≡ 14336
+  pub rows-room : 7 * n ≤ length rows
   pub few : n ≤ 2047
   pub laid : Laid stretches items
   pub loops : 2 * length faces ≤ length stretches
   pub items-few : length items ≤ 2048
   pub faces-few : length faces ≤ 2048
   pub ended : Ended names (rowsTo rows n)
+
+-- tables for the edges, their owners, and the loops of n uses
+pub record Roomy (n : ℕ) (rows owns items stretches faces : List ℕ) : Type 0 where
+  pub rows-size : 7 * n ≤ length rows
+  pub owns-size : length owns ≡ n
+  pub owns-blank : (k : ℕ) → getD owns k 0 ≡ 0
+  pub items-size : length items ≡ n
+  pub stretches-size : length stretches ≡ 2 * n
+  pub faces-size : length faces ≡ n
+
+-- cut from blank tables with room for them
+pub roomy : (n size rows pairs : ℕ) → n ≤ size → 7 * n ≤ rows → 2 * n ≤ pairs
+    → Roomy n (take (7 * n) (zeros rows)) (take n (zeros size)) (take n (zeros size)) (take (2 * n) (zeros pairs)) (take n (zeros size))
+roomy n size rows pairs h r p = record {
+  rows-size = omega (arith, part-size (7 * n) rows r);
+  owns-size = sym (part-size n size h);
+  owns-blank = λ k. part-at n size k h;
+  items-size = sym (part-size n size h);
+  stretches-size = sym (part-size (2 * n) pairs p);
+  faces-size = sym (part-size n size h);
+}
 
 -- no more names than uses
 pub names-few : (names : List ℕ) → Nodup names → ((v : ℕ) → v ∈ names → v < 2048) → length names ≤ 2048
@@ -143,18 +164,22 @@ module _ {bytes ix : List ℕ} {c : Counts} {us : List Use} {ts : List ℕ} {m :
   pub settled-low : LowLabels (boundariesIn c m)
   settled-low = low-labels (boundariesIn c m) settled-lowest (omega (arith, settled-cut, settled-limited .faces))
 
-  -- the blank tables of edges and loops, as the code cuts them
-  pub linable : Linable ts rm ss (zeros 14336) (take (length ts) (zeros 2048)) (take (2 * length ts) (zeros 4096)) (take (length ts) (zeros 2048))
-  linable = record {
-    permuted = settled-walks;
-    mated = settled-mated;
-    uses = omega (arith, settled-succ, settled-few);
-    twins = settled-twins ∙ sym settled-succ;
-    rows-size = zeros-size 14336;
-    items-size = sym (part-size (length ts) 2048 settled-room) ∙ settled-twins ∙ sym settled-succ;
-    stretches-size = sym (part-size (2 * length ts) 4096 (omega (arith, settled-room))) ∙ ap (λ n. 2 * n) (settled-twins ∙ sym settled-succ);
-    faces-size = sym (part-size (length ts) 2048 settled-room) ∙ settled-twins ∙ sym settled-succ;
-  }
+  -- the tables of edges and loops
+  pub linable : (rows owns items stretches faces : List ℕ) → Roomy (length ts) rows owns items stretches faces → Linable ts rm ss rows owns items stretches faces
+  linable rows owns items stretches faces R =
+      let same : length ts ≡ length ss = settled-twins ∙ sym settled-succ in
+      record {
+        permuted = settled-walks;
+        mated = settled-mated;
+        uses = omega (arith, settled-succ, settled-few);
+        twins = same;
+        rows-size = omega (arith, R .rows-size, same);
+        owns-size = R .owns-size ∙ same;
+        owns-blank = R .owns-blank;
+        items-size = R .items-size ∙ same;
+        stretches-size = R .stretches-size ∙ ap (λ n. 2 * n) same;
+        faces-size = R .faces-size ∙ same;
+      }
 
 -- FANNED
 

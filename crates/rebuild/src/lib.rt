@@ -1,7 +1,8 @@
-// The second half of sewing, from the walks to the body. Each function makes one stage's tables, ends where that stage was
+// The second half of sewing, from the walks to the body. Each function fills one stage's tables, ends where that stage was
 // asked for or something is refused, and else hands the tables on: of the walks `uses`, `twins`, `removed`, `succ` and
 // `kept`; of the fans `fans`, `names` and `starts`; the edges as `rows`, the loops as `items`, `stretches` and `faces`; the
-// shells as `table`.
+// shells as `table`. Tables are made in two sizes, for small parts and for all others: clearing tables of the limits' size
+// costs more than all else of a small part.
 use body::Totals;
 use body::put_body;
 use contact::Clear;
@@ -31,7 +32,7 @@ use shells::lump_labels;
 use shells::nest;
 use uses::count;
 ghost use mathlib.Core.Path.{_≡_};
-ghost use Prim.Native.Nat.{_≤_};
+ghost use Prim.Native.Nat.{_*_, _≤_};
 ghost use lib.ListN.{length, replicate};
 ghost use Rattle.rules.specs.Contact.{edgesClear};
 ghost use Rattle.rules.specs.Sew.{Fanned, fansOf, unjoined, Ends};
@@ -42,7 +43,7 @@ ghost use Rattle.shells.specs.Table.{shellsIn, nestedIn, Shelled};
 ghost use Rattle.maximal_edges.specs.Joined.{stateIn};
 ghost use Rattle.progress.specs.Chain.{afterLoops, afterFans, afterEdges, afterJoining, afterShells, afterNesting};
 ghost use Rattle.progress.specs.Known.{boundariesIn, numbersIn, membersIn, walkedIn, Settled};
-ghost use Rattle.rebuild.specs.Sizes.{Fanning, Sizes, Holds, Tables};
+ghost use Rattle.rebuild.specs.Sizes.{Fanning, Sizes, Holds, Tables, Roomy};
 ghost use Rattle.rebuild.specs.Lined.{Linable, Lined};
 ghost use Rattle.rebuild.specs.Homes.{LowHomes};
 ghost use Rattle.rebuild.specs.Lumped.{Lumped, lumpTests};
@@ -66,7 +67,7 @@ fn clear_linked(
     edges_clear(number, uses, twins, firsts, nexts, labels)
 }
 
-// In tables for up to 64 edges and uses: clearing tables of the limits' size costs more than all else of a small part.
+// In tables for up to 64 edges and uses.
 fn clear_in_small(number: usize, edges: usize, uses: &[u32], twins: &[u32], labels: &[u32]) -> Clear
     requires { ⌜ (edges ≤ 64) × (length (usesIn (now uses)) ≤ 64) × LowLabels (now labels) ⌝ }
     ensures { λ r. ⌜ clearOf r ≡ edgesClear number (usesIn (now (uses .entry))) (now (twins .entry)) (now (labels .entry)) edges ⌝ }
@@ -365,7 +366,7 @@ fn on_edged(
     faces: &[u32],
     out: &mut [u8],
 ) -> Ending
-    requires { ⌜ Sizes (now job) (now index) c (usesIn (now uses)) m (now names) g × Tables (now names) (now rows) count (now items) (now stretches) (now faces) × (count ≤ 1024) ⌝ }
+    requires { ⌜ Sizes (now job) (now index) c (usesIn (now uses)) m (now names) g × Tables (now names) (now rows) count (now items) (now stretches) (now faces) × (count ≤ 1024) × (14 * count ≤ length (now rows)) ⌝ }
     ensures { λ r. ⌜ ((f : Fanned) → Holds c (usesIn (now (uses .entry))) (now (twins .entry)) m (now (kept .entry)) g (now (names .entry)) (now (starts .entry)) f → Ends (afterEdges stage (jobIn (now (job .entry)) (now (index .entry)) c) (length (now (out .entry))) (record { fan = f; joining = stateIn (now (rows .entry)) count (now (items .entry)) (now (stretches .entry)) (now (faces .entry)) 0 0 })) (now (out .entry)) (now (out .exit)) r) ⌝ }
 {
     if stage == EDGES {
@@ -415,16 +416,15 @@ fn make_edges(
     succ: &[u32],
     fans: &[u32],
     rows: &mut [u32],
+    owns: &mut [u32],
     items: &mut [u32],
     stretches: &mut [u32],
     faces: &mut [u32],
 ) -> Lengths
-    requires { ⌜ (c .vertices ≤ 1024) × (c .edges ≤ 1024) × (c .faces ≤ length (m .numbers)) × Linable (now twins) (now removed) (now succ) (now rows) (now items) (now stretches) (now faces) ⌝ }
+    requires { ⌜ (c .vertices ≤ 1024) × (c .edges ≤ 1024) × (c .faces ≤ length (m .numbers)) × Linable (now twins) (now removed) (now succ) (now rows) (now owns) (now items) (now stretches) (now faces) ⌝ }
     ensures { λ r. ⌜ Lined (edgesIn (now (job .entry)) c) (usesIn (now (uses .entry))) (now (twins .entry)) (now (removed .entry)) (numbersIn c m) (now (succ .entry)) (now (fans .entry)) (now (rows .exit)) (now (items .exit)) (now (stretches .exit)) (now (faces .exit)) (r .edges) (r .loops) ⌝ }
 {
-    let n = twins.len();
     let numbers = m.numbers;
-    let mut owns = [0u32; 2048];
     let loops = walk::loops(removed, succ, items, stretches);
     edges::loop_faces(
         uses,
@@ -443,9 +443,9 @@ fn make_edges(
         succ,
         fans,
         rows,
-        &mut owns[..n],
+        owns,
     );
-    edges::items(uses, &owns[..n], items);
+    edges::items(uses, owns, items);
     Lengths { edges, loops }
 }
 
@@ -465,16 +465,16 @@ fn on_apart(
     fans: &[u32],
     names: &[u32],
     starts: &[u32],
+    rows: &mut [u32],
+    owns: &mut [u32],
+    items: &mut [u32],
+    stretches: &mut [u32],
+    faces: &mut [u32],
     out: &mut [u8],
 ) -> Ending
-    requires { ⌜ Fanning (now job) (now index) c (usesIn (now uses)) (now twins) m (now removed) (now succ) (now kept) g (now fans) (now names) (now starts) ⌝ }
+    requires { ⌜ Fanning (now job) (now index) c (usesIn (now uses)) (now twins) m (now removed) (now succ) (now kept) g (now fans) (now names) (now starts) × Roomy (length (now twins)) (now rows) (now owns) (now items) (now stretches) (now faces) ⌝ }
     ensures { λ r. ⌜ Ends (afterEdges stage (jobIn (now (job .entry)) (now (index .entry)) c) (length (now (out .entry))) (record { fan = fansOf (jobIn (now (job .entry)) (now (index .entry)) c) (walkedIn c m (usesIn (now (uses .entry))) (now (twins .entry)) (now (removed .entry)) (g .kept) (now (kept .entry))); joining = unjoined (jobIn (now (job .entry)) (now (index .entry)) c) (fansOf (jobIn (now (job .entry)) (now (index .entry)) c) (walkedIn c m (usesIn (now (uses .entry))) (now (twins .entry)) (now (removed .entry)) (g .kept) (now (kept .entry)))) })) (now (out .entry)) (now (out .exit)) r ⌝ }
 {
-    let n = twins.len();
-    let mut rows = [0u32; 14336];
-    let mut items = [0u32; 2048];
-    let mut stretches = [0u32; 4096];
-    let mut faces = [0u32; 2048];
     let k = make_edges(
         job,
         c,
@@ -484,10 +484,11 @@ fn on_apart(
         removed,
         succ,
         fans,
-        &mut rows,
-        &mut items[..n],
-        &mut stretches[..2 * n],
-        &mut faces[..n],
+        rows,
+        owns,
+        items,
+        stretches,
+        faces,
     );
     on_edged(
         stage,
@@ -501,9 +502,9 @@ fn on_apart(
         g,
         names,
         starts,
-        &mut rows,
+        rows,
         k.edges,
-        &mut items[..n],
+        items,
         &mut stretches[..2 * k.loops],
         &faces[..k.loops],
         out,
@@ -528,9 +529,14 @@ fn on_fanned(
     fans: &[u32],
     names: &[u32],
     starts: &[u32],
+    rows: &mut [u32],
+    owns: &mut [u32],
+    items: &mut [u32],
+    stretches: &mut [u32],
+    faces: &mut [u32],
     out: &mut [u8],
 ) -> Ending
-    requires { ⌜ Fanning (now job) (now index) c (usesIn (now uses)) (now twins) m (now removed) (now succ) (now kept) g (now fans) (now names) (now starts) ⌝ }
+    requires { ⌜ Fanning (now job) (now index) c (usesIn (now uses)) (now twins) m (now removed) (now succ) (now kept) g (now fans) (now names) (now starts) × Roomy (length (now twins)) (now rows) (now owns) (now items) (now stretches) (now faces) ⌝ }
     ensures { λ r. ⌜ Ends (afterFans stage (jobIn (now (job .entry)) (now (index .entry)) c) (length (now (out .entry))) (fansOf (jobIn (now (job .entry)) (now (index .entry)) c) (walkedIn c m (usesIn (now (uses .entry))) (now (twins .entry)) (now (removed .entry)) (g .kept) (now (kept .entry))))) (now (out .entry)) (now (out .exit)) r ⌝ }
 {
     if stage == FANS {
@@ -555,12 +561,17 @@ fn on_fanned(
             fans,
             names,
             starts,
+            rows,
+            owns,
+            items,
+            stretches,
+            faces,
             out,
         ),
     }
 }
 
-// The fans in tables with an entry for each use, then the stage `fans`.
+// The fans in tables with an entry for each use, then the stage `fans`; the tables after them are for the edges.
 fn make_fans(
     stage: usize,
     job: &[u8],
@@ -576,9 +587,14 @@ fn make_fans(
     fans: &mut [u32],
     names: &mut [u32],
     starts: &mut [u32],
+    rows: &mut [u32],
+    owns: &mut [u32],
+    items: &mut [u32],
+    stretches: &mut [u32],
+    faces: &mut [u32],
     out: &mut [u8],
 ) -> Ending
-    requires { ⌜ Settled (now job) (now index) c (usesIn (now uses)) (now twins) m (now removed) (now succ) (now kept) g × (length (now fans) ≡ length (now twins)) × (length (now names) ≡ length (now twins)) × (length (now starts) ≡ length (now twins)) ⌝ }
+    requires { ⌜ Settled (now job) (now index) c (usesIn (now uses)) (now twins) m (now removed) (now succ) (now kept) g × (length (now fans) ≡ length (now twins)) × (length (now names) ≡ length (now twins)) × (length (now starts) ≡ length (now twins)) × Roomy (length (now twins)) (now rows) (now owns) (now items) (now stretches) (now faces) ⌝ }
     ensures { λ r. ⌜ Ends (afterFans stage (jobIn (now (job .entry)) (now (index .entry)) c) (length (now (out .entry))) (fansOf (jobIn (now (job .entry)) (now (index .entry)) c) (walkedIn c m (usesIn (now (uses .entry))) (now (twins .entry)) (now (removed .entry)) (g .kept) (now (kept .entry))))) (now (out .entry)) (now (out .exit)) r ⌝ }
 {
     fans::fans(job, c, uses, twins, removed, succ, fans);
@@ -599,12 +615,17 @@ fn make_fans(
         fans,
         &names[..k],
         starts,
+        rows,
+        owns,
+        items,
+        stretches,
+        faces,
         out,
     )
 }
 
-// In tables for up to 64 uses.
-fn fans_in_small(
+// In tables for up to 64 uses, whose edges are at most half as many, and twice that when joined.
+fn in_small_tables(
     stage: usize,
     job: &[u8],
     index: &[u32],
@@ -625,6 +646,11 @@ fn fans_in_small(
     let mut fans = [0u32; 64];
     let mut names = [0u32; 64];
     let mut starts = [0u32; 64];
+    let mut rows = [0u32; 448];
+    let mut owns = [0u32; 64];
+    let mut items = [0u32; 64];
+    let mut stretches = [0u32; 128];
+    let mut faces = [0u32; 64];
     make_fans(
         stage,
         job,
@@ -640,12 +666,17 @@ fn fans_in_small(
         &mut fans[..n],
         &mut names[..n],
         &mut starts[..n],
+        &mut rows[..7 * n],
+        &mut owns[..n],
+        &mut items[..n],
+        &mut stretches[..2 * n],
+        &mut faces[..n],
         out,
     )
 }
 
 // In tables for as many as there may be.
-fn fans_in_large(
+fn in_large_tables(
     stage: usize,
     job: &[u8],
     index: &[u32],
@@ -666,6 +697,11 @@ fn fans_in_large(
     let mut fans = [0u32; 2048];
     let mut names = [0u32; 2048];
     let mut starts = [0u32; 2048];
+    let mut rows = [0u32; 14336];
+    let mut owns = [0u32; 2048];
+    let mut items = [0u32; 2048];
+    let mut stretches = [0u32; 4096];
+    let mut faces = [0u32; 2048];
     make_fans(
         stage,
         job,
@@ -681,6 +717,11 @@ fn fans_in_large(
         &mut fans[..n],
         &mut names[..n],
         &mut starts[..n],
+        &mut rows[..7 * n],
+        &mut owns[..n],
+        &mut items[..n],
+        &mut stretches[..2 * n],
+        &mut faces[..n],
         out,
     )
 }
@@ -712,7 +753,7 @@ pub fn rebuild(
         Clear::Done => {}
     }
     if twins.len() <= 64 {
-        return fans_in_small(
+        return in_small_tables(
             stage,
             job,
             index,
@@ -727,7 +768,7 @@ pub fn rebuild(
             out,
         );
     }
-    fans_in_large(
+    in_large_tables(
         stage,
         job,
         index,

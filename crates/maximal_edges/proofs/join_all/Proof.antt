@@ -78,7 +78,7 @@ returns c =
     let names = a .names .now in
     let whole = wholeRun answers (a .starts .now) names (a .rows .now) (a .count) (a .items .now) (a .stretches .now) in (
       λ faces h. ap (joiningOf (l .rows) (l .items) (l .stretches) faces) (c .done .ensures) ∙ going-done answers (a .starts .now) names whole (length (a .stretches .now)) (l .rows) (l .n) (l .items) (l .stretches) (l .ends) (l .lows) (l .highs) (l .joins) (l .rings) (l .low) (l .high) (l .top) (l .inv .6) (c .before .before .before .sweep .result) (c .before .before .before .sweep .ensures) (c .before .enum-told .given .1) faces h,
-      subst (Fitting names (l .items) (l .stretches)) (sym (c .done .ensures)) (l .inv .6 .laid, l .inv .6 .few, omega (arith, l .inv .6 .budget)),
+      subst (Fitting names (l .rows) (l .items) (l .stretches)) (sym (c .done .ensures)) (l .inv .6 .laid, l .inv .6 .few, omega (arith, l .inv .6 .budget), omega (arith, l .inv .6 .size)),
     )
 
 enum-known-change : tie.Need-enum-known-change Inv-sweeps μ-sweeps

@@ -49,7 +49,7 @@ on-joined-requires c κs =
     let a = c .before .before .before .before .before .before .before .before .before .before .before .before .before .before .before .before .before .before .before .before .before .before .before .before .before .before .before .before .before .before .args in
     let pre = c .before .before .before .before .before .before .before .before .before .before .before .before .before .before .before .before .before .before .before .before .before .before .before .before .before .before .before .before .before .before .pre in
     let run = c .before .before .before .before .before .before .before .before .before .before .before .before .before .maximal-edges in
-    (pre .0, joined-tables (a .job .now) (a .index .now) (a .c) (a .starts .now) (a .names .now) (a .rows .now) (run .last .1 .1 .1 .1 .1 .0) (a .count) (a .items .now) (run .last .1 .1 .1 .1 .1 .1 .1 .0) (a .stretches .now) (run .last .1 .1 .1 .1 .1 .1 .1 .1 .0) (a .faces .now) (run .result) (c .before .before .before .before .before .r2 .given .0 .0) (pre .1) (run .kept .1 .1 .1 .1 .1 .0) (run .kept .1 .1 .1 .1 .1 .1 .1 .0) (run .kept .1 .1 .1 .1 .1 .1 .1 .1 .0) (run .ensures .0 (a .faces .now) (pre .1 .loops)) (run .ensures .1) (c .before .before .before .before .before .r2 .given .1))
+    (pre .0, joined-tables (a .job .now) (a .index .now) (a .c) (a .starts .now) (a .names .now) (a .rows .now) (run .last .1 .1 .1 .1 .1 .0) (a .count) (a .items .now) (run .last .1 .1 .1 .1 .1 .1 .1 .0) (a .stretches .now) (run .last .1 .1 .1 .1 .1 .1 .1 .1 .0) (a .faces .now) (run .result) (c .before .before .before .before .before .r2 .given .0 .0) (pre .1) (run .kept .1 .1 .1 .1 .1 .1 .1 .0) (run .kept .1 .1 .1 .1 .1 .1 .1 .1 .0) (run .ensures .0 (a .faces .now) (pre .1 .loops)) (run .ensures .1) (c .before .before .before .before .before .r2 .given .1))
 
 -- src/lib.rt:324:1
 same-length-5 : tie.Need-same-length-5
