@@ -1,19 +1,36 @@
 -- Numbers from 0 given to the members of a list, in a table that has each number plus one, and 0 for none.
-use Prim.Native.Nat.{ℕ, suc, _+_, _-_, _<_}
-use native.Mathlib.Decide.{ℕ-discrete}
+use Prim.Native.Nat.{ℕ, suc, _+_, _-_, _<_, _≤_}
+use native.Mathlib.Decide.{ℕ-discrete, decLt}
 use native.Mathlib.Omega.{arith}
 use mathlib.Core.Path.{_≡_, refl, sym, ap, _∙_}
 use mathlib.Core.Logic.{_⊎_, inl, inr, ⊎-elim}
 use mathlib.Core.List.{List, [], _∷_, _++_, List·Memᴰ·head, List·Memᴰ·tail, List·Memᴰ·not-nil, List·Memᴰ·cases-cons, List·Memᴰ·append-cases, List·Memᴰ·eq-of-singleton, Memᴰ·append-left, Memᴰ·append-right}
 use mathlib.Core.Bool.{cond}
-use lib.ListN.{length, getD, set, replicate, length-set}
+use lib.ListN.{length, getD, set, List·getD-eq-default}
 use lib.Dec.{eqb}
 use borrow.Author.Tests.{eq-eqb, ne-eqb}
 use Rattle.lists.specs.Lists.{_∈_, position, indexOf}
 use Rattle.lists.specs.Tests.{cond-true, cond-false}
-use Rattle.lists.specs.Constants.{getD-constant}
 use Rattle.lists.specs.Tables.{set-each, length-snoc}
 use Rattle.rules.specs.Job.{unset}
+
+-- a table all 0
+abbrev pub Blank : List ℕ → Type 0
+Blank t = (k : ℕ) → getD t k 0 ≡ 0
+
+-- the first i entries are 0
+abbrev pub BlankTo : ℕ → List ℕ → Type 0
+BlankTo i t = (k : ℕ) → k < i → getD t k 0 ≡ 0
+
+pub blank-more : (t : List ℕ) (i : ℕ) → i < length t → BlankTo i t → BlankTo (i + 1) (set t i 0)
+blank-more t i h b k = set-each (λ k x. k < i + 1 → x ≡ 0) t i 0 0 h (λ _. refl) k (λ ne l. b k (omega (arith, ne)))
+
+pub blank-all : (t : List ℕ) (i : ℕ) → length t ≤ i → BlankTo i t → Blank t
+blank-all t i h b k =
+    elim (decLt k i) [
+      | yes l ↦ b k l
+      | no l ↦ List·getD-eq-default t 0 {n = k} (omega arith)
+    ]
 
 -- the entry of v: its number plus one, or none
 abbrev pub Entry : List ℕ → ℕ → ℕ → Type 0
@@ -21,7 +38,6 @@ Entry l v x = ((v ∈ l) × (x ≡ suc (indexOf v l))) ⊎ ((¬ (v ∈ l)) × (x
 
 -- the members of the list have numbers, so many
 pub record Numbering (l t : List ℕ) (count : ℕ) : Type 0 where
-  pub size : length t ≡ 2048
   pub counted : count ≡ length l
   pub entries : (v : ℕ) → Entry l v (getD t v 0)
 
@@ -74,11 +90,10 @@ index-last x (y ∷ l) out = rw (ne-eqb x y (λ e. out (List·Memᴰ·head e))) 
 
 -- NUMBERING
 
-pub numbering-none : (t : List ℕ) → t ≡ replicate 2048 0 → Numbering [] t 0
+pub numbering-none : (t : List ℕ) → Blank t → Numbering [] t 0
 numbering-none t e = record {
-  size = ap length e;
   counted = refl;
-  entries = λ v. inr (List·Memᴰ·not-nil, ap (λ r. getD r v 0) e ∙ getD-constant 2048 0 v);
+  entries = λ v. inr (List·Memᴰ·not-nil, e v);
 }
 
 module _ (l t : List ℕ) (count : ℕ) (n : Numbering l t count) where
@@ -98,12 +113,11 @@ module _ (l t : List ℕ) (count : ℕ) (n : Numbering l t count) where
       (n .entries v)
 
   -- one more
-  pub numbering-more : (v : ℕ) (t′ : List ℕ) → v < 2048 → ¬ (v ∈ l) → t′ ≡ set t v (count + 1) → Numbering (l ++ (v ∷ [])) t′ (count + 1)
+  pub numbering-more : (v : ℕ) (t′ : List ℕ) → v < length t → ¬ (v ∈ l) → t′ ≡ set t v (count + 1) → Numbering (l ++ (v ∷ [])) t′ (count + 1)
   numbering-more v t′ low out e = record {
-    size = ap length e ∙ length-set t v (count + 1) ∙ n .size;
     counted = omega (arith, length-snoc l v, n .counted);
     entries = λ w. rw e
-        (set-each (λ w x. Entry (l ++ (v ∷ [])) w x) t v (count + 1) 0 (omega (arith, n .size))
+        (set-each (λ w x. Entry (l ++ (v ∷ [])) w x) t v (count + 1) 0 low
         (inl (Memᴰ·append-right l (List·Memᴰ·head refl), omega (arith, index-last v l out, n .counted))) w
         (λ ne.
         ⊎-elim

@@ -6,7 +6,7 @@ use mathlib.Core.Path.{_≡_, refl, sym, ap, subst, _∙_}
 use mathlib.Core.Logic.{_⊎_, ⊎-elim}
 use mathlib.Core.List.{List, [], _∷_, _++_, map, flatMap, foldl, append-nil}
 use mathlib.Core.Bool.{Bool, true, false, _||_, cond}
-use lib.ListN.{length, getD, set, take, replicate}
+use lib.ListN.{length, getD, set, take}
 use lib.Seq.{take-suc, take-length, length-take-le, length-sets}
 use lib.Dec.{eqb}
 use borrow.Author.Tests.{eq-eqb, ne-eqb}
@@ -22,7 +22,7 @@ use Rattle.rules.specs.Fans.{fanPoint}
 use Rattle.rules.specs.Join.{edgeDataAt, noEdgeData, activeEdges}
 use Rattle.rules.specs.Body.{rec, vertexRecord, meet, metFans, stillActive}
 use Rattle.fields.specs.Wrote.{Wrote, wrote-none, wrote-more}
-use Rattle.body.specs.Numbers.{Numbering, numbering-none, numbering-more, entry-in, entry-out}
+use Rattle.body.specs.Numbers.{Blank, Numbering, numbering-none, numbering-more, entry-in, entry-out}
 use Rattle.body.specs.Writing.{wrote-as, length-record}
 
 -- ACTIVE EDGES
@@ -62,7 +62,7 @@ module _ (es : List EdgeData) where
       omega (arith, n .counted, positions-length (λ x. x .active) 0 (take e es), keep-length (λ x. x .active) (take e es), length-take-le e es (omega arith))
 
   module _ (t : List ℕ) (count e : ℕ) (n : Numbering (activeBelow es e) t count) (lt : e < length es) where
-    pub numbered-active : (a : Bool) (t′ : List ℕ) → e < 2048 → a ≡ edgeDataAt es e .active → a ≡ true → t′ ≡ set t e (count + 1) → Numbering (activeBelow es (e + 1)) t′ (count + 1)
+    pub numbered-active : (a : Bool) (t′ : List ℕ) → e < length t → a ≡ edgeDataAt es e .active → a ≡ true → t′ ≡ set t e (count + 1) → Numbering (activeBelow es (e + 1)) t′ (count + 1)
     numbered-active a t′ low ea yes′ et =
         subst (λ l. Numbering l t′ (count + 1)) (sym (active-more e lt ∙ ap (λ r. activeBelow es e ++ r) (cond-true (edgeDataAt es e .active) (e ∷ []) [] (sym ea ∙ yes′))))
         (numbering-more (activeBelow es e) t count n e t′ low (active-out e lt) et)
@@ -75,12 +75,12 @@ module _ (es : List EdgeData) where
 
 -- FANS
 
--- an end of an edge is a fan or none
-abbrev pub EndOk : ℕ → Type 0
-EndOk v = (v < 2048) ⊎ (v ≡ unset)
+-- an end of an edge is a fan, below the size of the table of fans, or none
+abbrev pub EndOk : ℕ → ℕ → Type 0
+EndOk size v = (v < size) ⊎ (v ≡ unset)
 
-abbrev pub EndsOk : List EdgeData → Type 0
-EndsOk es = (x : EdgeData) → x ∈ es → EndOk (x .start) × EndOk (x .end)
+abbrev pub EndsOk : ℕ → List EdgeData → Type 0
+EndsOk size es = (x : EdgeData) → x ∈ es → EndOk size (x .start) × EndOk size (x .end)
 
 -- the records of fans
 unfoldable pub fanBytes : List ℕ → List ℕ → List ℕ
@@ -109,7 +109,7 @@ module _ (starts : List ℕ) where
       ∙ flatMap-append framed (map vertexRecord (map (fanPoint starts) met)) (vertexRecord (fanPoint starts v) ∷ [])
       ∙ ap (λ r. fanBytes starts met ++ r) (append-nil (framed (rec 22 (fanPoint starts v ∷ []))))
 
-  pub meeting-start : (before vertices : List ℕ) (at : ℕ) → vertices ≡ replicate 2048 0 → Meeting starts before at [] vertices before 0
+  pub meeting-start : (before vertices : List ℕ) (at : ℕ) → Blank vertices → Meeting starts before at [] vertices before 0
   unfolding fanBytes flatMap
   meeting-start before vertices at e = record { numbers = numbering-none vertices e; size = refl; wrote = let z : at + 10 * 0 ≡ at = omega arith in subst (λ p. Wrote before at [] before p) (sym z) (wrote-none before at) }
 
@@ -122,11 +122,11 @@ module _ (starts : List ℕ) where
     fan-old v x ex n M = subst (λ l. Meeting starts before at l vertices after count) (sym (meet-old met v (entry-in met vertices count (M .numbers) v (λ z. n (ex ∙ z))))) M
 
     -- first met
-    pub fan-new : (v x p q : ℕ) (vertices′ after′ : List ℕ) → (v ≡ unset → ⊥) → EndOk v → x ≡ getD vertices v 0 → x ≡ 0 → p ≡ getD starts v 0 → vertices′ ≡ set vertices v (count + 1)
+    pub fan-new : (v x p q : ℕ) (vertices′ after′ : List ℕ) → (v ≡ unset → ⊥) → EndOk (length vertices) v → x ≡ getD vertices v 0 → x ≡ 0 → p ≡ getD starts v 0 → vertices′ ≡ set vertices v (count + 1)
         → Wrote after (at + 10 * count) (framed (rec 22 (p ∷ []))) after′ q → Meeting starts before at met vertices after count → Meeting starts before at (meet met v) vertices′ after′ (count + 1)
     fan-new v x p q vertices′ after′ n ok′ ex z ep et w M =
         let out : ¬ (v ∈ met) = entry-out met vertices count (M .numbers) v (sym ex ∙ z) in
-        let low : v < 2048 = ⊎-elim (λ h. h) (λ e. absurd (n e)) ok′ in
+        let low : v < length vertices = ⊎-elim (λ h. h) (λ e. absurd (n e)) ok′ in
         let place : q ≡ at + 10 * (count + 1) = omega (arith, w .1, length-record 22 (p ∷ [])) in
         let now′ : Wrote after (at + 10 * count) (framed (rec 22 (fanPoint starts v ∷ []))) after′ (at + 10 * (count + 1)) =
         subst (λ k. Wrote after (at + 10 * count) (framed (rec 22 (fanPoint starts v ∷ []))) after′ k) place (subst (λ k. Wrote after (at + 10 * count) (framed (rec 22 (k ∷ []))) after′ q) ep w) in
@@ -168,5 +168,5 @@ module _ (es : List EdgeData) where
   unfolding keep
   met-other e lt a = met-more e lt ∙ ap (foldl (λ met x. meet (meet met (x .start)) (x .end)) (metBelow es e)) (keep-no (λ x. x .active) (edgeDataAt es e) [] a)
 
-  pub ends-at : EndsOk es → (e : ℕ) → e < length es → EndOk (edgeDataAt es e .start) × EndOk (edgeDataAt es e .end)
-  ends-at ok′ e lt = ok′ (edgeDataAt es e) (getD-in es e noEdgeData lt)
+  pub ends-at : (size : ℕ) → EndsOk size es → (e : ℕ) → e < length es → EndOk size (edgeDataAt es e .start) × EndOk size (edgeDataAt es e .end)
+  ends-at size ok′ e lt = ok′ (edgeDataAt es e) (getD-in es e noEdgeData lt)

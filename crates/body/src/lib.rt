@@ -17,7 +17,7 @@ use shells::shell_outer;
 ghost use mathlib.Core.Path.{_≡_};
 ghost use Prim.Native.Nat.{ℕ, _+_, _*_, _<_, _≤_, _^_};
 ghost use mathlib.Core.List.{List, [], _∷_, flatMap};
-ghost use lib.ListN.{length, replicate};
+ghost use lib.ListN.{length};
 ghost use Rattle.rules.specs.Fields.{fieldBytes};
 ghost use Rattle.rules.specs.Frame.{framed, framedAll};
 ghost use Rattle.rules.specs.Join.{edgeDataAt, activeEdges};
@@ -29,7 +29,7 @@ ghost use Rattle.job.specs.Lists.{facesIn};
 ghost use Rattle.edges.specs.Table.{rowsIn, faceLoopsIn};
 ghost use Rattle.vertex_loops.specs.Kept.{keptIn};
 ghost use Rattle.shells.specs.Table.{nestedIn};
-ghost use Rattle.body.specs.Numbers.{Numbering, numberOf, vertexIn};
+ghost use Rattle.body.specs.Numbers.{Blank, Numbering, numberOf, vertexIn};
 ghost use Rattle.body.specs.Vertices.{EndOk, EndsOk, Meeting, metBelow, activeBelow};
 ghost use Rattle.body.specs.Rows.{totalsIn, vertexAndEdgeBytes, edgeRow, itemRow, loopRow, loopRows, vertexLoopRow, vertexLoopRows, faceHead, shellFaceRow, voidRow, voidRows, lumpRow};
 ghost use Rattle.body.specs.Sized.{LoopsSized, BodySized};
@@ -75,6 +75,17 @@ fn put_totals(out: &mut [u8], solid: usize, t: Totals) -> usize
 
 // NUMBERS
 
+// A table all 0.
+fn blank(table: &mut [u32])
+    ensures { λ _. ⌜ Blank (now (table .exit)) ⌝ }
+{
+    let mut i: usize = 0;
+    while i < table.len() {
+        table[i] = 0;
+        i += 1;
+    }
+}
+
 // The number of v in a table that has each number plus one, and 0 for none; without a number, how many numbers there are.
 fn number_of(numbers: &[u32], count: usize, v: usize) -> usize
     ensures { λ r. ⌜ r ≡ numberOf (now (numbers .entry)) count v ⌝ }
@@ -88,7 +99,7 @@ fn number_of(numbers: &[u32], count: usize, v: usize) -> usize
 
 // Edge e takes the next number where it is active. Gives how many edges have numbers then.
 fn number_edge(rows: &[u32], numbers: &mut [u32], count: usize, e: usize) -> usize
-    requires { ⌜ Numbering (activeBelow (rowsIn (now rows)) e) (now numbers) count × (e < length (rowsIn (now rows))) × (e < 2048) ⌝ }
+    requires { ⌜ Numbering (activeBelow (rowsIn (now rows)) e) (now numbers) count × (e < length (rowsIn (now rows))) × (e < 2048) × (e < length (now numbers)) ⌝ }
     ensures { λ r. ⌜ Numbering (activeBelow (rowsIn (now (rows .entry))) (e + 1)) (now (numbers .exit)) r ⌝ }
 {
     if edge_active(rows, e) {
@@ -100,7 +111,7 @@ fn number_edge(rows: &[u32], numbers: &mut [u32], count: usize, e: usize) -> usi
 
 // Active edges are renumbered from 0, in a table all 0 at first. Gives how many there are.
 fn number_edges(rows: &[u32], numbers: &mut [u32]) -> usize
-    requires { ⌜ (length (now rows) ≤ 14336) × (now numbers ≡ replicate 2048 0) ⌝ }
+    requires { ⌜ (length (now rows) ≤ 14336) × (length (now rows) ≤ 7 * length (now numbers)) × Blank (now numbers) ⌝ }
     ensures { λ r. ⌜ Numbering (activeEdges (rowsIn (now (rows .entry)))) (now (numbers .exit)) r ⌝ }
 {
     let n = rows.len() / 7;
@@ -126,7 +137,7 @@ fn meet_fan(
     at: usize,
 ) -> usize
     requires { ⌜ (at < 2 ^ 58) × (count < 8192) ⌝ }
-    ensures { λ r. ⌜ (r ≤ count + 1) × ((before met : List ℕ) → EndOk v → Meeting (now (starts .entry)) before at met (now (vertices .entry)) (now (out .entry)) count → Meeting (now (starts .entry)) before at (meet met v) (now (vertices .exit)) (now (out .exit)) r) ⌝ }
+    ensures { λ r. ⌜ (r ≤ count + 1) × ((before met : List ℕ) → EndOk (length (now (vertices .entry))) v → Meeting (now (starts .entry)) before at met (now (vertices .entry)) (now (out .entry)) count → Meeting (now (starts .entry)) before at (meet met v) (now (vertices .exit)) (now (out .exit)) r) ⌝ }
 {
     if v == UNSET {
         return count;
@@ -149,7 +160,7 @@ fn meet_ends(
     out: &mut [u8],
     at: usize,
 ) -> usize
-    requires { ⌜ (at < 2 ^ 58) × (count < 8190) × EndsOk (rowsIn (now rows)) × (e < length (rowsIn (now rows))) ⌝ }
+    requires { ⌜ (at < 2 ^ 58) × (count < 8190) × EndsOk (length (now vertices)) (rowsIn (now rows)) × (e < length (rowsIn (now rows))) ⌝ }
     ensures { λ r. ⌜ (r ≤ count + 2) × ((before : List ℕ) → Meeting (now (starts .entry)) before at (metBelow (rowsIn (now (rows .entry))) e) (now (vertices .entry)) (now (out .entry)) count → Meeting (now (starts .entry)) before at (metBelow (rowsIn (now (rows .entry))) (e + 1)) (now (vertices .exit)) (now (out .exit)) r) ⌝ }
 {
     if edge_active(rows, e) {
@@ -170,7 +181,7 @@ fn put_vertices(
     out: &mut [u8],
     at: usize,
 ) -> usize
-    requires { ⌜ (at < 2 ^ 58) × (length (now rows) ≤ 14336) × EndsOk (rowsIn (now rows)) × (now vertices ≡ replicate 2048 0) ⌝ }
+    requires { ⌜ (at < 2 ^ 58) × (length (now rows) ≤ 14336) × EndsOk (length (now vertices)) (rowsIn (now rows)) × Blank (now vertices) ⌝ }
     ensures { λ r. ⌜ (r ≤ 4096) × Meeting (now (starts .entry)) (now (out .entry)) at (metFans (stillActive (rowsIn (now (rows .entry))))) (now (vertices .exit)) (now (out .exit)) r ⌝ }
 {
     let n = rows.len() / 7;
@@ -357,20 +368,21 @@ fn put_faces(
     members: &[u32],
     kept: &[u32],
     k: usize,
+    numbers: &mut [u32],
     out: &mut [u8],
     at: usize,
 ) -> usize
-    requires { ⌜ (at < 2 ^ 53) × (c .faces ≤ 256) × (length (now rows) ≤ 14336) × LoopsSized (now items) (now stretches) (now faces) × (k ≤ 1024) × (length (now members) ≤ 256) ⌝ }
+    requires { ⌜ (at < 2 ^ 53) × (c .faces ≤ 256) × (length (now rows) ≤ 14336) × (length (now rows) ≤ 7 * length (now numbers)) × LoopsSized (now items) (now stretches) (now faces) × (k ≤ 1024) × (length (now members) ≤ 256) ⌝ }
     ensures { λ r. ⌜ Wrote (now (out .entry)) at (framedAll (flatMap faceRecords (bodyFaces (facesIn (now (job .entry)) (now (index .entry)) c) (activeEdges (rowsIn (now (rows .entry)))) (faceLoopsIn (now (items .entry)) (now (stretches .entry)) (now (faces .entry))) (keptIn k (now (kept .entry))) 0 (now (members .entry))))) (now (out .exit)) r × (r ≤ at + 8595705344) ⌝ }
 {
-    let mut numbers = [0u32; 2048];
-    let count = number_edges(rows, &mut numbers);
+    blank(numbers);
+    let count = number_edges(rows, numbers);
     let mut p = at;
     let mut f: usize = 0;
     while f < members.len() {
         let m = get(members, f);
         let q = put_face(job, index, c, m, out, p);
-        let s = put_loops(items, stretches, faces, &numbers, count, f, out, q);
+        let s = put_loops(items, stretches, faces, numbers, count, f, out, q);
         p = put_vertex_loops(kept, k, f, out, s);
         f += 1;
     }
@@ -521,16 +533,21 @@ fn put_lumps(
 // THE BODY
 
 // The records of vertices and edges, from byte 30 on, after the totals.
-fn put_vertices_and_edges(rows: &[u32], starts: &[u32], out: &mut [u8]) -> usize
-    requires { ⌜ (length (now rows) ≤ 14336) × EndsOk (rowsIn (now rows)) ⌝ }
+fn put_vertices_and_edges(
+    rows: &[u32],
+    starts: &[u32],
+    vertices: &mut [u32],
+    out: &mut [u8],
+) -> usize
+    requires { ⌜ (length (now rows) ≤ 14336) × EndsOk (length (now vertices)) (rowsIn (now rows)) ⌝ }
     ensures { λ r. ⌜ Wrote (now (out .entry)) 30 (vertexAndEdgeBytes (now (starts .entry)) (rowsIn (now (rows .entry)))) (now (out .exit)) r × (r ≤ 86046) ⌝ }
 {
-    let mut vertices = [0u32; 2048];
-    let count = put_vertices(rows, starts, &mut vertices, out, 30);
-    put_edges(rows, &vertices, count, out, 30 + 10 * count)
+    blank(vertices);
+    let count = put_vertices(rows, starts, vertices, out, 30);
+    put_edges(rows, vertices, count, out, 30 + 10 * count)
 }
 
-// All records of a body of k kept vertex loops and n shells.
+// All records of a body of k kept vertex loops and n shells; `numbers` and `vertices` are spare tables.
 fn put_records(
     totals: Totals,
     job: &[u8],
@@ -547,13 +564,15 @@ fn put_records(
     boundaries: &[u32],
     table: &[u32],
     n: usize,
+    numbers: &mut [u32],
+    vertices: &mut [u32],
     out: &mut [u8],
 ) -> usize
-    requires { ⌜ BodySized c (now rows) (now items) (now stretches) (now faces) (now members) k n ⌝ }
+    requires { ⌜ BodySized c (now rows) (now items) (now stretches) (now faces) (now members) k n (now numbers) (now vertices) ⌝ }
     ensures { λ r. ⌜ Wrote (now (out .entry)) 0 (framedAll (bodyRecords (solidBody (totalsIn totals) (facesIn (now (job .entry)) (now (index .entry)) c) (now (starts .entry)) (rowsIn (now (rows .entry))) (faceLoopsIn (now (items .entry)) (now (stretches .entry)) (now (faces .entry))) (now (members .entry)) (keptIn k (now (kept .entry))) (lumps (nestedIn (now (boundaries .entry)) (now (members .entry)) n (now (table .entry))))))) (now (out .exit)) r ⌝ }
 {
     put_totals(out, 1, totals);
-    let p = put_vertices_and_edges(rows, starts, out);
+    let p = put_vertices_and_edges(rows, starts, vertices, out);
     let q = put_faces(
         job,
         index,
@@ -565,6 +584,7 @@ fn put_records(
         members,
         kept,
         k,
+        numbers,
         out,
         p,
     );
@@ -589,7 +609,8 @@ pub fn put_empty(out: &mut [u8]) -> Ending
     Ending::Written(30)
 }
 
-// The body of a job with faces, of k kept vertex loops and n shells: all records, or refusal 40 with the bytes needed.
+// The body of a job with faces, of k kept vertex loops and n shells: all records, or refusal 40 with the bytes
+// needed. `numbers` and `vertices` are spare tables with an entry for each edge and each fan.
 pub fn put_body(
     totals: Totals,
     job: &[u8],
@@ -606,9 +627,11 @@ pub fn put_body(
     boundaries: &[u32],
     table: &[u32],
     n: usize,
+    numbers: &mut [u32],
+    vertices: &mut [u32],
     out: &mut [u8],
 ) -> Ending
-    requires { ⌜ BodySized c (now rows) (now items) (now stretches) (now faces) (now members) k n ⌝ }
+    requires { ⌜ BodySized c (now rows) (now items) (now stretches) (now faces) (now members) k n (now numbers) (now vertices) ⌝ }
     ensures { λ r. ⌜ Ends (fitting (length (now (out .entry))) (framedAll (bodyRecords (solidBody (totalsIn totals) (facesIn (now (job .entry)) (now (index .entry)) c) (now (starts .entry)) (rowsIn (now (rows .entry))) (faceLoopsIn (now (items .entry)) (now (stretches .entry)) (now (faces .entry))) (now (members .entry)) (keptIn k (now (kept .entry))) (lumps (nestedIn (now (boundaries .entry)) (now (members .entry)) n (now (table .entry)))))))) (now (out .entry)) (now (out .exit)) r ⌝ }
 {
     let mut none = [0u8; 1];
@@ -628,6 +651,8 @@ pub fn put_body(
         boundaries,
         table,
         n,
+        numbers,
+        vertices,
         &mut none,
     );
     if out.len() < needed {
@@ -649,6 +674,8 @@ pub fn put_body(
         boundaries,
         table,
         n,
+        numbers,
+        vertices,
         out,
     );
     Ending::Written(needed)

@@ -42,7 +42,7 @@ use Rattle.progress.specs.declared.Figures.{Figures}
 use Rattle.progress.specs.Chain.{afterLumps, afterNesting}
 use Rattle.progress.specs.Known.{boundariesIn, membersIn}
 use Rattle.rebuild.specs.Ended.{FanOrNone, Ended}
-use Rattle.rebuild.specs.Sizes.{Sizes, Holds, Tables}
+use Rattle.rebuild.specs.Sizes.{Sizes, Holds, Tables, Spare}
 use Rattle.rebuild.specs.Homes.{shelled-count, shelled-few}
 use Rattle.rebuild.specs.Lumped.{shellCount, lumpTests}
 use Rattle.progress.specs.Endings.{ends-as, ends-refused, asked, unasked}
@@ -71,14 +71,14 @@ module _ {bytes ix : List ℕ} {c : Counts} {us : List Use} {m : Faces} {names :
   pub shells-few : (n : ℕ) (t : List ℕ) → Shelled (boundariesIn c m) (membersIn m) n t → n ≤ 256
   shells-few n t S = omega (arith, shelled-few (boundariesIn c m) (membersIn m) n t S, faces-few)
 
-  end-ok : (v : ℕ) → FanOrNone names v → EndOk v
-  end-ok v e = ⊎-elim (λ p. inr p) (λ p. inl (Z .below v p)) e
+  end-ok : (size v : ℕ) → length us ≤ size → FanOrNone names v → EndOk size v
+  end-ok size v h e = ⊎-elim (λ p. inr p) (λ p. inl (omega (arith, Z .below v p))) e
 
-  ends-ok : (es : List EdgeData) → Ended names es → EndsOk es
-  ends-ok es E x i =
+  ends-ok : (size : ℕ) (es : List EdgeData) → length us ≤ size → Ended names es → EndsOk size es
+  ends-ok size es h E x i =
       let r = in-getD noEdgeData i in
       let e = E (r .0) in
-      (subst (λ (d : EdgeData). EndOk (d .start)) (r .2) (end-ok _ (e .0)), subst (λ (d : EdgeData). EndOk (d .end)) (r .2) (end-ok _ (e .1)))
+      (subst (λ (d : EdgeData). EndOk size (d .start)) (r .2) (end-ok size _ h (e .0)), subst (λ (d : EdgeData). EndOk size (d .end)) (r .2) (end-ok size _ h (e .1)))
 
   -- the rows of n edges
   pub rows-room : (rows : List ℕ) (n : ℕ) (items stretches faces : List ℕ) → Tables names rows n items stretches faces → 7 * n ≤ length rows
@@ -87,12 +87,13 @@ module _ {bytes ix : List ℕ} {c : Counts} {us : List Use} {m : Faces} {names :
   pub rows-cut : (rows : List ℕ) (n : ℕ) (items stretches faces : List ℕ) → Tables names rows n items stretches faces → 7 * n ≡ length (take (7 * n) rows)
   rows-cut rows n items stretches faces T = sym (length-take-le (7 * n) rows (rows-room rows n items stretches faces T))
 
-  pub body-sized : (rows : List ℕ) (k : ℕ) (items stretches faces : List ℕ) (n : ℕ) (t : List ℕ) → Tables names rows k items stretches faces → Shelled (boundariesIn c m) (membersIn m) n t
-      → BodySized c (take (7 * k) rows) items stretches faces (membersIn m) (g .kept) n
-  body-sized rows k items stretches faces n t T S = record {
+  pub body-sized : (rows : List ℕ) (k : ℕ) (items stretches faces : List ℕ) (n : ℕ) (t numbers vertices : List ℕ) → Tables names rows k items stretches faces → Shelled (boundariesIn c m) (membersIn m) n t
+      → Spare (length us) rows numbers vertices → BodySized c (take (7 * k) rows) items stretches faces (membersIn m) (g .kept) n numbers vertices
+  body-sized rows k items stretches faces n t numbers vertices T S P = record {
     few-faces = Z .limited .faces;
     few-edges = omega (arith, T .few, length-take (7 * k) rows);
-    ends = ends-ok (rowsTo rows k) (T .ended);
+    ends = ends-ok (length vertices) (rowsTo rows k) (P .vertices-room) (T .ended);
+    room = omega (arith, P .numbers-room, length-take (7 * k) rows);
     loops = record { laid = T .laid; few-items = T .items-few; few = T .faces-few; room = T .loops };
     few-members = members-few;
     few-kept = Z .kept;

@@ -33,7 +33,7 @@ use Rattle.progress.specs.Chain.{afterFans, afterEdges}
 use Rattle.progress.specs.Known.{boundariesIn, numbersIn, walkedIn, Settled}
 use Rattle.progress.specs.KnownLaws.{settled-ground}
 use Rattle.rebuild.specs.Ended.{Ended, first-ended}
-use Rattle.rebuild.specs.Sizes.{Fanning, Holds, Tables, Roomy, linable, fanned-names, fanned-holds}
+use Rattle.rebuild.specs.Sizes.{Fanning, Holds, Tables, Spare, Roomy, settled-twins, linable, fanned-names, fanned-holds}
 use Rattle.rebuild.specs.Lined.{Linable, Lined}
 use Rattle.progress.specs.Endings.{ends-as, ends-refused, asked, unasked}
 
@@ -110,10 +110,10 @@ module _ {bytes ix : List ℕ} {c : Counts} {us : List Use} {ts : List ℕ} {m :
         (first-ended j (walkedIn c m us ts rm (g .kept) kept) (settled-ground bytes ix c us ts m rm ss kept g S))
 
     -- in tables that have room for them
-    module _ (rows₀ owns₀ items₀ stretches₀ faces₀ : List ℕ) (R : Roomy (length ts) rows₀ owns₀ items₀ stretches₀ faces₀)
+    module _ (rows₀ owns₀ items₀ stretches₀ faces₀ vertices : List ℕ) (R : Roomy (length ts) rows₀ owns₀ items₀ stretches₀ faces₀ vertices)
         (er : length rows ≡ length rows₀) (ei : length items ≡ length items₀) (es : length stretches ≡ length stretches₀) (ef : length faces ≡ length faces₀) where
       abbrev K : Linable ts rm ss rows₀ owns₀ items₀ stretches₀ faces₀
-      K = linable S rows₀ owns₀ items₀ stretches₀ faces₀ R
+      K = linable S rows₀ owns₀ items₀ stretches₀ faces₀ vertices R
 
       pub loops-room : loops ≤ length faces
       loops-room = omega (arith, ef, K .faces-size, L .few-loops)
@@ -124,6 +124,10 @@ module _ {bytes ix : List ℕ} {c : Counts} {us : List Use} {ts : List ℕ} {m :
       -- for twice as many edges, too
       pub twice-room : 14 * edges ≤ length rows
       twice-room = omega (arith, er, K .rows-size, L .few-edges)
+
+      -- the owners and vertices are spare
+      pub drawn-spare : (owns : List ℕ) → length owns ≡ length owns₀ → Spare (length us) rows owns vertices
+      drawn-spare owns eo = record { numbers-room = omega (arith, er, eo, R .rows-size, R .owns-size); vertices-room = omega (arith, R .vertices-size, settled-twins S) }
 
       pub edges-few : edges ≤ 1024
       edges-few = omega (arith, L .few-edges, K .uses)

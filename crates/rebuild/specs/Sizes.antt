@@ -52,7 +52,7 @@ pub record Sizes (bytes ix : List ℕ) (c : Counts) (us : List Use) (m : Faces) 
   pub merged : m .merged ≤ 256
   pub kept : g .kept ≤ 1024
   pub nodup : Nodup names
-  pub below : (v : ℕ) → v ∈ names → v < 2048
+  pub below : (v : ℕ) → v ∈ names → v < length us
 
 -- what later stages use of the fans and of the walks they are made of
 pub record Holds (c : Counts) (us : List Use) (ts : List ℕ) (m : Faces) (kept : List ℕ) (g : Figures) (names starts : List ℕ) (f : Fanned) : Type 0 where
@@ -76,30 +76,44 @@ pub record Tables (names rows : List ℕ) (n : ℕ) (items stretches faces : Lis
   pub faces-few : length faces ≤ 2048
   pub ended : Ended names (rowsTo rows n)
 
--- tables for the edges, their owners, and the loops of n uses
-pub record Roomy (n : ℕ) (rows owns items stretches faces : List ℕ) : Type 0 where
-  pub rows-size : 7 * n ≤ length rows
+-- spare tables with an entry for each edge of a table of edges, and for each of n uses
+pub record Spare (n : ℕ) (rows numbers vertices : List ℕ) : Type 0 where
+  pub numbers-room : length rows ≤ 7 * length numbers
+  pub vertices-room : n ≤ length vertices
+
+pub spare-same : (n : ℕ) (rows rows′ numbers vertices : List ℕ) → Spare n rows numbers vertices → length rows′ ≡ length rows → Spare n rows′ numbers vertices
+spare-same n rows rows′ numbers vertices P e = record { numbers-room = omega (arith, P .numbers-room, e); vertices-room = P .vertices-room }
+
+-- tables for the edges, their owners, the loops, and the vertices of n uses
+pub record Roomy (n : ℕ) (rows owns items stretches faces vertices : List ℕ) : Type 0 where
+  pub rows-size : length rows ≡ 7 * n
   pub owns-size : length owns ≡ n
   pub owns-blank : (k : ℕ) → getD owns k 0 ≡ 0
   pub items-size : length items ≡ n
   pub stretches-size : length stretches ≡ 2 * n
   pub faces-size : length faces ≡ n
+  pub vertices-size : length vertices ≡ n
 
 -- cut from blank tables with room for them
 pub roomy : (n size rows pairs : ℕ) → n ≤ size → 7 * n ≤ rows → 2 * n ≤ pairs
-    → Roomy n (take (7 * n) (zeros rows)) (take n (zeros size)) (take n (zeros size)) (take (2 * n) (zeros pairs)) (take n (zeros size))
+    → Roomy n (take (7 * n) (zeros rows)) (take n (zeros size)) (take n (zeros size)) (take (2 * n) (zeros pairs)) (take n (zeros size)) (take n (zeros size))
 roomy n size rows pairs h r p = record {
-  rows-size = omega (arith, part-size (7 * n) rows r);
+  rows-size = sym (part-size (7 * n) rows r);
   owns-size = sym (part-size n size h);
   owns-blank = λ k. part-at n size k h;
   items-size = sym (part-size n size h);
   stretches-size = sym (part-size (2 * n) pairs p);
   faces-size = sym (part-size n size h);
+  vertices-size = sym (part-size n size h);
 }
 
--- no more names than uses
-pub names-few : (names : List ℕ) → Nodup names → ((v : ℕ) → v ∈ names → v < 2048) → length names ≤ 2048
-names-few names nodup low = pigeon-below 2048 names nodup low
+-- names are uses, and no more than those
+module _ {bytes ix : List ℕ} {c : Counts} {us : List Use} {m : Faces} {names : List ℕ} {g : Figures} (Z : Sizes bytes ix c us m names g) where
+  pub names-low : (v : ℕ) → v ∈ names → v < 2048
+  names-low v i = omega (arith, Z .below v i, Z .uses)
+
+  pub names-few : length names ≤ 2048
+  names-few = pigeon-below 2048 names (Z .nodup) names-low
 
 -- labels that are lowest members of at most 256 are below 256
 low-labels : (labels : List ℕ) → Lowest labels → length labels ≤ 256 → LowLabels labels
@@ -165,8 +179,8 @@ module _ {bytes ix : List ℕ} {c : Counts} {us : List Use} {ts : List ℕ} {m :
   settled-low = low-labels (boundariesIn c m) settled-lowest (omega (arith, settled-cut, settled-limited .faces))
 
   -- the tables of edges and loops
-  pub linable : (rows owns items stretches faces : List ℕ) → Roomy (length ts) rows owns items stretches faces → Linable ts rm ss rows owns items stretches faces
-  linable rows owns items stretches faces R =
+  pub linable : (rows owns items stretches faces vertices : List ℕ) → Roomy (length ts) rows owns items stretches faces vertices → Linable ts rm ss rows owns items stretches faces
+  linable rows owns items stretches faces vertices R =
       let same : length ts ≡ length ss = settled-twins ∙ sym settled-succ in
       record {
         permuted = settled-walks;
@@ -210,7 +224,7 @@ module _ {bytes ix : List ℕ} {c : Counts} {us : List Use} {ts : List ℕ} {m :
     merged = S .grouped .few;
     kept = omega (arith, S .few, settled-limited S .loops);
     nodup = subst Nodup (sym fanned-names) (fanned-hold .nodup);
-    below = λ v i. let b = named-below v (subst (λ l. v ∈ l) fanned-names i) in omega (arith, b, settled-few S);
+    below = λ v i. named-below v (subst (λ l. v ∈ l) fanned-names i);
   }
 
   pub fanned-holds : Holds c us ts m kept g names starts (fansOf (jobIn bytes ix c) (walkedIn c m us ts rm (g .kept) kept))

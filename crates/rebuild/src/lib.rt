@@ -1,8 +1,8 @@
 // The second half of sewing, from the walks to the body. Each function fills one stage's tables, ends where that stage was
 // asked for or something is refused, and else hands the tables on: of the walks `uses`, `twins`, `removed`, `succ` and
 // `kept`; of the fans `fans`, `names` and `starts`; the edges as `rows`, the loops as `items`, `stretches` and `faces`; the
-// shells as `table`. Tables are made in two sizes, for small parts and for all others: clearing tables of the limits' size
-// costs more than all else of a small part.
+// shells as `table`; `numbers` and `vertices` are spare, for the body. Tables are made in two sizes, for small parts and
+// for all others: clearing tables of the limits' size costs more than all else of a small part.
 use body::Totals;
 use body::put_body;
 use contact::Clear;
@@ -43,7 +43,7 @@ ghost use Rattle.shells.specs.Table.{shellsIn, nestedIn, Shelled};
 ghost use Rattle.maximal_edges.specs.Joined.{stateIn};
 ghost use Rattle.progress.specs.Chain.{afterLoops, afterFans, afterEdges, afterJoining, afterShells, afterNesting};
 ghost use Rattle.progress.specs.Known.{boundariesIn, numbersIn, membersIn, walkedIn, Settled};
-ghost use Rattle.rebuild.specs.Sizes.{Fanning, Sizes, Holds, Tables, Roomy};
+ghost use Rattle.rebuild.specs.Sizes.{Fanning, Sizes, Holds, Tables, Spare, Roomy};
 ghost use Rattle.rebuild.specs.Lined.{Linable, Lined};
 ghost use Rattle.rebuild.specs.Homes.{LowHomes};
 ghost use Rattle.rebuild.specs.Lumped.{Lumped, lumpTests};
@@ -161,9 +161,11 @@ fn on_nested(
     faces: &[u32],
     table: &[u32],
     n: usize,
+    numbers: &mut [u32],
+    vertices: &mut [u32],
     out: &mut [u8],
 ) -> Ending
-    requires { ⌜ Sizes (now job) (now index) c (usesIn (now uses)) m (now names) g × Tables (now names) (now rows) (k .edges) (now items) (now stretches) (now faces) × Shelled (boundariesIn c m) (membersIn m) n (now table) × LowHomes n (now table) ⌝ }
+    requires { ⌜ Sizes (now job) (now index) c (usesIn (now uses)) m (now names) g × Tables (now names) (now rows) (k .edges) (now items) (now stretches) (now faces) × Shelled (boundariesIn c m) (membersIn m) n (now table) × LowHomes n (now table) × Spare (length (usesIn (now uses))) (now rows) (now numbers) (now vertices) ⌝ }
     ensures { λ r. ⌜ ((f : Fanned) → Holds c (usesIn (now (uses .entry))) (now (twins .entry)) m (now (kept .entry)) g (now (names .entry)) (now (starts .entry)) f → Ends (afterNesting stage (jobIn (now (job .entry)) (now (index .entry)) c) (record { fan = f; joining = stateIn (now (rows .entry)) (k .edges) (now (items .entry)) (now (stretches .entry)) (now (faces .entry)) (k .joins) (k .rings) }) (length (now (out .entry))) (nestedIn (boundariesIn c m) (membersIn m) n (now (table .entry)))) (now (out .entry)) (now (out .exit)) r) ⌝ }
 {
     let boundaries = m.boundaries;
@@ -201,6 +203,8 @@ fn on_nested(
         &boundaries[..c.faces],
         table,
         n,
+        numbers,
+        vertices,
         out,
     )
 }
@@ -244,9 +248,11 @@ fn on_shelled(
     faces: &[u32],
     table: &mut [u32],
     n: usize,
+    numbers: &mut [u32],
+    vertices: &mut [u32],
     out: &mut [u8],
 ) -> Ending
-    requires { ⌜ Sizes (now job) (now index) c (usesIn (now uses)) m (now names) g × Tables (now names) (now rows) (k .edges) (now items) (now stretches) (now faces) × Shelled (boundariesIn c m) (membersIn m) n (now table) ⌝ }
+    requires { ⌜ Sizes (now job) (now index) c (usesIn (now uses)) m (now names) g × Tables (now names) (now rows) (k .edges) (now items) (now stretches) (now faces) × Shelled (boundariesIn c m) (membersIn m) n (now table) × Spare (length (usesIn (now uses))) (now rows) (now numbers) (now vertices) ⌝ }
     ensures { λ r. ⌜ ((f : Fanned) → Holds c (usesIn (now (uses .entry))) (now (twins .entry)) m (now (kept .entry)) g (now (names .entry)) (now (starts .entry)) f → Ends (afterShells stage (jobIn (now (job .entry)) (now (index .entry)) c) (record { fan = f; joining = stateIn (now (rows .entry)) (k .edges) (now (items .entry)) (now (stretches .entry)) (now (faces .entry)) (k .joins) (k .rings) }) (length (now (out .entry))) (shellsIn (boundariesIn c m) (membersIn m) n (now (table .entry)))) (now (out .entry)) (now (out .exit)) r) ⌝ }
 {
     if stage == SHELLS {
@@ -276,6 +282,8 @@ fn on_shelled(
             faces,
             table,
             all,
+            numbers,
+            vertices,
             out,
         ),
     }
@@ -299,9 +307,11 @@ fn on_joined(
     items: &[u32],
     stretches: &[u32],
     faces: &[u32],
+    numbers: &mut [u32],
+    vertices: &mut [u32],
     out: &mut [u8],
 ) -> Ending
-    requires { ⌜ Sizes (now job) (now index) c (usesIn (now uses)) m (now names) g × Tables (now names) (now rows) (k .edges) (now items) (now stretches) (now faces) ⌝ }
+    requires { ⌜ Sizes (now job) (now index) c (usesIn (now uses)) m (now names) g × Tables (now names) (now rows) (k .edges) (now items) (now stretches) (now faces) × Spare (length (usesIn (now uses))) (now rows) (now numbers) (now vertices) ⌝ }
     ensures { λ r. ⌜ ((f : Fanned) → Holds c (usesIn (now (uses .entry))) (now (twins .entry)) m (now (kept .entry)) g (now (names .entry)) (now (starts .entry)) f → Ends (afterJoining stage (jobIn (now (job .entry)) (now (index .entry)) c) (length (now (out .entry))) (record { fan = f; joining = stateIn (now (rows .entry)) (k .edges) (now (items .entry)) (now (stretches .entry)) (now (faces .entry)) (k .joins) (k .rings) })) (now (out .entry)) (now (out .exit)) r) ⌝ }
 {
     if stage == JOINING {
@@ -339,6 +349,8 @@ fn on_joined(
             faces,
             &mut table,
             n,
+            numbers,
+            vertices,
             out,
         ),
     }
@@ -364,9 +376,11 @@ fn on_edged(
     items: &mut [u32],
     stretches: &mut [u32],
     faces: &[u32],
+    numbers: &mut [u32],
+    vertices: &mut [u32],
     out: &mut [u8],
 ) -> Ending
-    requires { ⌜ Sizes (now job) (now index) c (usesIn (now uses)) m (now names) g × Tables (now names) (now rows) count (now items) (now stretches) (now faces) × (count ≤ 1024) × (14 * count ≤ length (now rows)) ⌝ }
+    requires { ⌜ Sizes (now job) (now index) c (usesIn (now uses)) m (now names) g × Tables (now names) (now rows) count (now items) (now stretches) (now faces) × (count ≤ 1024) × (14 * count ≤ length (now rows)) × Spare (length (usesIn (now uses))) (now rows) (now numbers) (now vertices) ⌝ }
     ensures { λ r. ⌜ ((f : Fanned) → Holds c (usesIn (now (uses .entry))) (now (twins .entry)) m (now (kept .entry)) g (now (names .entry)) (now (starts .entry)) f → Ends (afterEdges stage (jobIn (now (job .entry)) (now (index .entry)) c) (length (now (out .entry))) (record { fan = f; joining = stateIn (now (rows .entry)) count (now (items .entry)) (now (stretches .entry)) (now (faces .entry)) 0 0 })) (now (out .entry)) (now (out .exit)) r) ⌝ }
 {
     if stage == EDGES {
@@ -392,6 +406,8 @@ fn on_edged(
             items,
             stretches,
             faces,
+            numbers,
+            vertices,
             out,
         ),
     }
@@ -449,7 +465,7 @@ fn make_edges(
     Lengths { edges, loops }
 }
 
-// The fans do not touch: their edges and loops, then the stage `edges`.
+// The fans do not touch: their edges and loops, then the stage `edges`. `owns` is spare after that.
 fn on_apart(
     stage: usize,
     job: &[u8],
@@ -470,9 +486,10 @@ fn on_apart(
     items: &mut [u32],
     stretches: &mut [u32],
     faces: &mut [u32],
+    vertices: &mut [u32],
     out: &mut [u8],
 ) -> Ending
-    requires { ⌜ Fanning (now job) (now index) c (usesIn (now uses)) (now twins) m (now removed) (now succ) (now kept) g (now fans) (now names) (now starts) × Roomy (length (now twins)) (now rows) (now owns) (now items) (now stretches) (now faces) ⌝ }
+    requires { ⌜ Fanning (now job) (now index) c (usesIn (now uses)) (now twins) m (now removed) (now succ) (now kept) g (now fans) (now names) (now starts) × Roomy (length (now twins)) (now rows) (now owns) (now items) (now stretches) (now faces) (now vertices) ⌝ }
     ensures { λ r. ⌜ Ends (afterEdges stage (jobIn (now (job .entry)) (now (index .entry)) c) (length (now (out .entry))) (record { fan = fansOf (jobIn (now (job .entry)) (now (index .entry)) c) (walkedIn c m (usesIn (now (uses .entry))) (now (twins .entry)) (now (removed .entry)) (g .kept) (now (kept .entry))); joining = unjoined (jobIn (now (job .entry)) (now (index .entry)) c) (fansOf (jobIn (now (job .entry)) (now (index .entry)) c) (walkedIn c m (usesIn (now (uses .entry))) (now (twins .entry)) (now (removed .entry)) (g .kept) (now (kept .entry)))) })) (now (out .entry)) (now (out .exit)) r ⌝ }
 {
     let k = make_edges(
@@ -507,6 +524,8 @@ fn on_apart(
         items,
         &mut stretches[..2 * k.loops],
         &faces[..k.loops],
+        owns,
+        vertices,
         out,
     )
 }
@@ -534,9 +553,10 @@ fn on_fanned(
     items: &mut [u32],
     stretches: &mut [u32],
     faces: &mut [u32],
+    vertices: &mut [u32],
     out: &mut [u8],
 ) -> Ending
-    requires { ⌜ Fanning (now job) (now index) c (usesIn (now uses)) (now twins) m (now removed) (now succ) (now kept) g (now fans) (now names) (now starts) × Roomy (length (now twins)) (now rows) (now owns) (now items) (now stretches) (now faces) ⌝ }
+    requires { ⌜ Fanning (now job) (now index) c (usesIn (now uses)) (now twins) m (now removed) (now succ) (now kept) g (now fans) (now names) (now starts) × Roomy (length (now twins)) (now rows) (now owns) (now items) (now stretches) (now faces) (now vertices) ⌝ }
     ensures { λ r. ⌜ Ends (afterFans stage (jobIn (now (job .entry)) (now (index .entry)) c) (length (now (out .entry))) (fansOf (jobIn (now (job .entry)) (now (index .entry)) c) (walkedIn c m (usesIn (now (uses .entry))) (now (twins .entry)) (now (removed .entry)) (g .kept) (now (kept .entry))))) (now (out .entry)) (now (out .exit)) r ⌝ }
 {
     if stage == FANS {
@@ -566,12 +586,14 @@ fn on_fanned(
             items,
             stretches,
             faces,
+            vertices,
             out,
         ),
     }
 }
 
-// The fans in tables with an entry for each use, then the stage `fans`; the tables after them are for the edges.
+// The fans in tables with an entry for each use, then the stage `fans`; the tables after them are for the edges, the loops
+// and the body.
 fn make_fans(
     stage: usize,
     job: &[u8],
@@ -592,9 +614,10 @@ fn make_fans(
     items: &mut [u32],
     stretches: &mut [u32],
     faces: &mut [u32],
+    vertices: &mut [u32],
     out: &mut [u8],
 ) -> Ending
-    requires { ⌜ Settled (now job) (now index) c (usesIn (now uses)) (now twins) m (now removed) (now succ) (now kept) g × (length (now fans) ≡ length (now twins)) × (length (now names) ≡ length (now twins)) × (length (now starts) ≡ length (now twins)) × Roomy (length (now twins)) (now rows) (now owns) (now items) (now stretches) (now faces) ⌝ }
+    requires { ⌜ Settled (now job) (now index) c (usesIn (now uses)) (now twins) m (now removed) (now succ) (now kept) g × (length (now fans) ≡ length (now twins)) × (length (now names) ≡ length (now twins)) × (length (now starts) ≡ length (now twins)) × Roomy (length (now twins)) (now rows) (now owns) (now items) (now stretches) (now faces) (now vertices) ⌝ }
     ensures { λ r. ⌜ Ends (afterFans stage (jobIn (now (job .entry)) (now (index .entry)) c) (length (now (out .entry))) (fansOf (jobIn (now (job .entry)) (now (index .entry)) c) (walkedIn c m (usesIn (now (uses .entry))) (now (twins .entry)) (now (removed .entry)) (g .kept) (now (kept .entry))))) (now (out .entry)) (now (out .exit)) r ⌝ }
 {
     fans::fans(job, c, uses, twins, removed, succ, fans);
@@ -620,6 +643,7 @@ fn make_fans(
         items,
         stretches,
         faces,
+        vertices,
         out,
     )
 }
@@ -651,6 +675,7 @@ fn in_small_tables(
     let mut items = [0u32; 64];
     let mut stretches = [0u32; 128];
     let mut faces = [0u32; 64];
+    let mut vertices = [0u32; 64];
     make_fans(
         stage,
         job,
@@ -671,6 +696,7 @@ fn in_small_tables(
         &mut items[..n],
         &mut stretches[..2 * n],
         &mut faces[..n],
+        &mut vertices[..n],
         out,
     )
 }
@@ -702,6 +728,7 @@ fn in_large_tables(
     let mut items = [0u32; 2048];
     let mut stretches = [0u32; 4096];
     let mut faces = [0u32; 2048];
+    let mut vertices = [0u32; 2048];
     make_fans(
         stage,
         job,
@@ -722,6 +749,7 @@ fn in_large_tables(
         &mut items[..n],
         &mut stretches[..2 * n],
         &mut faces[..n],
+        &mut vertices[..n],
         out,
     )
 }

@@ -1,3 +1,4 @@
+use lib.ListN.{length}
 use Rattle.edges.specs.Table.{rowsIn}
 use mathlib.Core.Path.{sym, subst, _∙_}
 use Rattle.body.specs.Vertices.{EndOk, Meeting, metBelow, met-active, met-other, ends-at}
@@ -51,14 +52,15 @@ returns c = let a = c .before .before .before .before .before .before .before .b
     let y = c .before .before .before .before .meet-fan2 in
     let v = c .before .before .before .before .before .before .before .before .before .before .before .before .before .before .before .edge-start in
     let w = c .before .before .before .before .before .before .before .edge-end in
-    let ok′ = ends-at es (pre .2) (a .e) (pre .3) in (
+    let room = length (a .vertices .now) in
+    let ok′ = ends-at es room (pre .2) (a .e) (pre .3) in (
       omega (arith, x .ensures .0, y .ensures .0),
       λ before M.
           subst (λ l. Meeting (a .starts .now) before (a .at) l (y .last .1 .0) (y .last .1 .1 .1 .1 .0) (y .result)) (sym (met-active es (a .e) (pre .3) (sym (c .before .before .before .before .before .before .before .before .before .before .before .before .before .before .before .before .before .edge-active .ensures) ∙ c .before .before .before .before .before .before .before .before .before .before .before .before .before .before .before .before .if1 .taken)))
           (subst (λ k. Meeting (a .starts .now) before (a .at) (meet (meet (metBelow es (a .e)) (edgeDataAt es (a .e) .start)) k) (y .last .1 .0) (y .last .1 .1 .1 .1 .0) (y .result)) (w .ensures .0)
-          (y .ensures .1 before (meet (metBelow es (a .e)) (edgeDataAt es (a .e) .start)) (subst EndOk (sym (w .ensures .0)) (ok′ .1))
+          (y .ensures .1 before (meet (metBelow es (a .e)) (edgeDataAt es (a .e) .start)) (subst (λ s. EndOk s (w .result)) (sym (x .kept .1 .0)) (subst (EndOk room) (sym (w .ensures .0)) (ok′ .1)))
           (subst (λ k. Meeting (a .starts .now) before (a .at) (meet (metBelow es (a .e)) k) (x .last .1 .0) (x .last .1 .1 .1 .1 .0) (x .result)) (v .ensures .0)
-          (x .ensures .1 before (metBelow es (a .e)) (subst EndOk (sym (v .ensures .0)) (ok′ .0)) M)))),
+          (x .ensures .1 before (metBelow es (a .e)) (subst (EndOk room) (sym (v .ensures .0)) (ok′ .0)) M)))),
     )
 
 -- src/lib.rt:148:1

@@ -33,7 +33,7 @@ same-length c = search needs
 returns : tie.Need-returns
 returns c = let a = c .before .before .before .before .before .before .before .before .args in
     let pre = c .before .before .before .before .before .before .before .before .pre in
-    numbered-active (rowsIn (a .rows .now)) (a .numbers .now) (a .count) (a .e) (pre .0) (pre .1) (c .before .before .before .before .before .edge-active .result) (c .before .before .put .last .0) (pre .2) (c .before .before .before .before .before .edge-active .ensures) (c .before .before .before .before .if1 .taken) (c .before .before .put .ensures)
+    numbered-active (rowsIn (a .rows .now)) (a .numbers .now) (a .count) (a .e) (pre .0) (pre .1) (c .before .before .before .before .before .edge-active .result) (c .before .before .put .last .0) (pre .3) (c .before .before .before .before .before .edge-active .ensures) (c .before .before .before .before .if1 .taken) (c .before .before .put .ensures)
 
 -- src/lib.rt:95:1
 returns-2 : tie.Need-returns-2

@@ -5,44 +5,34 @@ use Rattle.vertex_loops.specs.Kept.{keptIn}
 use Rattle.shells.specs.Table.{nestedIn}
 use Rattle.body.specs.Rows.{totalsIn}
 use Rattle.body.specs.BodyLaws.{body-wrote}
+use native.Mathlib.Omega.{arith}
 use borrow.Author.Needs.{needs}
 use Rattle.body.proofs.put_records.Statement.{statement}
 use Rattle.body.proofs.put_records.Tie as tie
-use Rattle.body.proofs.put_records.Reads as reads
-use Rattle.body.proofs.put_records.Lts as lts
-use Rattle.body.proofs.put_faces.Reads as put-faces-reads
-use Rattle.body.proofs.put_lumps.Reads as put-lumps-reads
-use Rattle.body.proofs.put_totals.Reads as put-totals-reads
-use Rattle.body.proofs.put_vertices_and_edges.Reads as put-vertices-and-edges-reads
 
--- src/lib.rt:560:5
 put-totals-requires : tie.Need-put-totals-requires
 put-totals-requires c κs = search needs
 
--- src/lib.rt:561:9
 put-vertices-and-edges-requires : tie.Need-put-vertices-and-edges-requires
-put-vertices-and-edges-requires c κs = search needs
+put-vertices-and-edges-requires c κs = (c .before .before .before .before .before .before .before .before .before .before .before .before .before .before .before .before .before .before .before .before .pre .few-edges, c .before .before .before .before .before .before .before .before .before .before .before .before .before .before .before .before .before .before .before .before .pre .ends)
 
--- src/lib.rt:562:9
 put-faces-requires : tie.Need-put-faces-requires
-put-faces-requires c κs = search needs
+put-faces-requires c κs = (omega (arith, c .before .before .before .before .before .before .put-vertices-and-edges .ensures .1), c .before .before .before .before .before .before .before .before .before .before .before .before .before .before .before .before .before .before .before .before .before .before .before .before .before .before .before .pre .few-faces, c .before .before .before .before .before .before .before .before .before .before .before .before .before .before .before .before .before .before .before .before .before .before .before .before .before .before .before .pre .few-edges, c .before .before .before .before .before .before .before .before .before .before .before .before .before .before .before .before .before .before .before .before .before .before .before .before .before .before .before .pre .room, c .before .before .before .before .before .before .before .before .before .before .before .before .before .before .before .before .before .before .before .before .before .before .before .before .before .before .before .pre .loops, c .before .before .before .before .before .before .before .before .before .before .before .before .before .before .before .before .before .before .before .before .before .before .before .before .before .before .before .pre .few-kept, c .before .before .before .before .before .before .before .before .before .before .before .before .before .before .before .before .before .before .before .before .before .before .before .before .before .before .before .pre .few-members)
 
--- src/lib.rt:576:5
 put-lumps-requires : tie.Need-put-lumps-requires
-put-lumps-requires c κs = search needs
+put-lumps-requires c κs = (omega (arith, c .before .before .before .before .before .before .before .before .before .before .before .before .put-vertices-and-edges .ensures .1, c .before .before .before .before .before .put-faces .ensures .1), c .before .before .before .before .before .before .before .before .before .before .before .before .before .before .before .before .before .before .before .before .before .before .before .before .before .before .before .before .before .before .before .before .before .pre .few-members, c .before .before .before .before .before .before .before .before .before .before .before .before .before .before .before .before .before .before .before .before .before .before .before .before .before .before .before .before .before .before .before .before .before .pre .few-shells)
 
--- src/lib.rt:539:1
 same-length : tie.Need-same-length
 same-length c = search needs
 
--- src/lib.rt:539:1
+same-length-2 : tie.Need-same-length-2
+same-length-2 c = search needs
+
+same-length-3 : tie.Need-same-length-3
+same-length-3 c = search needs
+
 returns : tie.Need-returns
-returns c = let a = c .before .before .before .before .before .before .before .before .before .before .before .before .before .before .before .before .before .before .before .before .before .before .before .before .before .before .before .before .args in
-    let t = c .before .before .before .before .before .before .before .before .before .before .before .before .before .before .put-totals in
-    let x = c .before .before .before .before .before .before .before .before .before .before .put-vertices-and-edges in
-    let y = c .before .before .before .before .before .before .put-faces in
-    let z = c .before .before .put-lumps in
-    body-wrote (totalsIn (a .totals)) (facesIn (a .job .now) (a .index .now) (a .c)) (a .starts .now) (rowsIn (a .rows .now)) (faceLoopsIn (a .items .now) (a .stretches .now) (a .faces .now)) (a .members .now) (keptIn (a .k) (a .kept .now)) (lumps (nestedIn (a .boundaries .now) (a .members .now) (a .n) (a .table .now))) (a .out .now) (t .last .0) (x .last .1 .1 .0) (y .last .1 .1 .1 .1 .1 .1 .1 .1 .1 .1 .0) (z .last .1 .1 .1 .1 .0) (t .result) (x .result) (y .result) (z .result) (t .ensures .1) (t .ensures .0) (x .ensures .0) (y .ensures .0) (z .ensures)
+returns c = body-wrote (totalsIn (c .before .before .before .before .before .before .before .before .before .before .before .before .before .before .before .before .before .before .before .before .before .before .before .before .before .before .before .before .before .before .before .before .before .before .before .before .args .totals)) (facesIn (c .before .before .before .before .before .before .before .before .before .before .before .before .before .before .before .before .before .before .before .before .before .before .before .before .before .before .before .before .before .before .before .before .before .before .before .before .args .job .now) (c .before .before .before .before .before .before .before .before .before .before .before .before .before .before .before .before .before .before .before .before .before .before .before .before .before .before .before .before .before .before .before .before .before .before .before .before .args .index .now) (c .before .before .before .before .before .before .before .before .before .before .before .before .before .before .before .before .before .before .before .before .before .before .before .before .before .before .before .before .before .before .before .before .before .before .before .before .args .c)) (c .before .before .before .before .before .before .before .before .before .before .before .before .before .before .before .before .before .before .before .before .before .before .before .before .before .before .before .before .before .before .before .before .before .before .before .before .args .starts .now) (rowsIn (c .before .before .before .before .before .before .before .before .before .before .before .before .before .before .before .before .before .before .before .before .before .before .before .before .before .before .before .before .before .before .before .before .before .before .before .before .args .rows .now)) (faceLoopsIn (c .before .before .before .before .before .before .before .before .before .before .before .before .before .before .before .before .before .before .before .before .before .before .before .before .before .before .before .before .before .before .before .before .before .before .before .before .args .items .now) (c .before .before .before .before .before .before .before .before .before .before .before .before .before .before .before .before .before .before .before .before .before .before .before .before .before .before .before .before .before .before .before .before .before .before .before .before .args .stretches .now) (c .before .before .before .before .before .before .before .before .before .before .before .before .before .before .before .before .before .before .before .before .before .before .before .before .before .before .before .before .before .before .before .before .before .before .before .before .args .faces .now)) (c .before .before .before .before .before .before .before .before .before .before .before .before .before .before .before .before .before .before .before .before .before .before .before .before .before .before .before .before .before .before .before .before .before .before .before .before .args .members .now) (keptIn (c .before .before .before .before .before .before .before .before .before .before .before .before .before .before .before .before .before .before .before .before .before .before .before .before .before .before .before .before .before .before .before .before .before .before .before .before .args .k) (c .before .before .before .before .before .before .before .before .before .before .before .before .before .before .before .before .before .before .before .before .before .before .before .before .before .before .before .before .before .before .before .before .before .before .before .before .args .kept .now)) (lumps (nestedIn (c .before .before .before .before .before .before .before .before .before .before .before .before .before .before .before .before .before .before .before .before .before .before .before .before .before .before .before .before .before .before .before .before .before .before .before .before .args .boundaries .now) (c .before .before .before .before .before .before .before .before .before .before .before .before .before .before .before .before .before .before .before .before .before .before .before .before .before .before .before .before .before .before .before .before .before .before .before .before .args .members .now) (c .before .before .before .before .before .before .before .before .before .before .before .before .before .before .before .before .before .before .before .before .before .before .before .before .before .before .before .before .before .before .before .before .before .before .before .before .args .n) (c .before .before .before .before .before .before .before .before .before .before .before .before .before .before .before .before .before .before .before .before .before .before .before .before .before .before .before .before .before .before .before .before .before .before .before .before .args .table .now))) (c .before .before .before .before .before .before .before .before .before .before .before .before .before .before .before .before .before .before .before .before .before .before .before .before .before .before .before .before .before .before .before .before .before .before .before .before .args .out .now) (c .before .before .before .before .before .before .before .before .before .before .before .before .before .before .before .before .before .before .before .before .put-totals .last .0) (c .before .before .before .before .before .before .before .before .before .before .before .before .before .before .before .put-vertices-and-edges .last .1 .1 .1 .0) (c .before .before .before .before .before .before .before .before .put-faces .last .1 .1 .1 .1 .1 .1 .1 .1 .1 .1 .1 .0) (c .before .before .put-lumps .last .1 .1 .1 .1 .0) (c .before .before .before .before .before .before .before .before .before .before .before .before .before .before .before .before .before .before .before .before .put-totals .result) (c .before .before .before .before .before .before .before .before .before .before .before .before .before .before .before .put-vertices-and-edges .result) (c .before .before .before .before .before .before .before .before .put-faces .result) (c .before .before .put-lumps .result) (c .before .before .before .before .before .before .before .before .before .before .before .before .before .before .before .before .before .before .before .before .put-totals .ensures .1) (c .before .before .before .before .before .before .before .before .before .before .before .before .before .before .before .before .before .before .before .before .put-totals .ensures .0) (c .before .before .before .before .before .before .before .before .before .before .before .before .before .before .before .put-vertices-and-edges .ensures .0) (c .before .before .before .before .before .before .before .before .put-faces .ensures .0) (c .before .before .put-lumps .ensures)
 
 pub put-records-spec : {M : Type 1} → statement M
 put-records-spec =
@@ -53,4 +43,6 @@ put-records-spec =
     put-faces-requires
     put-lumps-requires
     same-length
+    same-length-2
+    same-length-3
     returns)

@@ -1,9 +1,9 @@
 use Rattle.edges.specs.Table.{rowsIn}
 use Rattle.edges.specs.TableLaws.{length-rows}
-use mathlib.Core.Path.{_≡_, sym, refl, subst}
+use mathlib.Core.Path.{_≡_, sym, refl, subst, _∙_}
 use Prim.Native.Nat.{_*_, _-_, _/_, _≤_}
 use lib.ListN.{length}
-use Rattle.body.specs.Vertices.{Meeting, metBelow, meeting-start, met-none, met-all}
+use Rattle.body.specs.Vertices.{EndsOk, Meeting, metBelow, meeting-start, met-none, met-all}
 use native.Mathlib.Omega.{arith}
 use borrow.Author.Needs.{needs}
 use Rattle.body.proofs.put_vertices.Statement.{statement}
@@ -28,7 +28,7 @@ meet-ends-requires : tie.Need-meet-ends-requires Inv-loop μ-loop
 meet-ends-requires c κs = let a = c .before .before .before .before .before .before .before .before .args in
     let pre = c .before .before .before .before .before .before .before .before .pre in
     let l = c .before .before .before .loop in
-    (pre .0, omega (arith, l .inv .1, l .inv .2, c .before .before .loop-test .taken, pre .1), pre .2, omega (arith, length-rows (a .rows .now), l .inv .1, c .before .before .loop-test .taken))
+    (pre .0, omega (arith, l .inv .1, l .inv .2, c .before .before .loop-test .taken, pre .1), subst (λ s. EndsOk s (rowsIn (a .rows .now))) (sym (l .inv .3)) (pre .2), omega (arith, length-rows (a .rows .now), l .inv .1, c .before .before .loop-test .taken))
 
 -- src/lib.rt:186:9
 add-e : tie.Need-add-e Inv-loop μ-loop
@@ -44,7 +44,7 @@ loop-again c = let a = c .before .before .before .before .before .before .before
     let l = c .before .before .before .before .before .before .before .before .loop in
     let x = c .before .before .before .before .meet-ends in
     let M = x .ensures .1 (a .out .now) (l .inv .4) in
-    (omega (arith, l .inv .1, c .before .before .before .before .before .before .before .loop-test .taken), l .inv .1, omega (arith, l .inv .2, x .ensures .0), omega (arith, l .inv .3, M .numbers .size, l .inv .4 .numbers .size), M)
+    (omega (arith, l .inv .1, c .before .before .before .before .before .before .before .loop-test .taken), l .inv .1, omega (arith, l .inv .2, x .ensures .0), x .kept .1 .1 .0 ∙ l .inv .3, M)
 
 -- src/lib.rt:171:1
 same-length : tie.Need-same-length Inv-loop μ-loop

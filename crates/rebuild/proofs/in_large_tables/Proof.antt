@@ -70,9 +70,16 @@ slice-aggregate-make-fans-8 : tie.Need-slice-aggregate-make-fans-8
 unfolding zeros
 slice-aggregate-make-fans-8 c = part-size (length (c .before .before .before .before .before .before .before .before .before .before .before .before .before .before .before .before .args .twins .now)) 2048 (settled-room (c .before .before .before .before .before .before .before .before .before .before .before .before .before .before .before .before .pre))
 
+array-borrow-prefix-vertices : tie.Need-array-borrow-prefix-vertices
+array-borrow-prefix-vertices c = settled-room (c .before .before .before .before .before .before .before .before .before .before .before .before .before .before .before .before .pre)
+
+slice-aggregate-make-fans-9 : tie.Need-slice-aggregate-make-fans-9
+unfolding zeros
+slice-aggregate-make-fans-9 c = part-size (length (c .before .before .before .before .before .before .before .before .before .before .before .before .before .before .before .before .before .args .twins .now)) 2048 (settled-room (c .before .before .before .before .before .before .before .before .before .before .before .before .before .before .before .before .before .pre))
+
 make-fans-requires : tie.Need-make-fans-requires
 unfolding zeros
-make-fans-requires c κs = (c .before .before .before .before .before .before .before .before .before .before .before .before .before .before .before .before .before .pre, sym (part-size (length (c .before .before .before .before .before .before .before .before .before .before .before .before .before .before .before .before .before .args .twins .now)) 2048 (settled-room (c .before .before .before .before .before .before .before .before .before .before .before .before .before .before .before .before .before .pre))), sym (part-size (length (c .before .before .before .before .before .before .before .before .before .before .before .before .before .before .before .before .before .args .twins .now)) 2048 (settled-room (c .before .before .before .before .before .before .before .before .before .before .before .before .before .before .before .before .before .pre))), sym (part-size (length (c .before .before .before .before .before .before .before .before .before .before .before .before .before .before .before .before .before .args .twins .now)) 2048 (settled-room (c .before .before .before .before .before .before .before .before .before .before .before .before .before .before .before .before .before .pre))), roomy (length (c .before .before .before .before .before .before .before .before .before .before .before .before .before .before .before .before .before .args .twins .now)) 2048 14336 4096 (settled-room (c .before .before .before .before .before .before .before .before .before .before .before .before .before .before .before .before .before .pre)) (omega (arith, settled-room (c .before .before .before .before .before .before .before .before .before .before .before .before .before .before .before .before .before .pre))) (omega (arith, settled-room (c .before .before .before .before .before .before .before .before .before .before .before .before .before .before .before .before .before .pre))))
+make-fans-requires c κs = (c .before .before .before .before .before .before .before .before .before .before .before .before .before .before .before .before .before .before .pre, sym (part-size (length (c .before .before .before .before .before .before .before .before .before .before .before .before .before .before .before .before .before .before .args .twins .now)) 2048 (settled-room (c .before .before .before .before .before .before .before .before .before .before .before .before .before .before .before .before .before .before .pre))), sym (part-size (length (c .before .before .before .before .before .before .before .before .before .before .before .before .before .before .before .before .before .before .args .twins .now)) 2048 (settled-room (c .before .before .before .before .before .before .before .before .before .before .before .before .before .before .before .before .before .before .pre))), sym (part-size (length (c .before .before .before .before .before .before .before .before .before .before .before .before .before .before .before .before .before .before .args .twins .now)) 2048 (settled-room (c .before .before .before .before .before .before .before .before .before .before .before .before .before .before .before .before .before .before .pre))), roomy (length (c .before .before .before .before .before .before .before .before .before .before .before .before .before .before .before .before .before .before .args .twins .now)) 2048 14336 4096 (settled-room (c .before .before .before .before .before .before .before .before .before .before .before .before .before .before .before .before .before .before .pre)) (omega (arith, settled-room (c .before .before .before .before .before .before .before .before .before .before .before .before .before .before .before .before .before .before .pre))) (omega (arith, settled-room (c .before .before .before .before .before .before .before .before .before .before .before .before .before .before .before .before .before .before .pre))))
 
 same-length : tie.Need-same-length
 same-length c = search needs
@@ -102,6 +109,8 @@ in-large-tables-spec =
     slice-aggregate-make-fans-7
     array-borrow-prefix-faces
     slice-aggregate-make-fans-8
+    array-borrow-prefix-vertices
+    slice-aggregate-make-fans-9
     make-fans-requires
     same-length
     returns)

@@ -1,97 +1,87 @@
+use lib.ListN.{length}
+use Rattle.uses.specs.Table.{usesIn}
+use Rattle.rebuild.specs.Sizes.{spare-same, names-low}
 use Rattle.maximal_edges.specs.Joined.{stateIn}
 use Rattle.rebuild.specs.JoinExits.{joined-tables, edges-written, edges-refused, edges-joined}
 use borrow.Author.Needs.{needs}
 use Rattle.rebuild.proofs.on_edged.Statement.{statement}
 use Rattle.rebuild.proofs.on_edged.Tie as tie
 
--- src/lib.rt:347:9
 write-joining-requires : tie.Need-write-joining-requires
 write-joining-requires c κs = search needs
 
--- src/lib.rt:347:9
 same-length : tie.Need-same-length
 same-length c = search needs
 
--- src/lib.rt:347:9
 same-length-2 : tie.Need-same-length-2
 same-length-2 c = search needs
 
--- src/lib.rt:347:9
 same-length-3 : tie.Need-same-length-3
 same-length-3 c = search needs
 
--- src/lib.rt:347:9
 same-length-4 : tie.Need-same-length-4
 same-length-4 c = search needs
 
--- src/lib.rt:347:9
 returns : tie.Need-returns
 returns c =
-    let a = c .before .before .before .before .before .before .before .before .before .before .before .before .before .before .before .before .before .before .before .before .args in
-    let pre = c .before .before .before .before .before .before .before .before .before .before .before .before .before .before .before .before .before .before .before .before .pre in
+    let a = c .before .before .before .before .before .before .before .before .before .before .before .before .before .before .before .before .before .before .before .before .before .before .args in
+    let pre = c .before .before .before .before .before .before .before .before .before .before .before .before .before .before .before .before .before .before .before .before .before .before .pre in
     λ f H. edges-written (a .job .now) (a .index .now) H (a .stage) (a .out .now) (stateIn (a .rows .now) (a .count) (a .items .now) (a .stretches .now) (a .faces .now) 0 0) (c .before .before .write-joining .last .1 .1 .1 .1 .1 .1 .1 .0) (c .before .before .write-joining .result) (c .before .before .before .before .before .before .before .if1 .taken) (c .before .before .write-joining .ensures)
 
--- src/lib.rt:349:9
 maximal-edges-requires : tie.Need-maximal-edges-requires
-maximal-edges-requires c κs = search needs
+maximal-edges-requires c κs = (c .before .before .before .before .before .before .before .before .before .before .before .before .before .before .before .before .before .before .pre .0 .indexed, c .before .before .before .before .before .before .before .before .before .before .before .before .before .before .before .before .before .before .pre .3, c .before .before .before .before .before .before .before .before .before .before .before .before .before .before .before .before .before .before .pre .2, c .before .before .before .before .before .before .before .before .before .before .before .before .before .before .before .before .before .before .pre .1 .laid, c .before .before .before .before .before .before .before .before .before .before .before .before .before .before .before .before .before .before .pre .0 .nodup, names-low (c .before .before .before .before .before .before .before .before .before .before .before .before .before .before .before .before .before .before .pre .0))
 
--- src/lib.rt:351:26
 enum-known-r : tie.Need-enum-known-r
 enum-known-r c = search needs
 
--- src/lib.rt:352:23
 enum-known-r-2 : tie.Need-enum-known-r-2
 enum-known-r-2 c = search needs
 
--- src/lib.rt:352:29
 on-joined-requires : tie.Need-on-joined-requires
 on-joined-requires c κs =
-    let a = c .before .before .before .before .before .before .before .before .before .before .before .before .before .before .before .before .before .before .before .before .before .before .before .before .before .before .before .before .before .before .args in
-    let pre = c .before .before .before .before .before .before .before .before .before .before .before .before .before .before .before .before .before .before .before .before .before .before .before .before .before .before .before .before .before .before .pre in
-    let run = c .before .before .before .before .before .before .before .before .before .before .before .before .before .maximal-edges in
-    (pre .0, joined-tables (a .job .now) (a .index .now) (a .c) (a .starts .now) (a .names .now) (a .rows .now) (run .last .1 .1 .1 .1 .1 .0) (a .count) (a .items .now) (run .last .1 .1 .1 .1 .1 .1 .1 .0) (a .stretches .now) (run .last .1 .1 .1 .1 .1 .1 .1 .1 .0) (a .faces .now) (run .result) (c .before .before .before .before .before .r2 .given .0 .0) (pre .1) (run .kept .1 .1 .1 .1 .1 .1 .1 .0) (run .kept .1 .1 .1 .1 .1 .1 .1 .1 .0) (run .ensures .0 (a .faces .now) (pre .1 .loops)) (run .ensures .1) (c .before .before .before .before .before .r2 .given .1))
+    let a = c .before .before .before .before .before .before .before .before .before .before .before .before .before .before .before .before .before .before .before .before .before .before .before .before .before .before .before .before .before .before .before .before .before .before .args in
+    let pre = c .before .before .before .before .before .before .before .before .before .before .before .before .before .before .before .before .before .before .before .before .before .before .before .before .before .before .before .before .before .before .before .before .before .before .pre in
+    let run = c .before .before .before .before .before .before .before .before .before .before .before .before .before .before .before .maximal-edges in
+    (pre .0, joined-tables (a .job .now) (a .index .now) (a .c) (a .starts .now) (a .names .now) (a .rows .now) (run .last .1 .1 .1 .1 .1 .0) (a .count) (a .items .now) (run .last .1 .1 .1 .1 .1 .1 .1 .0) (a .stretches .now) (run .last .1 .1 .1 .1 .1 .1 .1 .1 .0) (a .faces .now) (run .result) (c .before .before .before .before .before .before .before .r2 .given .0 .0) (pre .1) (run .kept .1 .1 .1 .1 .1 .1 .1 .0) (run .kept .1 .1 .1 .1 .1 .1 .1 .1 .0) (run .ensures .0 (a .faces .now) (pre .1 .loops)) (run .ensures .1) (c .before .before .before .before .before .before .before .r2 .given .1), spare-same (length (usesIn (a .uses .now))) (a .rows .now) (run .last .1 .1 .1 .1 .1 .0) (a .numbers .now) (a .vertices .now) (pre .4) (run .kept .1 .1 .1 .1 .1 .0))
 
--- src/lib.rt:324:1
 same-length-5 : tie.Need-same-length-5
 same-length-5 c = search needs
 
--- src/lib.rt:324:1
 same-length-6 : tie.Need-same-length-6
 same-length-6 c = search needs
 
--- src/lib.rt:324:1
 same-length-7 : tie.Need-same-length-7
 same-length-7 c = search needs
 
--- src/lib.rt:324:1
 returns-2 : tie.Need-returns-2
 returns-2 c =
-    let a = c .before .before .before .before .before .before .before .before .before .before .before .before .before .before .before .before .before .before .before .before .before .before .before .before .before .before .args in
-    let pre = c .before .before .before .before .before .before .before .before .before .before .before .before .before .before .before .before .before .before .before .before .before .before .before .before .before .before .pre in
+    let a = c .before .before .before .before .before .before .before .before .before .before .before .before .before .before .before .before .before .before .before .before .before .before .before .before .before .before .before .before .args in
+    let pre = c .before .before .before .before .before .before .before .before .before .before .before .before .before .before .before .before .before .before .before .before .before .before .before .before .before .before .before .before .pre in
     λ f H. edges-refused (a .job .now) (a .index .now) H (a .stage) (a .out .now) (stateIn (a .rows .now) (a .count) (a .items .now) (a .stretches .now) (a .faces .now) 0 0) (c .before .before .before .before .before .before .before .before .before .maximal-edges .last .1 .1 .1 .1 .1 .0) (c .before .before .before .before .before .before .before .before .before .maximal-edges .last .1 .1 .1 .1 .1 .1 .1 .0) (c .before .before .before .before .before .before .before .before .before .maximal-edges .last .1 .1 .1 .1 .1 .1 .1 .1 .0) (a .faces .now) (c .before .before .before .before .before .before .before .before .before .maximal-edges .result) (c .before .before .before .before .before .before .before .before .before .maximal-edges .ensures .0 (a .faces .now) (pre .1 .loops)) (c .before .before .before .before .before .before .before .before .before .before .before .before .before .if1 .left) (c .before .r .given .0 .0) (c .before .r .given .0 .1 .0) (c .before .r .given .1)
 
--- src/lib.rt:324:1
 same-length-8 : tie.Need-same-length-8
 same-length-8 c = search needs
 
--- src/lib.rt:324:1
 same-length-9 : tie.Need-same-length-9
 same-length-9 c = search needs
 
--- src/lib.rt:324:1
 same-length-10 : tie.Need-same-length-10
 same-length-10 c = search needs
 
--- src/lib.rt:324:1
 same-length-11 : tie.Need-same-length-11
 same-length-11 c = search needs
 
--- src/lib.rt:324:1
+same-length-12 : tie.Need-same-length-12
+same-length-12 c = search needs
+
+same-length-13 : tie.Need-same-length-13
+same-length-13 c = search needs
+
 returns-3 : tie.Need-returns-3
 returns-3 c =
-    let a = c .before .before .before .before .before .before .before .before .before .before .before .before .before .before .before .before .before .before .before .before .before .before .before .before .before .before .before .before .before .before .before .before .before .args in
-    let pre = c .before .before .before .before .before .before .before .before .before .before .before .before .before .before .before .before .before .before .before .before .before .before .before .before .before .before .before .before .before .before .before .before .before .pre in
-    λ f H. edges-joined (a .job .now) (a .index .now) H (a .stage) (a .out .now) (stateIn (a .rows .now) (a .count) (a .items .now) (a .stretches .now) (a .faces .now) 0 0) (c .before .before .before .before .before .before .before .before .before .before .before .before .before .before .before .before .maximal-edges .last .1 .1 .1 .1 .1 .0) (c .before .before .before .before .before .before .before .before .before .before .before .before .before .before .before .before .maximal-edges .last .1 .1 .1 .1 .1 .1 .1 .0) (c .before .before .before .before .before .before .before .before .before .before .before .before .before .before .before .before .maximal-edges .last .1 .1 .1 .1 .1 .1 .1 .1 .0) (a .faces .now) (c .before .before .before .before .before .before .before .before .before .before .before .before .before .before .before .before .maximal-edges .result) (c .before .before .before .before .before .before .before .before .before .before .before .before .before .before .before .before .maximal-edges .ensures .0 (a .faces .now) (pre .1 .loops)) (c .before .before .before .before .before .before .before .before .before .before .before .before .before .before .before .before .before .before .before .before .if1 .left) (c .before .before .before .before .before .before .before .before .r2 .given .0 .0) (c .before .before .on-joined .last .1 .1 .1 .1 .1 .1 .1 .1 .1 .1 .1 .1 .1 .1 .1 .1 .0) (c .before .before .on-joined .result) (c .before .before .before .before .before .before .before .before .r2 .given .1) (c .before .before .on-joined .ensures f H)
+    let a = c .before .before .before .before .before .before .before .before .before .before .before .before .before .before .before .before .before .before .before .before .before .before .before .before .before .before .before .before .before .before .before .before .before .before .before .before .before .before .before .before .before .args in
+    let pre = c .before .before .before .before .before .before .before .before .before .before .before .before .before .before .before .before .before .before .before .before .before .before .before .before .before .before .before .before .before .before .before .before .before .before .before .before .before .before .before .before .before .pre in
+    λ f H. edges-joined (a .job .now) (a .index .now) H (a .stage) (a .out .now) (stateIn (a .rows .now) (a .count) (a .items .now) (a .stretches .now) (a .faces .now) 0 0) (c .before .before .before .before .before .before .before .before .before .before .before .before .before .before .before .before .before .before .before .before .before .before .maximal-edges .last .1 .1 .1 .1 .1 .0) (c .before .before .before .before .before .before .before .before .before .before .before .before .before .before .before .before .before .before .before .before .before .before .maximal-edges .last .1 .1 .1 .1 .1 .1 .1 .0) (c .before .before .before .before .before .before .before .before .before .before .before .before .before .before .before .before .before .before .before .before .before .before .maximal-edges .last .1 .1 .1 .1 .1 .1 .1 .1 .0) (a .faces .now) (c .before .before .before .before .before .before .before .before .before .before .before .before .before .before .before .before .before .before .before .before .before .before .maximal-edges .result) (c .before .before .before .before .before .before .before .before .before .before .before .before .before .before .before .before .before .before .before .before .before .before .maximal-edges .ensures .0 (a .faces .now) (pre .1 .loops)) (c .before .before .before .before .before .before .before .before .before .before .before .before .before .before .before .before .before .before .before .before .before .before .before .before .before .before .if1 .left) (c .before .before .before .before .before .before .before .before .before .before .before .before .before .before .r2 .given .0 .0) (c .before .before .before .before .before .before .on-joined .last .1 .1 .1 .1 .1 .1 .1 .1 .1 .1 .1 .1 .1 .1 .1 .1 .1 .1 .0) (c .before .before .before .before .before .before .on-joined .result) (c .before .before .before .before .before .before .before .before .before .before .before .before .before .before .r2 .given .1) (c .before .before .before .before .before .before .on-joined .ensures f H)
 
 pub on-edged-spec : {M : Type 1} → statement M
 on-edged-spec =
@@ -115,4 +105,6 @@ on-edged-spec =
     same-length-9
     same-length-10
     same-length-11
+    same-length-12
+    same-length-13
     returns-3)

@@ -7,91 +7,81 @@ use borrow.Author.Needs.{needs}
 use Rattle.rebuild.proofs.on_shelled.Statement.{statement}
 use Rattle.rebuild.proofs.on_shelled.Tie as tie
 
--- src/lib.rt:229:29
 array-share-prefix-boundaries : tie.Need-array-share-prefix-boundaries
 array-share-prefix-boundaries c = search needs
 
--- src/lib.rt:229:29
 slice-aggregate-write-shells : tie.Need-slice-aggregate-write-shells
-slice-aggregate-write-shells c = faces-cut (c .before .before .before .before .before .before .before .before .before .before .before .before .before .before .before .before .before .pre .0)
+slice-aggregate-write-shells c = faces-cut (c .before .before .before .before .before .before .before .before .before .before .before .before .before .before .before .before .before .before .before .pre .0)
 
--- src/lib.rt:229:53
 array-share-prefix-members : tie.Need-array-share-prefix-members
 array-share-prefix-members c = search needs
 
--- src/lib.rt:229:53
 slice-aggregate-write-shells-2 : tie.Need-slice-aggregate-write-shells-2
-slice-aggregate-write-shells-2 c = members-cut (c .before .before .before .before .before .before .before .before .before .before .before .before .before .before .before .before .before .before .pre .0)
+slice-aggregate-write-shells-2 c = members-cut (c .before .before .before .before .before .before .before .before .before .before .before .before .before .before .before .before .before .before .before .before .pre .0)
 
--- src/lib.rt:229:9
 write-shells-requires : tie.Need-write-shells-requires
-write-shells-requires c κs = (shells-few (c .before .before .before .before .before .before .before .before .before .before .before .before .before .before .before .before .before .before .before .before .pre .0) (c .before .before .before .before .before .before .before .before .before .before .before .before .before .before .before .before .before .before .before .before .args .n) (c .before .before .before .before .before .before .before .before .before .before .before .before .before .before .before .before .before .before .before .before .args .table .now) (c .before .before .before .before .before .before .before .before .before .before .before .before .before .before .before .before .before .before .before .before .pre .2), members-few (c .before .before .before .before .before .before .before .before .before .before .before .before .before .before .before .before .before .before .before .before .pre .0))
+write-shells-requires c κs = (shells-few (c .before .before .before .before .before .before .before .before .before .before .before .before .before .before .before .before .before .before .before .before .before .before .pre .0) (c .before .before .before .before .before .before .before .before .before .before .before .before .before .before .before .before .before .before .before .before .before .before .args .n) (c .before .before .before .before .before .before .before .before .before .before .before .before .before .before .before .before .before .before .before .before .before .before .args .table .now) (c .before .before .before .before .before .before .before .before .before .before .before .before .before .before .before .before .before .before .before .before .before .before .pre .2), members-few (c .before .before .before .before .before .before .before .before .before .before .before .before .before .before .before .before .before .before .before .before .before .before .pre .0))
 
--- src/lib.rt:229:9
 same-length : tie.Need-same-length
 same-length c = search needs
 
--- src/lib.rt:229:9
 same-length-2 : tie.Need-same-length-2
 same-length-2 c = search needs
 
--- src/lib.rt:229:9
 returns : tie.Need-returns
 returns c =
-    let a = c .before .before .before .before .before .before .before .before .before .before .before .before .before .before .before .before .before .before .before .before .before .before .before .args in
-    let pre = c .before .before .before .before .before .before .before .before .before .before .before .before .before .before .before .before .before .before .before .before .before .before .before .pre in
+    let a = c .before .before .before .before .before .before .before .before .before .before .before .before .before .before .before .before .before .before .before .before .before .before .before .before .before .args in
+    let pre = c .before .before .before .before .before .before .before .before .before .before .before .before .before .before .before .before .before .before .before .before .before .before .before .before .before .pre in
     λ f H. shells-written (a .job .now) (a .index .now) H (a .stage) (a .out .now) (stateIn (a .rows .now) (a .k .edges) (a .items .now) (a .stretches .now) (a .faces .now) (a .k .joins) (a .k .rings)) (a .table .now) (a .n) (c .before .before .write-shells .last .1 .1 .1 .1 .0) (c .before .before .write-shells .result) (c .before .before .before .before .before .before .before .before .before .if1 .taken) (c .before .before .write-shells .ensures)
 
--- src/lib.rt:231:9
 nest-requires : tie.Need-nest-requires
-nest-requires c κs = (c .before .before .before .before .before .before .before .before .before .before .before .before .before .before .before .pre .0 .indexed, c .before .before .before .before .before .before .before .before .before .before .before .before .before .before .before .pre .2 .size, shells-few (c .before .before .before .before .before .before .before .before .before .before .before .before .before .before .before .pre .0) (c .before .before .before .before .before .before .before .before .before .before .before .before .before .before .before .args .n) (c .before .before .before .before .before .before .before .before .before .before .before .before .before .before .before .args .table .now) (c .before .before .before .before .before .before .before .before .before .before .before .before .before .before .before .pre .2))
+nest-requires c κs = (c .before .before .before .before .before .before .before .before .before .before .before .before .before .before .before .before .before .pre .0 .indexed, c .before .before .before .before .before .before .before .before .before .before .before .before .before .before .before .before .before .pre .2 .size, shells-few (c .before .before .before .before .before .before .before .before .before .before .before .before .before .before .before .before .before .pre .0) (c .before .before .before .before .before .before .before .before .before .before .before .before .before .before .before .before .before .args .n) (c .before .before .before .before .before .before .before .before .before .before .before .before .before .before .before .before .before .args .table .now) (c .before .before .before .before .before .before .before .before .before .before .before .before .before .before .before .before .before .pre .2))
 
--- src/lib.rt:233:26
 enum-known-r : tie.Need-enum-known-r
 enum-known-r c = search needs
 
--- src/lib.rt:234:23
 enum-known-r-2 : tie.Need-enum-known-r-2
 enum-known-r-2 c = search needs
 
--- src/lib.rt:234:31
 on-nested-requires : tie.Need-on-nested-requires
 on-nested-requires c κs =
-    let a = c .before .before .before .before .before .before .before .before .before .before .before .before .before .before .before .before .before .before .before .before .before .before .before .args in
-    let pre = c .before .before .before .before .before .before .before .before .before .before .before .before .before .before .before .before .before .before .before .before .before .before .before .pre in
-    let nested = c .before .before .before .before .before .before .before .nest in
+    let a = c .before .before .before .before .before .before .before .before .before .before .before .before .before .before .before .before .before .before .before .before .before .before .before .before .before .before .before .args in
+    let pre = c .before .before .before .before .before .before .before .before .before .before .before .before .before .before .before .before .before .before .before .before .before .before .before .before .before .before .before .pre in
+    let nested = c .before .before .before .before .before .before .before .before .before .nest in
     let told = nested .ensures (boundariesIn (a .c) (a .m)) (membersIn (a .m)) (pre .2) in (
       pre .0,
       pre .1,
-      nested-shelled (answersIn (a .job .now) (a .index .now) (a .c)) (boundariesIn (a .c) (a .m)) (membersIn (a .m)) (a .n) (a .table .now) (nested .last .1 .1 .1 .0) (nested .result) (c .before .before .before .r2 .given .0 .0) (told .1) (c .before .before .before .r2 .given .1),
-      nested-homes (answersIn (a .job .now) (a .index .now) (a .c)) (boundariesIn (a .c) (a .m)) (membersIn (a .m)) (a .n) (a .table .now) (nested .last .1 .1 .1 .0) (nested .result) (c .before .before .before .r2 .given .0 .0) (told .1) (c .before .before .before .r2 .given .1) (members-few (pre .0)) (told .0),
+      nested-shelled (answersIn (a .job .now) (a .index .now) (a .c)) (boundariesIn (a .c) (a .m)) (membersIn (a .m)) (a .n) (a .table .now) (nested .last .1 .1 .1 .0) (nested .result) (c .before .before .before .before .before .r2 .given .0 .0) (told .1) (c .before .before .before .before .before .r2 .given .1),
+      nested-homes (answersIn (a .job .now) (a .index .now) (a .c)) (boundariesIn (a .c) (a .m)) (membersIn (a .m)) (a .n) (a .table .now) (nested .last .1 .1 .1 .0) (nested .result) (c .before .before .before .before .before .r2 .given .0 .0) (told .1) (c .before .before .before .before .before .r2 .given .1) (members-few (pre .0)) (told .0),
+      pre .3,
     )
 
--- src/lib.rt:202:1
 same-length-3 : tie.Need-same-length-3
 same-length-3 c = search needs
 
--- src/lib.rt:202:1
 returns-2 : tie.Need-returns-2
 returns-2 c =
-    let a = c .before .before .before .before .before .before .before .before .before .before .before .before .before .before .before .before .before .before .before .before .before .args in
-    let pre = c .before .before .before .before .before .before .before .before .before .before .before .before .before .before .before .before .before .before .before .before .before .pre in
+    let a = c .before .before .before .before .before .before .before .before .before .before .before .before .before .before .before .before .before .before .before .before .before .before .before .args in
+    let pre = c .before .before .before .before .before .before .before .before .before .before .before .before .before .before .before .before .before .before .before .before .before .before .before .pre in
     λ f H. shells-refused (a .job .now) (a .index .now) H (a .stage) (a .out .now) (stateIn (a .rows .now) (a .k .edges) (a .items .now) (a .stretches .now) (a .faces .now) (a .k .joins) (a .k .rings)) (a .table .now) (a .n) (c .before .before .before .before .before .nest .last .1 .1 .1 .0) (c .before .before .before .before .before .nest .result) (c .before .before .before .before .before .nest .ensures (boundariesIn (a .c) (a .m)) (membersIn (a .m)) (pre .2) .0) (c .before .before .before .before .before .before .before .if1 .left) (c .before .r .given .0 .0) (c .before .r .given .0 .1 .0) (c .before .r .given .1)
 
--- src/lib.rt:202:1
 same-length-4 : tie.Need-same-length-4
 same-length-4 c = search needs
 
--- src/lib.rt:202:1
 same-length-5 : tie.Need-same-length-5
 same-length-5 c = search needs
 
--- src/lib.rt:202:1
+same-length-6 : tie.Need-same-length-6
+same-length-6 c = search needs
+
+same-length-7 : tie.Need-same-length-7
+same-length-7 c = search needs
+
 returns-3 : tie.Need-returns-3
 returns-3 c =
-    let a = c .before .before .before .before .before .before .before .before .before .before .before .before .before .before .before .before .before .before .before .before .before .before .before .before .before .before .args in
-    let pre = c .before .before .before .before .before .before .before .before .before .before .before .before .before .before .before .before .before .before .before .before .before .before .before .before .before .before .pre in
-    λ f H. shells-on (a .job .now) (a .index .now) H (a .stage) (a .out .now) (stateIn (a .rows .now) (a .k .edges) (a .items .now) (a .stretches .now) (a .faces .now) (a .k .joins) (a .k .rings)) (a .table .now) (a .n) (c .before .before .before .before .before .before .before .before .before .before .nest .last .1 .1 .1 .0) (c .before .before .before .before .before .before .before .before .before .before .nest .result) (c .before .before .before .before .before .before .before .before .before .before .nest .ensures (boundariesIn (a .c) (a .m)) (membersIn (a .m)) (pre .2) .0) (c .before .before .before .before .before .before .before .before .before .before .before .before .if1 .left) (c .before .before .before .before .before .before .r2 .given .0 .0) (c .before .before .on-nested .last .1 .1 .1 .1 .1 .1 .1 .1 .1 .1 .1 .1 .1 .1 .1 .1 .1 .1 .0) (c .before .before .on-nested .result) (c .before .before .before .before .before .before .r2 .given .1) (c .before .before .on-nested .ensures f H)
+    let a = c .before .before .before .before .before .before .before .before .before .before .before .before .before .before .before .before .before .before .before .before .before .before .before .before .before .before .before .before .before .before .before .before .before .before .args in
+    let pre = c .before .before .before .before .before .before .before .before .before .before .before .before .before .before .before .before .before .before .before .before .before .before .before .before .before .before .before .before .before .before .before .before .before .before .pre in
+    λ f H. shells-on (a .job .now) (a .index .now) H (a .stage) (a .out .now) (stateIn (a .rows .now) (a .k .edges) (a .items .now) (a .stretches .now) (a .faces .now) (a .k .joins) (a .k .rings)) (a .table .now) (a .n) (c .before .before .before .before .before .before .before .before .before .before .before .before .before .before .before .before .nest .last .1 .1 .1 .0) (c .before .before .before .before .before .before .before .before .before .before .before .before .before .before .before .before .nest .result) (c .before .before .before .before .before .before .before .before .before .before .before .before .before .before .before .before .nest .ensures (boundariesIn (a .c) (a .m)) (membersIn (a .m)) (pre .2) .0) (c .before .before .before .before .before .before .before .before .before .before .before .before .before .before .before .before .before .before .if1 .left) (c .before .before .before .before .before .before .before .before .before .before .before .before .r2 .given .0 .0) (c .before .before .before .before .before .before .on-nested .last .1 .1 .1 .1 .1 .1 .1 .1 .1 .1 .1 .1 .1 .1 .1 .1 .1 .1 .1 .1 .0) (c .before .before .before .before .before .before .on-nested .result) (c .before .before .before .before .before .before .before .before .before .before .before .before .r2 .given .1) (c .before .before .before .before .before .before .on-nested .ensures f H)
 
 pub on-shelled-spec : {M : Type 1} → statement M
 on-shelled-spec =
@@ -113,4 +103,6 @@ on-shelled-spec =
     returns-2
     same-length-4
     same-length-5
+    same-length-6
+    same-length-7
     returns-3)
