@@ -24,6 +24,7 @@ ghost use Rattle.job.specs.Lists.{answersIn};
 ghost use Rattle.answers.specs.Index.{Indexed};
 ghost use Rattle.ask.specs.Told.{toldOf};
 ghost use Rattle.edges.specs.Table.{rowsIn, Laid};
+ghost use Rattle.theorems.specs.Ends.{oneAt, endsOne};
 ghost use Rattle.maximal_edges.specs.Joined.{edgesIn, stateIn, joiningOf, Fitting, Ran, Blank, Tabled, EndCounted, lowsAfter, mayChange, StillBut, nextAfter, Ranked, lowerOf, higherOf, isStill, TriedAt, Swept, JoinedAt, doneWith};
 ghost use Rattle.maximal_edges.specs.CountLaws.{Counted};
 ghost use Rattle.maximal_edges.specs.SweepLaws.{changeAt};
@@ -49,6 +50,26 @@ pub enum Joining {
 }
 
 // ENDS
+
+// 1 where two numbers are equal.
+fn one_at(a: usize, x: usize) -> usize
+    ensures { λ r. ⌜ (r ≡ oneAt a x) × (r ≤ 1) ⌝ }
+{
+    if a == x {
+        return 1;
+    }
+    0
+}
+
+// The active ends of edge e at corner v: 0, 1 or 2.
+fn ends_of(rows: &[u32], e: usize, v: usize) -> usize
+    ensures { λ r. ⌜ (r ≡ endsOne v (edgeDataAt (rowsIn (now (rows .entry))) e)) × (r ≤ 2) ⌝ }
+{
+    if edge_active(rows, e) {
+        return one_at(edge_start(rows, e), v) + one_at(edge_end(rows, e), v);
+    }
+    0
+}
 
 // Edge e is the lowest at fan v, where n ends were counted before.
 fn note_lowest(lows: &mut [u32], v: usize, e: usize, n: usize)
@@ -237,7 +258,8 @@ fn next_after(i: usize, high: usize, top: usize) -> usize
 }
 
 // One sweep over the corners, which stops at its first change. Those before `top` are still but for the ones at `low` and
-// `high`, so that it begins at `low`.
+// `high`, so that it begins at `low`. The edges of a corner are its lower one, then its higher one, until two ends are seen:
+// one edge may have both.
 fn sweep(
     job: &[u8],
     index: &[u32],
@@ -261,11 +283,20 @@ fn sweep(
         let v = get(names, i);
         i = next_after(i, high, top);
         if get(ends, v) == 2 {
-            change = try_corner(job, index, c, starts, rows, v, get(lows, v), get(highs, v));
-            if stays(change) {
-                continue 'corners;
+            let a = get(lows, v);
+            let mut e = a;
+            let mut seen: usize = 0;
+            'edges: while seen < 2 {
+                seen += ends_of(rows, e, v);
+                if seen == 2 {
+                    change = try_corner(job, index, c, starts, rows, v, a, e);
+                    if stays(change) {
+                        continue 'corners;
+                    }
+                    break 'corners;
+                }
+                e = get(highs, v);
             }
-            break 'corners;
         }
     }
     change
