@@ -31,12 +31,12 @@ joinedItems es v a b l = cond (ltb (placeIn es v a b l) (length l)) (oneForTwo a
 abbrev pub newItem : List EdgeData → Sense → Item
 newItem es t = record { edge = length es; sense = t }
 
-joined-found : (es : List EdgeData) (v a b : ℕ) (l : List Item) (x y : Item) (w : Found es v a b l x y)
+pub joined-found : (es : List EdgeData) (v a b : ℕ) (l : List Item) (x y : Item) (w : Found es v a b l x y)
     → joinedItems es v a b l ≡ newItem es (cond (eqb (x .edge) a) Same Reversed) ∷ w .rest
 unfolding joinedItems oneForTwo
 joined-found es v a b l x y w = rw (lt-ltb (placeIn es v a b l) (length l) (w .inside)) (ap (oneForTwo a (length es)) (w .shape))
 
-joined-missed : (es : List EdgeData) (v a b : ℕ) (l : List Item) → Missed es v a b l → joinedItems es v a b l ≡ l
+pub joined-missed : (es : List EdgeData) (v a b : ℕ) (l : List Item) → Missed es v a b l → joinedItems es v a b l ≡ l
 unfolding joinedItems
 joined-missed es v a b l w = rw (le-ltb (placeIn es v a b l) (length l) (omega (arith, w .outside)))
 

@@ -1,0 +1,34 @@
+// Loops as linked slots: each slot holds an item and leads to the next slot of its loop, so that a join rewrites two slots
+// however long the loops are.
+use fields::get;
+use fields::put;
+ghost use mathlib.Core.Path.{_≡_};
+ghost use Prim.Native.Nat.{_+_, _*_, _≤_, _<_};
+ghost use lib.ListN.{length, getD};
+ghost use Rattle.links.specs.Tables.{linksOf, fusedAt};
+
+// The slot of the item y takes the item x for its own and the next slot's.
+fn fuse(
+    codes: &mut [u32],
+    nexts: &mut [u32],
+    heads: &mut [u32],
+    owners: &[u32],
+    spots: &mut [u32],
+    stretches: &mut [u32],
+    y: usize,
+    x: usize,
+)
+    requires { ⌜ (1 ≤ getD (now stretches) (2 * getD (now owners) (getD (now spots) y 0) 0 + 1) 0) × (x < 4294967296) ⌝ }
+    ensures { λ _. ⌜ linksOf (now (codes .exit)) (now (nexts .exit)) (now (heads .exit)) (now (owners .entry)) (now (spots .exit)) (now (stretches .exit)) ≡ fusedAt (linksOf (now (codes .entry)) (now (nexts .entry)) (now (heads .entry)) (now (owners .entry)) (now (spots .entry)) (now (stretches .entry))) y x ⌝ }
+{
+    let p = get(spots, y);
+    let q = get(nexts, p);
+    let k = get(owners, p);
+    let end = get(stretches, 2 * k + 1);
+    let after = get(nexts, q);
+    put(codes, p, x);
+    put(nexts, p, after);
+    put(heads, k, p);
+    put(spots, x, p);
+    put(stretches, 2 * k + 1, end - 1);
+}
