@@ -113,24 +113,22 @@ module _ (es : List EdgeData) (v a b : ℕ) (two : TwoEdges es v a b) (t : Links
 
   first-loop : (j : ℕ) × IsLoop (t .stretches) j × Found es v a b (loopOf t j) (inItem es v a) (outItem es v b)
   first-loop =
-      let s = somewhere a (two .first-once) in
-      (
+      let s = somewhere a (two .first-once) in (
         s .0,
         s .1,
         ⊎-elim (λ w. w)
-        (λ r. absurd (⊎-elim (λ w. omega (arith, s .2, found-once es v a b b a (loopOf t (s .0)) (sound-at (s .0) (s .1)) w .1)) (λ w. omega (arith, s .2, w .no-first)) r))
-        (place-cases es v a b two (loopOf t (s .0)) (sound-at (s .0) (s .1))),
+            (λ r. absurd (⊎-elim (λ w. omega (arith, s .2, found-once es v a b b a (loopOf t (s .0)) (sound-at (s .0) (s .1)) w .1)) (λ w. omega (arith, s .2, w .no-first)) r))
+            (place-cases es v a b two (loopOf t (s .0)) (sound-at (s .0) (s .1))),
       )
 
   second-loop : (j : ℕ) × IsLoop (t .stretches) j × Found es v a b (loopOf t j) (inItem es v b) (outItem es v a)
   second-loop =
-      let s = somewhere b (two .second-once) in
-      (
+      let s = somewhere b (two .second-once) in (
         s .0,
         s .1,
         ⊎-elim (λ w. absurd (omega (arith, s .2, found-once es v a b a b (loopOf t (s .0)) (sound-at (s .0) (s .1)) w .1)))
-        (λ r. ⊎-elim (λ w. w) (λ w. absurd (omega (arith, s .2, w .no-second))) r)
-        (place-cases es v a b two (loopOf t (s .0)) (sound-at (s .0) (s .1))),
+            (λ r. ⊎-elim (λ w. w) (λ w. absurd (omega (arith, s .2, w .no-second))) r)
+            (place-cases es v a b two (loopOf t (s .0)) (sound-at (s .0) (s .1))),
       )
 
   place-at : (j c d : ℕ) → IsLoop (t .stretches) j → (w : Found es v a b (loopOf t j) (inItem es v c) (outItem es v d)) → At t j (inCode es v c) (w .rest)
@@ -275,3 +273,32 @@ module _ (es : List EdgeData) (v a b : ℕ) (two : TwoEdges es v a b) (t : Links
         ap (λ k. getD (once .stretches) (2 * k + 1) 0) (owner-is once (first-fused .linked) kb still-is (second-at .at) (inCode es v b) (second-at .next) (second-at .others) still-at),
         two-items once (first-fused .linked) kb still-is (second-at .at) (inCode es v b) (second-at .next) (second-at .others) still-at,
       )
+
+-- what a join needs: sound loops, the two edges that end at the corner, and room for the new edge's items
+pub record Joinable (es : List EdgeData) (v a b new : ℕ) (t : Links) : Type 0 where
+  pub linked : Linked t
+  pub sound : LoopsSound es (loopsOf t)
+  pub two : TwoEdges es v a b
+  pub number : new ≡ length es
+  pub room : 2 * new + 1 < length (t .spots)
+  pub few : new < 2147483647
+
+module _ (es : List EdgeData) (v a b new : ℕ) (t : Links) (j : Joinable es v a b new t) (x y : ℕ) (ex : x ≡ inCode es v a) (ey : y ≡ inCode es v b) where
+  rooms : 2 * length es + 1 < length (t .spots)
+  rooms = omega (arith, j .room, j .number)
+
+  pub fuse-first : 1 ≤ getD (t .stretches) (2 * getD (t .owners) (getD (t .spots) x 0) 0 + 1) 0
+  fuse-first = subst (λ c. 1 ≤ getD (t .stretches) (2 * getD (t .owners) (getD (t .spots) c 0) 0 + 1) 0) (sym ex) (first-end es v a b (j .two) t (j .linked) (j .sound) rooms)
+
+  module _ (u : Links) (eu : u ≡ fusedAt t x (2 * new)) where
+    once-is : u ≡ fusedAt t (inCode es v a) (2 * length es)
+    once-is = eu ∙ (λ i. fusedAt t (ex i) (2 * j .number i))
+
+    pub fuse-second : 1 ≤ getD (u .stretches) (2 * getD (u .owners) (getD (u .spots) y 0) 0 + 1) 0
+    fuse-second =
+        subst (λ (s : Links). 1 ≤ getD (s .stretches) (2 * getD (s .owners) (getD (s .spots) y 0) 0 + 1) 0) (sym once-is)
+        (subst (λ c. 1 ≤ getD (fusedAt t (inCode es v a) (2 * length es) .stretches) (2 * getD (fusedAt t (inCode es v a) (2 * length es) .owners) (getD (fusedAt t (inCode es v a) (2 * length es) .spots) c 0) 0 + 1) 0) (sym ey)
+        (second-end es v a b (j .two) t (j .linked) (j .sound) rooms))
+
+    pub join-is : (w : Links) → w ≡ fusedAt u y (2 * new + 1) → Joined es v a b t w
+    join-is w ew = subst (Joined es v a b t) (sym (ew ∙ (λ i. fusedAt (once-is i) (ey i) (2 * j .number i + 1)))) (joined-twice es v a b (j .two) t (j .linked) (j .sound) rooms)

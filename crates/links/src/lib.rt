@@ -1,11 +1,16 @@
 // Loops as linked slots: each slot holds an item and leads to the next slot of its loop, so that a join rewrites two slots
 // however long the loops are.
+use edges::edge_start;
 use fields::get;
 use fields::put;
 ghost use mathlib.Core.Path.{_≡_};
 ghost use Prim.Native.Nat.{_+_, _*_, _≤_, _<_};
-ghost use lib.ListN.{length, getD};
+ghost use lib.ListN.{getD};
+ghost use Rattle.edges.specs.Table.{rowsIn};
 ghost use Rattle.links.specs.Tables.{linksOf, fusedAt};
+ghost use Rattle.links.specs.JoinLinks.{inCode, Joinable, Joined};
+
+// A JOIN
 
 // The slot of the item y takes the item x for its own and the next slot's.
 fn fuse(
@@ -31,4 +36,47 @@ fn fuse(
     put(heads, k, p);
     put(spots, x, p);
     put(stretches, 2 * k + 1, end - 1);
+}
+
+// The item of edge a that ends at corner v.
+fn in_code(rows: &[u32], v: usize, a: usize) -> usize
+    requires { ⌜ a < 2147483648 ⌝ }
+    ensures { λ r. ⌜ r ≡ inCode (rowsIn (now (rows .entry))) v a ⌝ }
+{
+    if edge_start(rows, a) == v {
+        return 2 * a + 1;
+    }
+    2 * a
+}
+
+// The join of edges a and b at corner v: where an item of either ends there, it and the next become the new edge's.
+pub fn join_places(
+    rows: &[u32],
+    codes: &mut [u32],
+    nexts: &mut [u32],
+    heads: &mut [u32],
+    owners: &[u32],
+    spots: &mut [u32],
+    stretches: &mut [u32],
+    v: usize,
+    a: usize,
+    b: usize,
+    new: usize,
+)
+    requires { ⌜ Joinable (rowsIn (now rows)) v a b new (linksOf (now codes) (now nexts) (now heads) (now owners) (now spots) (now stretches)) ⌝ }
+    ensures { λ _. ⌜ Joined (rowsIn (now (rows .entry))) v a b (linksOf (now (codes .entry)) (now (nexts .entry)) (now (heads .entry)) (now (owners .entry)) (now (spots .entry)) (now (stretches .entry))) (linksOf (now (codes .exit)) (now (nexts .exit)) (now (heads .exit)) (now (owners .entry)) (now (spots .exit)) (now (stretches .exit))) ⌝ }
+{
+    let x = in_code(rows, v, a);
+    let y = in_code(rows, v, b);
+    fuse(codes, nexts, heads, owners, spots, stretches, x, 2 * new);
+    fuse(
+        codes,
+        nexts,
+        heads,
+        owners,
+        spots,
+        stretches,
+        y,
+        2 * new + 1,
+    );
 }
