@@ -2,3 +2,4 @@ pub mod Tables
 pub mod Chains
 pub mod Fuse
 pub mod JoinLinks
+pub mod Lay

@@ -4,11 +4,13 @@ use edges::edge_start;
 use fields::get;
 use fields::put;
 ghost use mathlib.Core.Path.{_≡_};
-ghost use Prim.Native.Nat.{_+_, _*_, _≤_, _<_};
+ghost use Prim.Native.Nat.{_+_, _*_, _-_, _≤_, _<_};
 ghost use lib.ListN.{getD};
-ghost use Rattle.edges.specs.Table.{rowsIn};
-ghost use Rattle.links.specs.Tables.{linksOf, fusedAt};
+ghost use lib.Seq.{sets};
+ghost use Rattle.edges.specs.Table.{rowsIn, Laid};
+ghost use Rattle.links.specs.Tables.{linksOf, follow, codesAt, fusedAt};
 ghost use Rattle.links.specs.JoinLinks.{inCode, Joinable, Joined};
+ghost use Rattle.links.specs.Lay.{LaidOut};
 
 // A JOIN
 
@@ -79,4 +81,36 @@ pub fn join_places(
         y,
         2 * new + 1,
     );
+}
+
+// LAYING OUT
+
+// The loop with head p is laid out from `start` to `end`.
+fn lay_loop(codes: &[u32], nexts: &[u32], items: &mut [u32], head: usize, start: usize, end: usize)
+    ensures { λ _. ⌜ now (items .exit) ≡ sets (now (items .entry)) start (codesAt (now (codes .entry)) (follow (now (nexts .entry)) head (end - start))) ⌝ }
+{
+    let mut p = head;
+    let mut i = start;
+    while i < end {
+        let x = get(codes, p);
+        put(items, i, x);
+        p = get(nexts, p);
+        i += 1;
+    }
+}
+
+// Every loop is laid out, from its head round to its head.
+pub fn lay_loops(codes: &[u32], nexts: &[u32], heads: &[u32], stretches: &[u32], items: &mut [u32])
+    requires { ⌜ Laid (now stretches) (now items) ⌝ }
+    ensures { λ _. ⌜ LaidOut (now (codes .entry)) (now (nexts .entry)) (now (heads .entry)) (now (stretches .entry)) (now (items .entry)) (now (items .exit)) ⌝ }
+{
+    let n = stretches.len() / 2;
+    let mut k: usize = 0;
+    while k < n {
+        let head = get(heads, k);
+        let start = get(stretches, 2 * k);
+        let end = get(stretches, 2 * k + 1);
+        lay_loop(codes, nexts, items, head, start, end);
+        k += 1;
+    }
 }

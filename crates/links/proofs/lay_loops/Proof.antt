@@ -1,0 +1,90 @@
+use mathlib.Core.Path.{_≡_, refl}
+use Prim.Native.Nat.{_-_, _/_, _≤_}
+use lib.ListN.{length}
+use Rattle.links.specs.Lay.{LaidUpto, laid-none, laid-more, laid-all}
+use native.Mathlib.Omega.{arith}
+use borrow.Author.Needs.{needs}
+use Rattle.links.proofs.lay_loops.Statement.{statement}
+use Rattle.links.proofs.lay_loops.Tie as tie
+use Rattle.links.proofs.lay_loops.Reads as reads
+use Rattle.links.proofs.lay_loops.Lts as lts
+use Rattle.fields.proofs.get.Reads as get-reads
+use Rattle.links.proofs.lay_loop.Reads as lay-loop-reads
+
+abbrev Inv-loop : tie.InvT-loop
+Inv-loop codes nexts heads stretches items₀ n k₀ items k = (n ≡ length stretches / 2) × LaidUpto codes nexts heads stretches items₀ items k × (k ≤ n)
+
+abbrev μ-loop : tie.MeasureT-loop
+μ-loop codes nexts heads stretches items₀ n k₀ items k = n - k
+
+-- src/lib.rt:109:5
+loop-holds : tie.Need-loop-holds Inv-loop μ-loop
+loop-holds c = (refl, laid-none (c .before .before .before .before .before .args .codes .now) (c .before .before .before .before .before .args .nexts .now) (c .before .before .before .before .before .args .heads .now) (c .before .before .before .before .before .args .stretches .now) (c .before .before .before .before .before .args .items .now), omega arith)
+
+-- src/lib.rt:110:13
+get-requires : tie.Need-get-requires Inv-loop μ-loop
+get-requires c κs = search needs
+
+-- src/lib.rt:111:36
+mul-get : tie.Need-mul-get Inv-loop μ-loop
+mul-get c = omega arith
+
+-- src/lib.rt:111:13
+get-requires-2 : tie.Need-get-requires-2 Inv-loop μ-loop
+get-requires-2 c κs = search needs
+
+-- src/lib.rt:112:34
+mul-get-2 : tie.Need-mul-get-2 Inv-loop μ-loop
+mul-get-2 c = omega arith
+
+-- src/lib.rt:112:34
+add-get : tie.Need-add-get Inv-loop μ-loop
+add-get c = omega arith
+
+-- src/lib.rt:112:13
+get-requires-3 : tie.Need-get-requires-3 Inv-loop μ-loop
+get-requires-3 c κs = search needs
+
+-- src/lib.rt:113:9
+lay-loop-requires : tie.Need-lay-loop-requires Inv-loop μ-loop
+lay-loop-requires c κs = search needs
+
+-- src/lib.rt:114:9
+add-k : tie.Need-add-k Inv-loop μ-loop
+add-k c = omega arith
+
+-- src/lib.rt:109:5
+loop-less : tie.Need-loop-less Inv-loop μ-loop
+loop-less c = omega arith
+
+-- src/lib.rt:109:5
+loop-again : tie.Need-loop-again Inv-loop μ-loop
+loop-again c = (c .before .before .before .before .before .before .before .before .loop .inv .0, laid-more (c .before .before .before .before .before .before .before .before .before .before .before .before .before .before .args .codes .now) (c .before .before .before .before .before .before .before .before .before .before .before .before .before .before .args .nexts .now) (c .before .before .before .before .before .before .before .before .before .before .before .before .before .before .args .heads .now) (c .before .before .before .before .before .before .before .before .before .before .before .before .before .before .args .stretches .now) (c .before .before .before .before .before .before .before .before .before .before .before .before .before .before .args .items .now) (c .before .before .before .before .before .before .before .before .before .before .before .before .before .before .pre) (c .before .before .before .before .before .before .before .before .loop .items) (c .before .before .lay-loop .last .1 .1 .0) (c .before .before .before .before .before .before .before .before .loop .k) (c .before .before .before .before .before .before .get .result) (c .before .before .before .before .before .get2 .result) (c .before .before .before .before .get3 .result) (c .before .before .before .before .before .before .before .before .loop .inv .1) (omega (arith, c .before .before .before .before .before .before .before .loop-test .taken, c .before .before .before .before .before .before .before .before .loop .inv .0)) (c .before .before .before .before .before .before .get .ensures .0) (c .before .before .before .before .before .get2 .ensures .0) (c .before .before .before .before .get3 .ensures .0) (c .before .before .lay-loop .ensures), omega (arith, c .before .before .before .before .before .before .before .loop-test .taken))
+
+-- src/lib.rt:103:1
+same-length : tie.Need-same-length Inv-loop μ-loop
+same-length c = c .before .loop .inv .1 .size
+
+-- src/lib.rt:103:1
+returns : tie.Need-returns Inv-loop μ-loop
+returns c = laid-all (c .before .before .before .before .before .before .before .args .codes .now) (c .before .before .before .before .before .before .before .args .nexts .now) (c .before .before .before .before .before .before .before .args .heads .now) (c .before .before .before .before .before .before .before .args .stretches .now) (c .before .before .before .before .before .before .before .args .items .now) (c .before .loop .items) (c .before .loop .k) (c .before .loop .inv .1) (omega (arith, c .loop-test .left, c .before .loop .inv .0))
+
+pub lay-loops-spec : {M : Type 1} → statement M
+lay-loops-spec =
+    tie.close
+    (tie.spec
+    Inv-loop
+    μ-loop
+    loop-holds
+    get-requires
+    mul-get
+    get-requires-2
+    mul-get-2
+    add-get
+    get-requires-3
+    lay-loop-requires
+    add-k
+    loop-less
+    loop-again
+    same-length
+    returns)
