@@ -3,3 +3,4 @@ pub mod Chains
 pub mod Fuse
 pub mod JoinLinks
 pub mod Lay
+pub mod Link

@@ -5,12 +5,76 @@ use fields::get;
 use fields::put;
 ghost use mathlib.Core.Path.{_≡_};
 ghost use Prim.Native.Nat.{_+_, _*_, _-_, _≤_, _<_};
-ghost use lib.ListN.{getD};
+ghost use lib.ListN.{length, getD};
 ghost use lib.Seq.{sets};
 ghost use Rattle.edges.specs.Table.{rowsIn, Laid};
-ghost use Rattle.links.specs.Tables.{linksOf, follow, codesAt, fusedAt};
+ghost use Rattle.links.specs.Tables.{linksOf, IsLoop, follow, codesAt, fusedAt};
 ghost use Rattle.links.specs.JoinLinks.{inCode, Joinable, Joined};
 ghost use Rattle.links.specs.Lay.{LaidOut};
+ghost use Rattle.links.specs.Link.{nextSlot, Linkable, Linking, LinkedLoops};
+
+// LINKING
+
+// The slot after s in the loop from `start` to `end`.
+fn next_slot(start: usize, end: usize, s: usize) -> usize
+    requires { ⌜ (start < 4294967296) × (s < end) × (end < 4294967296) ⌝ }
+    ensures { λ r. ⌜ (r ≡ nextSlot start end s) × (r < 4294967296) ⌝ }
+{
+    if s + 1 == end {
+        return start;
+    }
+    s + 1
+}
+
+// The slots of loop k are linked.
+fn link_loop(
+    items: &[u32],
+    stretches: &[u32],
+    codes: &mut [u32],
+    nexts: &mut [u32],
+    owners: &mut [u32],
+    spots: &mut [u32],
+    k: usize,
+)
+    requires { ⌜ Linking (now items) (now stretches) (now codes) (now nexts) (now owners) (now spots) k 0 × IsLoop (now stretches) k × (k < 4294967296) ⌝ }
+    ensures { λ _. ⌜ Linking (now (items .entry)) (now (stretches .entry)) (now (codes .exit)) (now (nexts .exit)) (now (owners .exit)) (now (spots .exit)) (k + 1) 0 ⌝ }
+{
+    let start = get(stretches, 2 * k);
+    let end = get(stretches, 2 * k + 1);
+    let mut s = start;
+    while s < end {
+        let x = get(items, s);
+        let q = next_slot(start, end, s);
+        put(codes, s, x);
+        put(nexts, s, q);
+        put(owners, s, k);
+        put(spots, x, s);
+        s += 1;
+    }
+}
+
+// Every loop is linked, and starts where it was laid out.
+pub fn link_loops(
+    items: &[u32],
+    stretches: &[u32],
+    codes: &mut [u32],
+    nexts: &mut [u32],
+    heads: &mut [u32],
+    owners: &mut [u32],
+    spots: &mut [u32],
+)
+    requires { ⌜ Linkable (now items) (now stretches) (now codes) (now nexts) (now owners) (now spots) × (length (now stretches) ≤ 2 * length (now heads)) × (length (now stretches) < 4294967296) ⌝ }
+    ensures { λ _. ⌜ LinkedLoops (now (items .entry)) (linksOf (now (codes .exit)) (now (nexts .exit)) (now (heads .exit)) (now (owners .exit)) (now (spots .exit)) (now (stretches .entry))) ⌝ }
+{
+    let n = stretches.len() / 2;
+    let mut k: usize = 0;
+    while k < n {
+        link_loop(items, stretches, codes, nexts, owners, spots, k);
+        let start = get(stretches, 2 * k);
+        put(heads, k, start);
+        k += 1;
+    }
+}
 
 // A JOIN
 
