@@ -8,6 +8,8 @@ use lib.ListN.{length, getD, set, take, drop, take-append-drop}
 use lib.Seq.{getD-set-other}
 use Rattle.lists.specs.Lists.{_∈_, Nodup, times}
 use Rattle.lists.specs.Membership.{in-or-out, times-append, times-out, times-once, once-nodup}
+use Rattle.lists.specs.Members.{map-append}
+use Rattle.lists.specs.Stretches.{take-map, drop-map}
 use Rattle.links.specs.Tables.{follow, Chain}
 
 pub length-follow : (t : List ℕ) (x n : ℕ) → length (follow t x n) ≡ n
@@ -56,6 +58,10 @@ nodup-turned i l n =
     (λ x.
     let e = ap (times x) (take-append-drop i l) in
     omega (arith, times-append x (drop i l) (take i l), times-append x (take i l) (drop i l), nodup-times x l n))
+
+-- the images of a turned list
+pub map-turned : {A B : Type 0} (f : A → B) (i : ℕ) (l : List A) → map f (drop i l ++ take i l) ≡ drop i (map f l) ++ take i (map f l)
+map-turned f i l = map-append f (drop i l) (take i l) ∙ (λ k. sym (drop-map f i l) k ++ sym (take-map f i l) k)
 
 -- what the first two of some images are images of
 pub record Front {A B : Type 0} (f : A → B) (l : List A) (x y : B) (rest : List B) : Type 0 where

@@ -8,12 +8,11 @@ use mathlib.Core.List.{List, [], _∷_, _++_, map, List·Memᴰ·head, List·Mem
 use lib.ListN.{length, getD, set, take, drop, length-set, length-append, take-append-drop}
 use lib.Seq.{getD-set-same, getD-set-other}
 use Rattle.lists.specs.Lists.{_∈_, Nodup}
-use Rattle.lists.specs.Members.{in-map, map-append, map-same}
-use Rattle.lists.specs.Stretches.{take-map, drop-map}
+use Rattle.lists.specs.Members.{in-map, map-same}
 use Rattle.lists.specs.TurnedLists.{turn-in}
 use Rattle.edges.specs.Table.{Laid}
 use Rattle.links.specs.Tables.{Links, linksOf, follow, IsLoop, sizeAt, slotsAt, codesAt, ringAt, Chain, Stands, Linked, fusedIn, fusedAt}
-use Rattle.links.specs.Chains.{length-follow, chain-follow, chain-turned, chain-other, nodup-turned, Front, front}
+use Rattle.links.specs.Chains.{length-follow, chain-follow, chain-turned, chain-other, nodup-turned, map-turned, Front, front}
 
 -- a loop that stands in some slots has no others
 pub stands-in : (t : Links) (k : ℕ) (l : List ℕ) → Stands t k l → slotsAt t k ≡ l
@@ -53,7 +52,7 @@ module _ (t : Links) (linked : Linked t) (k : ℕ) (is : IsLoop (t .stretches) k
   place =
       let f : ℕ → ℕ = λ s. getD (t .codes) s 0 in
       let l : List ℕ = slotsAt t k in
-      front f (drop i l ++ take i l) x y rest (map-append f (drop i l) (take i l) ∙ (λ j. sym (drop-map f i l) j ++ sym (take-map f i l) j) ∙ shape)
+      front f (drop i l ++ take i l) x y rest (map-turned f i l ∙ shape)
 
   of-loop : (s : ℕ) → s ∈ (place .first ∷ place .second ∷ place .others) → s ∈ slotsAt t k
   of-loop s m = turn-in i (slotsAt t k) s (subst (λ l. s ∈ l) (sym (place .shape)) m)

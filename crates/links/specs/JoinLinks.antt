@@ -11,9 +11,8 @@ use lib.Dec.{eqb}
 use borrow.Author.Tests.{eq-eqb, ne-eqb}
 use Rattle.lists.specs.Lists.{_∈_, below, sumOf}
 use Rattle.lists.specs.Runs.{in-below, below-in}
-use Rattle.lists.specs.Members.{in-map, map-in, map-append}
+use Rattle.lists.specs.Members.{in-map, map-in}
 use Rattle.lists.specs.Sums.{sum-nil, sum-cons}
-use Rattle.lists.specs.Stretches.{take-map, drop-map}
 use Rattle.lists.specs.TurnedLists.{turn-in}
 use Rattle.lists.specs.Tests.{equal-or-not}
 use Rattle.rules.specs.declared.Sense.{Sense}
@@ -31,7 +30,7 @@ use Rattle.theorems.specs.Trails.{LoopSound, loop-sound}
 use Rattle.theorems.specs.Places.{inSense, inItem, outItem, timesOf, Found, Missed, place-cases, found-once}
 use Rattle.theorems.specs.JoinLoops.{joinedItems, newItem, joined-found, joined-missed}
 use Rattle.links.specs.Tables.{Links, IsLoop, ringAt, loopOf, Linked, fusedAt}
-use Rattle.links.specs.Chains.{Front, front}
+use Rattle.links.specs.Chains.{map-turned, Front, front}
 use Rattle.links.specs.Fuse.{owner-is, two-items, Fused, fused}
 
 -- all loops
@@ -137,7 +136,7 @@ module _ (es : List EdgeData) (v a b : ℕ) (two : TwoEdges es v a b) (t : Links
       let r : List ℕ = ringAt t j in
       let f : Front itemIn (drop i r ++ take i r) (inItem es v c) (outItem es v d) (w .rest) =
       front itemIn (drop i r ++ take i r) (inItem es v c) (outItem es v d) (w .rest)
-      (map-append itemIn (drop i r) (take i r) ∙ (λ m. sym (drop-map itemIn i r) m ++ sym (take-map itemIn i r) m) ∙ w .shape) in
+      (map-turned itemIn i r ∙ w .shape) in
       let e : f .first ≡ inCode es v c = item-one (f .first) (inCode es v c) (f .is-first ∙ sym (in-code es v c)) in
       record { is = q; at = i; next = f .second; others = f .others; shape = f .shape ∙ ap (λ z. z ∷ f .second ∷ f .others) e; are = f .are-others }
 

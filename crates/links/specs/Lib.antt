@@ -4,3 +4,4 @@ pub mod Fuse
 pub mod JoinLinks
 pub mod Lay
 pub mod Link
+pub mod Spread
