@@ -8,10 +8,10 @@ use mathlib.Core.Path.{_≡_, refl, sym, ap, subst, _∙_}
 use mathlib.Core.List.{List, [], _∷_, _++_, append-assoc}
 use lib.ListN.{length, getD, set, take, drop, length-map}
 use lib.Seq.{sets, sets-eq, length-sets}
-use borrow.Rule.Slice.PartMut.{postOf, putMid, post-is}
+use borrow.Rule.Slice.PartMut.{putMid, post-is, put-same}
 use Rattle.lists.specs.Stretches.{stretch, own-part, before-part}
 use Rattle.edges.specs.Table.{loopAt, Laid}
-use Rattle.links.specs.Tables.{follow, IsLoop, sizeAt, codesAt}
+use Rattle.links.specs.Tables.{Links, follow, IsLoop, sizeAt, codesAt, ringAt}
 use Rattle.links.specs.Chains.{length-follow}
 
 -- ONE LOOP
@@ -37,6 +37,9 @@ sets-part a e l r order inside size =
     let z : a + length r ≡ e = omega arith in
     sets-eq r l a (omega arith) ∙ ap (λ k. take a l ++ r ++ drop k l) z ∙ append-assoc (take a l) r (drop e l) ∙ sym (ap (λ s. take a l ++ (r ++ s)) (post-is a e l order))
 
+ring-size : (codes nexts : List ℕ) (x n : ℕ) → length (codesAt codes (follow nexts x n)) ≡ n
+ring-size codes nexts x n = length-map (follow nexts x n) (λ s. getD codes s 0) ∙ length-follow nexts x n
+
 -- an earlier loop ends before a later one starts
 pub laid-before : (stretches items : List ℕ) → Laid stretches items → (j k : ℕ) → j < k → 2 * k + 1 < length stretches → getD stretches (2 * j + 1) 0 ≤ getD stretches (2 * k) 0
 laid-before stretches items laid j zero h q = absurd (not-suc-le-zero h)
@@ -48,58 +51,88 @@ laid-before stretches items laid j (suc k) h q =
       | no n ↦ omega (arith, laid-before stretches items laid j k (omega (arith, n)) (omega arith), laid .order k (omega arith), laid .apart k (omega arith))
     ]
 
--- the loops below k are laid out
-pub record LaidUpto (codes nexts heads stretches items₀ items : List ℕ) (k : ℕ) : Type 0 where
-  pub size : length items ≡ length items₀
-  pub loops : (j : ℕ) → j < k → IsLoop stretches j → loopAt items stretches j ≡ codesAt codes (follow nexts (getD heads j 0) (sizeAt stretches j))
+-- the loops below k laid out in a list
+unfoldable pub laidUpto : List ℕ → List ℕ → List ℕ → List ℕ → List ℕ → ℕ → List ℕ
+laidUpto codes nexts heads stretches items zero = items
+laidUpto codes nexts heads stretches items (suc k) =
+    sets (laidUpto codes nexts heads stretches items k) (getD stretches (2 * k) 0) (codesAt codes (follow nexts (getD heads k 0) (sizeAt stretches k)))
 
--- all loops are
-pub record LaidOut (codes nexts heads stretches items₀ items : List ℕ) : Type 0 where
-  pub size : length items ≡ length items₀
-  pub loops : (j : ℕ) → IsLoop stretches j → loopAt items stretches j ≡ codesAt codes (follow nexts (getD heads j 0) (sizeAt stretches j))
+-- every loop laid out
+abbrev pub laidOut : List ℕ → List ℕ → List ℕ → List ℕ → List ℕ → List ℕ
+laidOut codes nexts heads stretches items = laidUpto codes nexts heads stretches items (length stretches / 2)
+
+-- by linked tables
+abbrev pub laidBy : Links → List ℕ → List ℕ
+laidBy t items = laidOut (t .codes) (t .nexts) (t .heads) (t .stretches) items
 
 module _ (codes nexts heads stretches items₀ : List ℕ) where
-  pub laid-none : LaidUpto codes nexts heads stretches items₀ items₀ 0
-  laid-none = record { size = refl; loops = λ j h. absurd (not-suc-le-zero h) }
+  pub upto-none : items₀ ≡ laidUpto codes nexts heads stretches items₀ 0
+  unfolding laidUpto
+  upto-none = refl
 
-  pub laid-more : Laid stretches items₀ → (items after : List ℕ) (k head start end : ℕ) → LaidUpto codes nexts heads stretches items₀ items k → IsLoop stretches k → head ≡ getD heads k 0
-      → start ≡ getD stretches (2 * k) 0 → end ≡ getD stretches (2 * k + 1) 0 → after ≡ sets items start (codesAt codes (follow nexts head (end - start)))
-      → LaidUpto codes nexts heads stretches items₀ after (k + 1)
-  laid-more laid items after k head start end u q eh es ee ea = record {
-    size = ap length now ∙ length-sets items a ring ∙ u .size;
-    loops = λ j h p.
+  pub upto-more : (items after : List ℕ) (k head start end : ℕ) → items ≡ laidUpto codes nexts heads stretches items₀ k → head ≡ getD heads k 0 → start ≡ getD stretches (2 * k) 0
+      → end ≡ getD stretches (2 * k + 1) 0 → after ≡ sets items start (codesAt codes (follow nexts head (end - start))) → after ≡ laidUpto codes nexts heads stretches items₀ (k + 1)
+  unfolding laidUpto
+  upto-more items after k head start end e eh es ee ea =
+      ea ∙ (λ i. sets (e i) (es i) (codesAt codes (follow nexts (eh i) (ee i - es i)))) ∙ ap (laidUpto codes nexts heads stretches items₀) (sym (add-one k))
+
+  pub upto-all : (items : List ℕ) (n k : ℕ) → items ≡ laidUpto codes nexts heads stretches items₀ k → n ≡ length stretches / 2 → n ≤ k → k ≤ n → items ≡ laidOut codes nexts heads stretches items₀
+  upto-all items n k e en low high = let z : k ≡ length stretches / 2 = omega arith in e ∙ ap (laidUpto codes nexts heads stretches items₀) z
+
+  pub length-upto : (k : ℕ) → length (laidUpto codes nexts heads stretches items₀ k) ≡ length items₀
+  unfolding laidUpto
+  length-upto zero = refl
+  length-upto (suc k) = length-sets (laidUpto codes nexts heads stretches items₀ k) (getD stretches (2 * k) 0) (codesAt codes (follow nexts (getD heads k 0) (sizeAt stretches k))) ∙ length-upto k
+
+  module _ (laid : Laid stretches items₀) where
+    part : (k : ℕ) → IsLoop stretches k
+        → laidUpto codes nexts heads stretches items₀ (suc k)
+        ≡ putMid (getD stretches (2 * k) 0) (sizeAt stretches k) (laidUpto codes nexts heads stretches items₀ k) (codesAt codes (follow nexts (getD heads k 0) (sizeAt stretches k)))
+    unfolding laidUpto
+    part k q =
+        sets-part (getD stretches (2 * k) 0) (getD stretches (2 * k + 1) 0) (laidUpto codes nexts heads stretches items₀ k) (codesAt codes (follow nexts (getD heads k 0) (sizeAt stretches k))) (laid .order k q)
+        (omega (arith, laid .inside k q, length-upto k)) (ring-size codes nexts (getD heads k 0) (sizeAt stretches k))
+
+    -- what lies in the stretches of the loops below k
+    loops-upto : (k : ℕ) → k ≤ length stretches / 2 → (j : ℕ) → j < k → loopAt (laidUpto codes nexts heads stretches items₀ k) stretches j ≡ codesAt codes (follow nexts (getD heads j 0) (sizeAt stretches j))
+    loops-upto zero h j b = absurd (not-suc-le-zero b)
+    loops-upto (suc k) h j b =
+        let q : IsLoop stretches k = omega arith in
+        let p : IsLoop stretches j = omega arith in
+        let a : ℕ = getD stretches (2 * k) 0 in
+        let e : ℕ = getD stretches (2 * k + 1) 0 in
+        let l : List ℕ = laidUpto codes nexts heads stretches items₀ k in
+        let ring : List ℕ = codesAt codes (follow nexts (getD heads k 0) (sizeAt stretches k)) in
+        let size : length ring ≡ e - a = ring-size codes nexts (getD heads k 0) (sizeAt stretches k) in
+        let inside : e ≤ length l = omega (arith, laid .inside k q, length-upto k) in
         elim (ℕ-discrete j k) [
-          | yes w ↦ subst (λ i. loopAt after stretches i ≡ codesAt codes (follow nexts (getD heads i 0) (sizeAt stretches i))) (sym w) (ap (λ l. stretch l a e) part ∙ own-part a e items ring order inside size)
+          | yes w ↦ subst (λ i. loopAt (laidUpto codes nexts heads stretches items₀ (suc k)) stretches i ≡ codesAt codes (follow nexts (getD heads i 0) (sizeAt stretches i))) (sym w)
+              (ap (λ m. stretch m a e) (part k q) ∙ own-part a e l ring (laid .order k q) inside size)
           | no n ↦
-              ap (λ l. loopAt l stretches j) part
-              ∙ before-part a e items ring order inside size (getD stretches (2 * j) 0) (getD stretches (2 * j + 1) 0) (laid .order j p) (laid-before stretches items₀ laid j k (omega (arith, n)) q)
-              ∙ u .loops j (omega (arith, n)) p
-        ];
-  }
-    where
-      a : ℕ
-      a = getD stretches (2 * k) 0
+              ap (λ m. loopAt m stretches j) (part k q)
+              ∙ before-part a e l ring (laid .order k q) inside size (getD stretches (2 * j) 0) (getD stretches (2 * j + 1) 0) (laid .order j p) (laid-before stretches items₀ laid j k (omega (arith, n)) q)
+              ∙ loops-upto k (omega arith) j (omega (arith, n))
+        ]
 
-      e : ℕ
-      e = getD stretches (2 * k + 1) 0
+    -- where each loop already lies in its stretch, nothing changes
+    same-upto : ((j : ℕ) → IsLoop stretches j → codesAt codes (follow nexts (getD heads j 0) (sizeAt stretches j)) ≡ loopAt items₀ stretches j) → (k : ℕ) → k ≤ length stretches / 2
+        → laidUpto codes nexts heads stretches items₀ k ≡ items₀
+    unfolding laidUpto
+    same-upto same zero h = refl
+    same-upto same (suc k) h =
+        let q : IsLoop stretches k = omega arith in
+        part k q
+        ∙ (λ i. putMid (getD stretches (2 * k) 0) (sizeAt stretches k) (same-upto same k (omega arith) i) (same k q i))
+        ∙ put-same (getD stretches (2 * k) 0) (sizeAt stretches k) items₀
 
-      ring : List ℕ
-      ring = codesAt codes (follow nexts (getD heads k 0) (e - a))
+-- BY LINKED TABLES
 
-      order : a ≤ e
-      order = laid .order k q
+pub length-laid : (t : Links) (items : List ℕ) → length (laidBy t items) ≡ length items
+length-laid t items = length-upto (t .codes) (t .nexts) (t .heads) (t .stretches) items (length (t .stretches) / 2)
 
-      inside : e ≤ length items
-      inside = omega (arith, laid .inside k q, u .size)
+-- each loop lies in its stretch
+pub laid-loops : (t : Links) (items : List ℕ) → Laid (t .stretches) items → (k : ℕ) → IsLoop (t .stretches) k → loopAt (laidBy t items) (t .stretches) k ≡ ringAt t k
+laid-loops t items laid k q = loops-upto (t .codes) (t .nexts) (t .heads) (t .stretches) items laid (length (t .stretches) / 2) (omega arith) k (omega arith)
 
-      size : length ring ≡ e - a
-      size = length-map (follow nexts (getD heads k 0) (e - a)) (λ s. getD codes s 0) ∙ length-follow nexts (getD heads k 0) (e - a)
-
-      now : after ≡ sets items a ring
-      now = ea ∙ (λ i. sets items (es i) (codesAt codes (follow nexts (eh i) (ee i - es i))))
-
-      part : after ≡ putMid a (e - a) items ring
-      part = now ∙ sets-part a e items ring order inside size
-
-  pub laid-all : (items : List ℕ) (k : ℕ) → LaidUpto codes nexts heads stretches items₀ items k → length stretches / 2 ≤ k → LaidOut codes nexts heads stretches items₀ items
-  laid-all items k u h = record { size = u .size; loops = λ j q. u .loops j (omega arith) q }
+pub laid-same : (t : Links) (items : List ℕ) → Laid (t .stretches) items → ((k : ℕ) → IsLoop (t .stretches) k → ringAt t k ≡ loopAt items (t .stretches) k) → laidBy t items ≡ items
+laid-same t items laid same = same-upto (t .codes) (t .nexts) (t .heads) (t .stretches) items laid same (length (t .stretches) / 2) (omega arith)

@@ -7,10 +7,10 @@ ghost use mathlib.Core.Path.{_≡_};
 ghost use Prim.Native.Nat.{_+_, _*_, _-_, _≤_, _<_};
 ghost use lib.ListN.{length, getD};
 ghost use lib.Seq.{sets};
-ghost use Rattle.edges.specs.Table.{rowsIn, Laid};
+ghost use Rattle.edges.specs.Table.{rowsIn};
 ghost use Rattle.links.specs.Tables.{linksOf, IsLoop, follow, codesAt, fusedAt};
 ghost use Rattle.links.specs.JoinLinks.{inCode, Joinable, Joined};
-ghost use Rattle.links.specs.Lay.{LaidOut};
+ghost use Rattle.links.specs.Lay.{laidOut};
 ghost use Rattle.links.specs.Link.{nextSlot, Linkable, Linking, LinkedLoops};
 
 // LINKING
@@ -165,8 +165,7 @@ fn lay_loop(codes: &[u32], nexts: &[u32], items: &mut [u32], head: usize, start:
 
 // Every loop is laid out, from its head round to its head.
 pub fn lay_loops(codes: &[u32], nexts: &[u32], heads: &[u32], stretches: &[u32], items: &mut [u32])
-    requires { ⌜ Laid (now stretches) (now items) ⌝ }
-    ensures { λ _. ⌜ LaidOut (now (codes .entry)) (now (nexts .entry)) (now (heads .entry)) (now (stretches .entry)) (now (items .entry)) (now (items .exit)) ⌝ }
+    ensures { λ _. ⌜ now (items .exit) ≡ laidOut (now (codes .entry)) (now (nexts .entry)) (now (heads .entry)) (now (stretches .entry)) (now (items .entry)) ⌝ }
 {
     let n = stretches.len() / 2;
     let mut k: usize = 0;

@@ -1,7 +1,7 @@
-use mathlib.Core.Path.{_≡_, refl}
+use mathlib.Core.Path.{_≡_, refl, _∙_}
 use Prim.Native.Nat.{_-_, _/_, _≤_}
 use lib.ListN.{length}
-use Rattle.links.specs.Lay.{LaidUpto, laid-none, laid-more, laid-all}
+use Rattle.links.specs.Lay.{laidUpto, upto-none, upto-more, upto-all}
 use native.Mathlib.Omega.{arith}
 use borrow.Author.Needs.{needs}
 use Rattle.links.proofs.lay_loops.Statement.{statement}
@@ -12,14 +12,14 @@ use Rattle.fields.proofs.get.Reads as get-reads
 use Rattle.links.proofs.lay_loop.Reads as lay-loop-reads
 
 abbrev Inv-loop : tie.InvT-loop
-Inv-loop codes nexts heads stretches items₀ n k₀ items k = (n ≡ length stretches / 2) × LaidUpto codes nexts heads stretches items₀ items k × (k ≤ n)
+Inv-loop codes nexts heads stretches items₀ n k₀ items k = (n ≡ length stretches / 2) × (items ≡ laidUpto codes nexts heads stretches items₀ k) × (k ≤ n) × (length items ≡ length items₀)
 
 abbrev μ-loop : tie.MeasureT-loop
 μ-loop codes nexts heads stretches items₀ n k₀ items k = n - k
 
 -- src/lib.rt:109:5
 loop-holds : tie.Need-loop-holds Inv-loop μ-loop
-loop-holds c = (refl, laid-none (c .before .before .before .before .before .args .codes .now) (c .before .before .before .before .before .args .nexts .now) (c .before .before .before .before .before .args .heads .now) (c .before .before .before .before .before .args .stretches .now) (c .before .before .before .before .before .args .items .now), omega arith)
+loop-holds c = (refl, upto-none (c .before .before .before .before .before .args .codes .now) (c .before .before .before .before .before .args .nexts .now) (c .before .before .before .before .before .args .heads .now) (c .before .before .before .before .before .args .stretches .now) (c .before .before .before .before .before .args .items .now), omega arith, refl)
 
 -- src/lib.rt:110:13
 get-requires : tie.Need-get-requires Inv-loop μ-loop
@@ -59,15 +59,15 @@ loop-less c = omega arith
 
 -- src/lib.rt:109:5
 loop-again : tie.Need-loop-again Inv-loop μ-loop
-loop-again c = (c .before .before .before .before .before .before .before .before .loop .inv .0, laid-more (c .before .before .before .before .before .before .before .before .before .before .before .before .before .before .args .codes .now) (c .before .before .before .before .before .before .before .before .before .before .before .before .before .before .args .nexts .now) (c .before .before .before .before .before .before .before .before .before .before .before .before .before .before .args .heads .now) (c .before .before .before .before .before .before .before .before .before .before .before .before .before .before .args .stretches .now) (c .before .before .before .before .before .before .before .before .before .before .before .before .before .before .args .items .now) (c .before .before .before .before .before .before .before .before .before .before .before .before .before .before .pre) (c .before .before .before .before .before .before .before .before .loop .items) (c .before .before .lay-loop .last .1 .1 .0) (c .before .before .before .before .before .before .before .before .loop .k) (c .before .before .before .before .before .before .get .result) (c .before .before .before .before .before .get2 .result) (c .before .before .before .before .get3 .result) (c .before .before .before .before .before .before .before .before .loop .inv .1) (omega (arith, c .before .before .before .before .before .before .before .loop-test .taken, c .before .before .before .before .before .before .before .before .loop .inv .0)) (c .before .before .before .before .before .before .get .ensures .0) (c .before .before .before .before .before .get2 .ensures .0) (c .before .before .before .before .get3 .ensures .0) (c .before .before .lay-loop .ensures), omega (arith, c .before .before .before .before .before .before .before .loop-test .taken))
+loop-again c = (c .before .before .before .before .before .before .before .before .loop .inv .0, upto-more (c .before .before .before .before .before .before .before .before .before .before .before .before .before .before .args .codes .now) (c .before .before .before .before .before .before .before .before .before .before .before .before .before .before .args .nexts .now) (c .before .before .before .before .before .before .before .before .before .before .before .before .before .before .args .heads .now) (c .before .before .before .before .before .before .before .before .before .before .before .before .before .before .args .stretches .now) (c .before .before .before .before .before .before .before .before .before .before .before .before .before .before .args .items .now) (c .before .before .before .before .before .before .before .before .loop .items) (c .before .before .lay-loop .last .1 .1 .0) (c .before .before .before .before .before .before .before .before .loop .k) (c .before .before .before .before .before .before .get .result) (c .before .before .before .before .before .get2 .result) (c .before .before .before .before .get3 .result) (c .before .before .before .before .before .before .before .before .loop .inv .1) (c .before .before .before .before .before .before .get .ensures .0) (c .before .before .before .before .before .get2 .ensures .0) (c .before .before .before .before .get3 .ensures .0) (c .before .before .lay-loop .ensures), omega (arith, c .before .before .before .before .before .before .before .loop-test .taken), c .before .before .lay-loop .kept .1 .1 .0 ∙ c .before .before .before .before .before .before .before .before .loop .inv .3)
 
 -- src/lib.rt:103:1
 same-length : tie.Need-same-length Inv-loop μ-loop
-same-length c = c .before .loop .inv .1 .size
+same-length c = c .before .loop .inv .3
 
 -- src/lib.rt:103:1
 returns : tie.Need-returns Inv-loop μ-loop
-returns c = laid-all (c .before .before .before .before .before .before .before .args .codes .now) (c .before .before .before .before .before .before .before .args .nexts .now) (c .before .before .before .before .before .before .before .args .heads .now) (c .before .before .before .before .before .before .before .args .stretches .now) (c .before .before .before .before .before .before .before .args .items .now) (c .before .loop .items) (c .before .loop .k) (c .before .loop .inv .1) (omega (arith, c .loop-test .left, c .before .loop .inv .0))
+returns c = upto-all (c .before .before .before .before .before .before .before .args .codes .now) (c .before .before .before .before .before .before .before .args .nexts .now) (c .before .before .before .before .before .before .before .args .heads .now) (c .before .before .before .before .before .before .before .args .stretches .now) (c .before .before .before .before .before .before .before .args .items .now) (c .before .loop .items) (length (c .before .before .before .before .before .before .before .args .stretches .now) / 2) (c .before .loop .k) (c .before .loop .inv .1) refl (omega (arith, c .loop-test .left, c .before .loop .inv .0)) (omega (arith, c .before .loop .inv .0, c .before .loop .inv .2))
 
 pub lay-loops-spec : {M : Type 1} → statement M
 lay-loops-spec =
