@@ -5,3 +5,4 @@ pub mod JoinLinks
 pub mod Lay
 pub mod Link
 pub mod Spread
+pub mod Replace
