@@ -5,4 +5,5 @@ pub mod SweepLaws
 pub mod ScanLaws
 pub mod ChangeLaws
 pub mod StillLaws
+pub mod Hung
 pub mod RunLaws
