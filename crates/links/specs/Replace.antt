@@ -25,6 +25,9 @@ pub record Replaced (es : List EdgeData) (v a b new : ℕ) (items₀ stretches�
 laid-as-long : (stretches items items′ : List ℕ) → length items′ ≡ length items → Laid stretches items → Laid stretches items′
 laid-as-long stretches items items′ e l = record { order = l .order; inside = λ k q. omega (arith, l .inside k q); apart = l .apart }
 
+pub laid-base : (t : Links) (items : List ℕ) → Laid (t .stretches) (laidBy t items) → Laid (t .stretches) items
+laid-base t items l = laid-as-long (t .stretches) (laidBy t items) items (sym (length-laid t items)) l
+
 replaced-items : (es : List EdgeData) (v a b : ℕ) (l : FaceLoop) → replacedIn es v a b (length es) l ≡ record { face = l .face; items = joinedItems es v a b (l .items) }
 unfolding replacedIn joinedItems
 replaced-items es v a b l = refl

@@ -12,7 +12,7 @@ use Rattle.rules.specs.Job.{Answer}
 use Rattle.rules.specs.Fans.{fanPoint}
 use Rattle.rules.specs.Join.{Joining, edgeDataAt, endsAt, activeEdges, twoEnds, farEnd, joinedEdge, joinEdges, joinAt, ringAt, notSingular, mayJoin, Tried, unchanged, changed, atCorner, sweep, maximalEdges}
 use Rattle.edges.specs.Table.{rowsIn, faceLoopsIn, Laid}
-use Rattle.places.specs.ReplaceAll.{Replaced}
+use Rattle.links.specs.Replace.{Replaced}
 use Rattle.maximal_edges.specs.declared.Change.{Change}
 use Rattle.maximal_edges.specs.declared.Change.the-variants.{Unchanged, Ring, Join, Refused as Stopped}
 use Rattle.maximal_edges.specs.declared.Joining.{Joining as Joined}

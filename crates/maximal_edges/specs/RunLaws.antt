@@ -13,7 +13,7 @@ use Rattle.rules.specs.OutcomeLaws.{bind-on, bind-stop}
 use Rattle.rules.specs.Job.{Answer}
 use Rattle.rules.specs.Join.{Joining, edgeDataAt, endsAt, activeEdges, twoEnds, farEnd, ringOf, replacedAll, joinEdges, joinAt, ringAt, unchanged, changed, sweep, afterSweep, maximalEdges}
 use Rattle.edges.specs.Table.{faceLoopsIn, Laid}
-use Rattle.places.specs.ReplaceAll.{Replaced}
+use Rattle.links.specs.Replace.{Replaced}
 use Rattle.theorems.specs.Ends.{one-edge, two-edges}
 use Rattle.maximal_edges.specs.declared.Change.{Change}
 use Rattle.maximal_edges.specs.declared.Change.the-variants.{Unchanged, Ring, Join, Refused as Stopped}

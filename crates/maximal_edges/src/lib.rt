@@ -24,8 +24,12 @@ ghost use Rattle.job.specs.Lists.{answersIn};
 ghost use Rattle.answers.specs.Index.{Indexed};
 ghost use Rattle.ask.specs.Told.{toldOf};
 ghost use Rattle.edges.specs.Table.{rowsIn, Laid};
+ghost use Rattle.links.specs.Tables.{linksOf};
+ghost use Rattle.links.specs.JoinLinks.{Joinable};
+ghost use Rattle.links.specs.Lay.{laidOut};
 ghost use Rattle.theorems.specs.Ends.{oneAt, endsOne};
-ghost use Rattle.maximal_edges.specs.Joined.{edgesIn, stateIn, joiningOf, Fitting, Ran, Blank, Tabled, EndCounted, lowsAfter, mayChange, StillBut, nextAfter, Ranked, lowerOf, higherOf, isStill, TriedAt, Swept, JoinedAt, doneWith};
+ghost use Rattle.maximal_edges.specs.Joined.{edgesIn, stateIn, joiningOf, Fitting, Ran, Blank, Tabled, EndCounted, lowsAfter, mayChange, StillBut, nextAfter, Ranked, lowerOf, higherOf, isStill, TriedAt, Swept, doneWith};
+ghost use Rattle.maximal_edges.specs.Hung.{SoundIn, LinksFit, JoinedIn, Hung};
 ghost use Rattle.maximal_edges.specs.CountLaws.{Counted};
 ghost use Rattle.maximal_edges.specs.SweepLaws.{changeAt};
 
@@ -440,7 +444,11 @@ fn replace_end(lows: &mut [u32], highs: &mut [u32], v: usize, a: usize, n: usize
 fn join_at(
     rows: &mut [u32],
     n: usize,
-    items: &mut [u32],
+    codes: &mut [u32],
+    nexts: &mut [u32],
+    heads: &mut [u32],
+    owners: &[u32],
+    spots: &mut [u32],
     stretches: &mut [u32],
     ends: &mut [u32],
     lows: &mut [u32],
@@ -449,12 +457,25 @@ fn join_at(
     a: usize,
     b: usize,
 ) -> EdgeData
-    requires { ⌜ (7 * n + 7 ≤ length (now rows)) × (n < 2048) × (a < b) × (b < n) × Laid (now stretches) (now items) ⌝ }
-    ensures { λ r. ⌜ JoinedAt n v a b (now (rows .entry)) (now (items .entry)) (now (stretches .entry)) (now (ends .entry)) (now (lows .entry)) (now (highs .entry)) (now (rows .exit)) (now (items .exit)) (now (stretches .exit)) (now (ends .exit)) (now (lows .exit)) (now (highs .exit)) r ⌝ }
+    requires { ⌜ (7 * n + 7 ≤ length (now rows)) × (n < 2048) × (a < b) × (b < n) × Joinable (edgesIn (now rows) n) v a b n (linksOf (now codes) (now nexts) (now heads) (now owners) (now spots) (now stretches)) ⌝ }
+    ensures { λ r. ⌜ JoinedIn n v a b (now (rows .entry)) (linksOf (now (codes .entry)) (now (nexts .entry)) (now (heads .entry)) (now (owners .entry)) (now (spots .entry)) (now (stretches .entry))) (now (ends .entry)) (now (lows .entry)) (now (highs .entry)) (now (rows .exit)) (linksOf (now (codes .exit)) (now (nexts .exit)) (now (heads .exit)) (now (owners .entry)) (now (spots .exit)) (now (stretches .exit))) (now (ends .exit)) (now (lows .exit)) (now (highs .exit)) r ⌝ }
 {
     let x = edge_at(&rows[..7 * n], a);
     let y = edge_at(&rows[..7 * n], b);
-    places::replace_all(&rows[..7 * n], items, stretches, v, a, b, n);
+    let part = &rows[..7 * n];
+    links::join_places(
+        part,
+        codes,
+        nexts,
+        heads,
+        owners,
+        spots,
+        stretches,
+        v,
+        a,
+        b,
+        n,
+    );
     put_edge(rows, a, retired(x));
     put_edge(rows, b, retired(y));
     let e = joined_edge(v, x, y);
@@ -490,10 +511,15 @@ fn join_all(
     highs: &mut [u32],
     rows: &mut [u32],
     count: usize,
+    codes: &mut [u32],
+    nexts: &mut [u32],
+    heads: &mut [u32],
+    owners: &[u32],
+    spots: &mut [u32],
     items: &mut [u32],
     stretches: &mut [u32],
 ) -> Joining
-    requires { ⌜ Indexed (now job) (now index) c × (14 * count ≤ length (now rows)) × (count ≤ 1024) × Laid (now stretches) (now items) × Tabled (edgesIn (now rows) count) (now ends) (now lows) (now highs) × Nodup (now names) × ((v : ℕ) → v ∈ now names → v < length (now ends)) × Ranked (now names) (now ranks) ⌝ }
+    requires { ⌜ Indexed (now job) (now index) c × (14 * count ≤ length (now rows)) × (count ≤ 1024) × Laid (now stretches) (now items) × Tabled (edgesIn (now rows) count) (now ends) (now lows) (now highs) × Nodup (now names) × ((v : ℕ) → v ∈ now names → v < length (now ends)) × Ranked (now names) (now ranks) × Hung (edgesIn (now rows) count) (linksOf (now codes) (now nexts) (now heads) (now owners) (now spots) (now stretches)) × (laidOut (now codes) (now nexts) (now heads) (now stretches) (now items) ≡ now items) ⌝ }
     ensures { λ r. ⌜ Ran (answersIn (now (job .entry)) (now (index .entry)) c) (now (starts .entry)) (now (names .entry)) (now (rows .entry)) count (now (items .entry)) (now (stretches .entry)) (now (rows .exit)) (now (items .exit)) (now (stretches .exit)) r ⌝ }
 {
     let mut n = count;
@@ -519,7 +545,10 @@ fn join_all(
             top,
         );
         match change {
-            Change::Unchanged => return done(n, joins, rings),
+            Change::Unchanged => {
+                links::lay_loops(codes, nexts, heads, stretches, items);
+                return done(n, joins, rings);
+            }
             Change::Refused(number, place) => return Joining::Refused(number, place),
             Change::Ring(v, a) => {
                 ring_at(rows, n, ends, v, a);
@@ -530,7 +559,22 @@ fn join_all(
                 continue 'sweeps;
             }
             Change::Join(v, a, b) => {
-                let e = join_at(rows, n, items, stretches, ends, lows, highs, v, a, b);
+                let e = join_at(
+                    rows,
+                    n,
+                    codes,
+                    nexts,
+                    heads,
+                    owners,
+                    spots,
+                    stretches,
+                    ends,
+                    lows,
+                    highs,
+                    v,
+                    a,
+                    b,
+                );
                 top = next_after(get(ranks, v), high, top);
                 let p = get(ranks, wide(e.start));
                 let q = get(ranks, wide(e.end));
@@ -557,14 +601,20 @@ fn join_with(
     highs: &mut [u32],
     rows: &mut [u32],
     count: usize,
+    codes: &mut [u32],
+    nexts: &mut [u32],
+    heads: &mut [u32],
+    owners: &mut [u32],
+    spots: &mut [u32],
     items: &mut [u32],
     stretches: &mut [u32],
 ) -> Joining
-    requires { ⌜ Indexed (now job) (now index) c × (14 * count ≤ length (now rows)) × (count ≤ 1024) × Laid (now stretches) (now items) × Nodup (now names) × ((v : ℕ) → v ∈ now names → v < length (now ends)) × Blank (now ends) (now lows) (now highs) × (length (now ranks) ≡ length (now ends)) ⌝ }
+    requires { ⌜ Indexed (now job) (now index) c × (14 * count ≤ length (now rows)) × (count ≤ 1024) × Laid (now stretches) (now items) × Nodup (now names) × ((v : ℕ) → v ∈ now names → v < length (now ends)) × Blank (now ends) (now lows) (now highs) × (length (now ranks) ≡ length (now ends)) × LinksFit (now rows) count (now items) (now stretches) (now codes) (now nexts) (now heads) (now owners) (now spots) ⌝ }
     ensures { λ r. ⌜ Ran (answersIn (now (job .entry)) (now (index .entry)) c) (now (starts .entry)) (now (names .entry)) (now (rows .entry)) count (now (items .entry)) (now (stretches .entry)) (now (rows .exit)) (now (items .exit)) (now (stretches .exit)) r ⌝ }
 {
     count_ends(&rows[..7 * count], ends, lows, highs);
     rank(names, ranks);
+    links::link_loops(items, stretches, codes, nexts, heads, owners, spots);
     join_all(
         job,
         index,
@@ -577,12 +627,17 @@ fn join_with(
         highs,
         rows,
         count,
+        codes,
+        nexts,
+        heads,
+        owners,
+        spots,
         items,
         stretches,
     )
 }
 
-// The same for fans below 64: their tables cost little to clear.
+// The same for small parts, with tables that cost little to clear.
 fn join_small(
     job: &[u8],
     index: &[u32],
@@ -594,13 +649,18 @@ fn join_small(
     items: &mut [u32],
     stretches: &mut [u32],
 ) -> Joining
-    requires { ⌜ Indexed (now job) (now index) c × (14 * count ≤ length (now rows)) × (count ≤ 1024) × Laid (now stretches) (now items) × Nodup (now names) × ((v : ℕ) → v ∈ now names → v < 64) ⌝ }
+    requires { ⌜ Indexed (now job) (now index) c × (14 * count ≤ length (now rows)) × (count ≤ 1024) × Laid (now stretches) (now items) × Nodup (now names) × ((v : ℕ) → v ∈ now names → v < 64) × SoundIn (now rows) count (now items) (now stretches) 64 ⌝ }
     ensures { λ r. ⌜ Ran (answersIn (now (job .entry)) (now (index .entry)) c) (now (starts .entry)) (now (names .entry)) (now (rows .entry)) count (now (items .entry)) (now (stretches .entry)) (now (rows .exit)) (now (items .exit)) (now (stretches .exit)) r ⌝ }
 {
     let mut ranks = [0u32; 64];
     let mut ends = [0u32; 64];
     let mut lows = [0u32; 64];
     let mut highs = [0u32; 64];
+    let mut codes = [0u32; 64];
+    let mut nexts = [0u32; 64];
+    let mut heads = [0u32; 64];
+    let mut owners = [0u32; 64];
+    let mut spots = [0u32; 128];
     join_with(
         job,
         index,
@@ -613,12 +673,17 @@ fn join_small(
         &mut highs,
         rows,
         count,
+        &mut codes,
+        &mut nexts,
+        &mut heads,
+        &mut owners,
+        &mut spots,
         items,
         stretches,
     )
 }
 
-// The same for any fans.
+// The same for any part.
 fn join_large(
     job: &[u8],
     index: &[u32],
@@ -630,13 +695,18 @@ fn join_large(
     items: &mut [u32],
     stretches: &mut [u32],
 ) -> Joining
-    requires { ⌜ Indexed (now job) (now index) c × (14 * count ≤ length (now rows)) × (count ≤ 1024) × Laid (now stretches) (now items) × Nodup (now names) × ((v : ℕ) → v ∈ now names → v < 2048) ⌝ }
+    requires { ⌜ Indexed (now job) (now index) c × (14 * count ≤ length (now rows)) × (count ≤ 1024) × Laid (now stretches) (now items) × Nodup (now names) × ((v : ℕ) → v ∈ now names → v < 2048) × SoundIn (now rows) count (now items) (now stretches) 2048 ⌝ }
     ensures { λ r. ⌜ Ran (answersIn (now (job .entry)) (now (index .entry)) c) (now (starts .entry)) (now (names .entry)) (now (rows .entry)) count (now (items .entry)) (now (stretches .entry)) (now (rows .exit)) (now (items .exit)) (now (stretches .exit)) r ⌝ }
 {
     let mut ranks = [0u32; 2048];
     let mut ends = [0u32; 2048];
     let mut lows = [0u32; 2048];
     let mut highs = [0u32; 2048];
+    let mut codes = [0u32; 2048];
+    let mut nexts = [0u32; 2048];
+    let mut heads = [0u32; 2048];
+    let mut owners = [0u32; 2048];
+    let mut spots = [0u32; 4096];
     join_with(
         job,
         index,
@@ -649,6 +719,11 @@ fn join_large(
         &mut highs,
         rows,
         count,
+        &mut codes,
+        &mut nexts,
+        &mut heads,
+        &mut owners,
+        &mut spots,
         items,
         stretches,
     )
@@ -668,6 +743,22 @@ fn all_below(names: &[u32], n: usize) -> bool
     true
 }
 
+// Fans, edges, items and loops fit the small tables.
+fn is_small(names: &[u32], count: usize, items: usize, stretches: usize) -> bool
+    ensures { λ r. ⌜ (r ≡ true → ((v : ℕ) → v ∈ now (names .entry) → v < 64) × (2 * count ≤ 64) × (items ≤ 64) × (stretches ≤ 128)) ⌝ }
+{
+    if count > 32 {
+        return false;
+    }
+    if items > 64 {
+        return false;
+    }
+    if stretches > 128 {
+        return false;
+    }
+    all_below(names, 64)
+}
+
 // The edges joined: corners with exactly two active edge ends are taken away until no sweep changes anything.
 pub fn maximal_edges(
     job: &[u8],
@@ -680,10 +771,10 @@ pub fn maximal_edges(
     items: &mut [u32],
     stretches: &mut [u32],
 ) -> Joining
-    requires { ⌜ Indexed (now job) (now index) c × (14 * count ≤ length (now rows)) × (count ≤ 1024) × Laid (now stretches) (now items) × Nodup (now names) × ((v : ℕ) → v ∈ now names → v < 2048) ⌝ }
+    requires { ⌜ Indexed (now job) (now index) c × (14 * count ≤ length (now rows)) × (count ≤ 1024) × Laid (now stretches) (now items) × Nodup (now names) × ((v : ℕ) → v ∈ now names → v < 2048) × SoundIn (now rows) count (now items) (now stretches) 2048 ⌝ }
     ensures { λ r. ⌜ ((faces : List ℕ) → 2 * length faces ≤ length (now (stretches .entry)) → joiningOf (now (rows .exit)) (now (items .exit)) (now (stretches .exit)) faces r ≡ maximalEdges (answersIn (now (job .entry)) (now (index .entry)) c) (now (starts .entry)) (now (names .entry)) (length (now (names .entry))) (stateIn (now (rows .entry)) count (now (items .entry)) (now (stretches .entry)) faces 0 0)) × Fitting (now (names .entry)) (now (rows .exit)) (now (items .exit)) (now (stretches .exit)) r ⌝ }
 {
-    if all_below(names, 64) {
+    if is_small(names, count, items.len(), stretches.len()) {
         return join_small(job, index, c, starts, names, rows, count, items, stretches);
     }
     join_large(job, index, c, starts, names, rows, count, items, stretches)
