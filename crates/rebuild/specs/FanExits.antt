@@ -2,7 +2,7 @@
 use Prim.Native.Nat.{ℕ, _*_, _≤_}
 use native.Mathlib.Omega.{arith}
 use mathlib.Core.Path.{_≡_, sym, ap, subst, subst₂, _∙_}
-use mathlib.Core.List.{List, flatMap}
+use mathlib.Core.List.{List, map, flatMap}
 use mathlib.Core.Bool.{Bool}
 use lib.ListN.{length, take}
 use lib.Seq.{length-take-le}
@@ -17,14 +17,21 @@ use Rattle.rules.specs.Job.{Job}
 use Rattle.rules.specs.Walk.{successors, circuits, loopsOf}
 use Rattle.rules.specs.Fans.{keptWithEnds, fans as fansBy}
 use Rattle.rules.specs.Contact.{pointsClear}
-use Rattle.rules.specs.Edges.{edgesOf, faceLoops}
-use Rattle.rules.specs.Sew.{walksOf, Fanned, fansOf, Joined, unjoined, Ends}
+use Rattle.rules.specs.Edges.{edgesOf, FaceLoop, faceLoops}
+use Rattle.rules.specs.Join.{Joining}
+use Rattle.rules.specs.Sew.{Walked, walksOf, Fanned, fansOf, Joined, unjoined, Ends}
 use Rattle.rules.specs.Stage.{fanFields, stageBytes}
+use Rattle.theorems.specs.Linked.{LoopsSound}
+use Rattle.theorems.specs.Ground.{Ground}
+use Rattle.theorems.specs.Fanning.{FansHold, fans-hold}
+use Rattle.theorems.specs.Edging.{edges-hold}
+use Rattle.theorems.specs.Starting.{starts-sound}
 use Rattle.job.specs.Lists.{edgesIn, jobIn}
 use Rattle.contact.specs.declared.Clear.{Clear}
 use Rattle.contact.specs.declared.Clear.the-variants.{Done, Refused}
 use Rattle.contact.specs.Clear.{clearOf}
 use Rattle.maximal_edges.specs.Joined.{edgesIn as rowsTo, stateIn}
+use Rattle.maximal_edges.specs.Hung.{SoundIn}
 use Rattle.stages_out.specs.Rows.{Staged}
 use Rattle.result_out.specs.Rows.{fanRows}
 use Rattle.progress.specs.declared.Faces.{Faces}
@@ -34,6 +41,7 @@ use Rattle.progress.specs.Known.{boundariesIn, numbersIn, walkedIn, Settled}
 use Rattle.progress.specs.KnownLaws.{settled-ground}
 use Rattle.rebuild.specs.Ended.{Ended, first-ended}
 use Rattle.rebuild.specs.Sizes.{Fanning, Holds, Tables, Spare, Roomy, settled-twins, linable, fanned-names, fanned-holds}
+use Rattle.rebuild.specs.Starts.{state-sound}
 use Rattle.rebuild.specs.Lined.{Linable, Lined}
 use Rattle.progress.specs.Endings.{ends-as, ends-refused, asked, unasked}
 
@@ -131,6 +139,20 @@ module _ {bytes ix : List ℕ} {c : Counts} {us : List Use} {ts : List ℕ} {m :
 
       pub edges-few : edges ≤ 1024
       edges-few = omega (arith, L .few-edges, K .uses)
+
+      -- the loops are sound, and fit the tables of joining
+      pub drawn-sound : SoundIn rows edges items (take (2 * loops) stretches) 2048
+      drawn-sound =
+          let w : Walked = walkedIn c m us ts rm (g .kept) kept in
+          let G : Ground j w = settled-ground bytes ix c us ts m rm ss kept g S in
+          let A : FansHold j w = fans-hold j w G in
+          record {
+            sound = state-sound rows edges items (take (2 * loops) stretches) (take loops faces) (omega (arith, length-take-le loops faces loops-room, length-take-le (2 * loops) stretches stretches-room))
+                (subst (λ (s : Joining). LoopsSound (s .edges) (map (λ (l : FaceLoop). l .items) (s .loops))) (sym drawn) (starts-sound j w G A (edges-hold j w G A)));
+            edges-few = omega (arith, edges-few);
+            items-few = omega (arith, ei, K .items-size, K .uses);
+            stretches-few = omega (arith, length-take-le (2 * loops) stretches stretches-room, L .few-loops, K .uses);
+          }
 
       pub drawn-tables : Tables names rows edges items (take (2 * loops) stretches) (take loops faces)
       drawn-tables = record {

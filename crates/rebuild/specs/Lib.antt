@@ -3,6 +3,7 @@ pub mod Lined
 pub mod Ended
 pub mod Sizes
 pub mod LoopExits
+pub mod Starts
 pub mod FanExits
 pub mod Homes
 pub mod JoinExits

@@ -40,6 +40,7 @@ ghost use Rattle.job.specs.Lists.{edgesIn, jobIn};
 ghost use Rattle.uses.specs.Table.{usesIn};
 ghost use Rattle.contact.specs.Clear.{clearOf, LowLabels};
 ghost use Rattle.shells.specs.Table.{shellsIn, nestedIn, Shelled};
+ghost use Rattle.maximal_edges.specs.Hung.{SoundIn};
 ghost use Rattle.maximal_edges.specs.Joined.{stateIn};
 ghost use Rattle.progress.specs.Chain.{afterLoops, afterFans, afterEdges, afterJoining, afterShells, afterNesting};
 ghost use Rattle.progress.specs.Known.{boundariesIn, numbersIn, membersIn, walkedIn, Settled};
@@ -380,7 +381,7 @@ fn on_edged(
     vertices: &mut [u32],
     out: &mut [u8],
 ) -> Ending
-    requires { ⌜ Sizes (now job) (now index) c (usesIn (now uses)) m (now names) g × Tables (now names) (now rows) count (now items) (now stretches) (now faces) × (count ≤ 1024) × (14 * count ≤ length (now rows)) × Spare (length (usesIn (now uses))) (now rows) (now numbers) (now vertices) ⌝ }
+    requires { ⌜ Sizes (now job) (now index) c (usesIn (now uses)) m (now names) g × Tables (now names) (now rows) count (now items) (now stretches) (now faces) × (count ≤ 1024) × (14 * count ≤ length (now rows)) × Spare (length (usesIn (now uses))) (now rows) (now numbers) (now vertices) × SoundIn (now rows) count (now items) (now stretches) 2048 ⌝ }
     ensures { λ r. ⌜ ((f : Fanned) → Holds c (usesIn (now (uses .entry))) (now (twins .entry)) m (now (kept .entry)) g (now (names .entry)) (now (starts .entry)) f → Ends (afterEdges stage (jobIn (now (job .entry)) (now (index .entry)) c) (length (now (out .entry))) (record { fan = f; joining = stateIn (now (rows .entry)) count (now (items .entry)) (now (stretches .entry)) (now (faces .entry)) 0 0 })) (now (out .entry)) (now (out .exit)) r) ⌝ }
 {
     if stage == EDGES {

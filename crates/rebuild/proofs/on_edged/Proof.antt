@@ -29,7 +29,7 @@ returns c =
     λ f H. edges-written (a .job .now) (a .index .now) H (a .stage) (a .out .now) (stateIn (a .rows .now) (a .count) (a .items .now) (a .stretches .now) (a .faces .now) 0 0) (c .before .before .write-joining .last .1 .1 .1 .1 .1 .1 .1 .0) (c .before .before .write-joining .result) (c .before .before .before .before .before .before .before .if1 .taken) (c .before .before .write-joining .ensures)
 
 maximal-edges-requires : tie.Need-maximal-edges-requires
-maximal-edges-requires c κs = (c .before .before .before .before .before .before .before .before .before .before .before .before .before .before .before .before .before .before .pre .0 .indexed, c .before .before .before .before .before .before .before .before .before .before .before .before .before .before .before .before .before .before .pre .3, c .before .before .before .before .before .before .before .before .before .before .before .before .before .before .before .before .before .before .pre .2, c .before .before .before .before .before .before .before .before .before .before .before .before .before .before .before .before .before .before .pre .1 .laid, c .before .before .before .before .before .before .before .before .before .before .before .before .before .before .before .before .before .before .pre .0 .nodup, names-low (c .before .before .before .before .before .before .before .before .before .before .before .before .before .before .before .before .before .before .pre .0))
+maximal-edges-requires c κs = (c .before .before .before .before .before .before .before .before .before .before .before .before .before .before .before .before .before .before .pre .0 .indexed, c .before .before .before .before .before .before .before .before .before .before .before .before .before .before .before .before .before .before .pre .3, c .before .before .before .before .before .before .before .before .before .before .before .before .before .before .before .before .before .before .pre .2, c .before .before .before .before .before .before .before .before .before .before .before .before .before .before .before .before .before .before .pre .1 .laid, c .before .before .before .before .before .before .before .before .before .before .before .before .before .before .before .before .before .before .pre .0 .nodup, names-low (c .before .before .before .before .before .before .before .before .before .before .before .before .before .before .before .before .before .before .pre .0), c .before .before .before .before .before .before .before .before .before .before .before .before .before .before .before .before .before .before .pre .5)
 
 enum-known-r : tie.Need-enum-known-r
 enum-known-r c = search needs
