@@ -5,11 +5,11 @@ use native.Mathlib.Decide.{ℕ-discrete}
 use native.Mathlib.Nat.{not-suc-le-zero}
 use native.Mathlib.Numerals.{add-one}
 use mathlib.Core.Path.{_≡_, refl, sym, ap, subst, _∙_}
-use mathlib.Core.List.{List, [], _∷_, _++_, append-assoc}
-use lib.ListN.{length, getD, set, take, drop, length-map}
+use mathlib.Core.List.{List, [], _∷_, _++_, append-assoc, append-nil}
+use lib.ListN.{length, getD, set, take, drop, length-map, drop-of-length-le}
 use lib.Seq.{sets, sets-eq, length-sets}
 use borrow.Rule.Slice.PartMut.{putMid, post-is, put-same}
-use Rattle.lists.specs.Stretches.{stretch, own-part, before-part}
+use Rattle.lists.specs.Stretches.{stretch, length-stretch, own-part, before-part}
 use Rattle.edges.specs.Table.{loopAt, Laid}
 use Rattle.links.specs.Tables.{Links, follow, IsLoop, sizeAt, codesAt, ringAt}
 use Rattle.links.specs.Chains.{length-follow}
@@ -31,6 +31,10 @@ lay-done codes nexts l w i e p h b = let z : 0 ≡ e - i = omega arith in ap (λ
 
 -- ALL LOOPS
 
+-- a run of stores over a whole list
+sets-whole : (l r : List ℕ) → length r ≡ length l → sets l 0 r ≡ r
+sets-whole l r h = sets-eq r l 0 (omega arith) ∙ ap (λ t. r ++ t) (drop-of-length-le l {i = 0 + length r} (omega arith)) ∙ append-nil r
+
 -- a run of stores as a part rewritten
 sets-part : (a e : ℕ) (l r : List ℕ) → a ≤ e → e ≤ length l → length r ≡ e - a → sets l a r ≡ putMid a (e - a) l r
 sets-part a e l r order inside size =
@@ -39,6 +43,12 @@ sets-part a e l r order inside size =
 
 ring-size : (codes nexts : List ℕ) (x n : ℕ) → length (codesAt codes (follow nexts x n)) ≡ n
 ring-size codes nexts x n = length-map (follow nexts x n) (λ s. getD codes s 0) ∙ length-follow nexts x n
+
+-- a loop's own stretch is its items, from the head on
+pub lay-whole : (codes nexts l m : List ℕ) (head n : ℕ) → n ≡ length l → m ≡ sets l 0 (codesAt codes (follow nexts head (n - 0))) → m ≡ codesAt codes (follow nexts head (length l))
+lay-whole codes nexts l m head n en e =
+    let z : n - 0 ≡ length l = omega arith in
+    e ∙ ap (λ k. sets l 0 (codesAt codes (follow nexts head k))) z ∙ sets-whole l (codesAt codes (follow nexts head (length l))) (ring-size codes nexts head (length l))
 
 -- an earlier loop ends before a later one starts
 pub laid-before : (stretches items : List ℕ) → Laid stretches items → (j k : ℕ) → j < k → 2 * k + 1 < length stretches → getD stretches (2 * j + 1) 0 ≤ getD stretches (2 * k) 0
@@ -70,12 +80,6 @@ module _ (codes nexts heads stretches items₀ : List ℕ) where
   unfolding laidUpto
   upto-none = refl
 
-  pub upto-more : (items after : List ℕ) (k head start end : ℕ) → items ≡ laidUpto codes nexts heads stretches items₀ k → head ≡ getD heads k 0 → start ≡ getD stretches (2 * k) 0
-      → end ≡ getD stretches (2 * k + 1) 0 → after ≡ sets items start (codesAt codes (follow nexts head (end - start))) → after ≡ laidUpto codes nexts heads stretches items₀ (k + 1)
-  unfolding laidUpto
-  upto-more items after k head start end e eh es ee ea =
-      ea ∙ (λ i. sets (e i) (es i) (codesAt codes (follow nexts (eh i) (ee i - es i)))) ∙ ap (laidUpto codes nexts heads stretches items₀) (sym (add-one k))
-
   pub upto-all : (items : List ℕ) (n k : ℕ) → items ≡ laidUpto codes nexts heads stretches items₀ k → n ≡ length stretches / 2 → n ≤ k → k ≤ n → items ≡ laidOut codes nexts heads stretches items₀
   upto-all items n k e en low high = let z : k ≡ length stretches / 2 = omega arith in e ∙ ap (laidUpto codes nexts heads stretches items₀) z
 
@@ -92,6 +96,21 @@ module _ (codes nexts heads stretches items₀ : List ℕ) where
     part k q =
         sets-part (getD stretches (2 * k) 0) (getD stretches (2 * k + 1) 0) (laidUpto codes nexts heads stretches items₀ k) (codesAt codes (follow nexts (getD heads k 0) (sizeAt stretches k))) (laid .order k q)
         (omega (arith, laid .inside k q, length-upto k)) (ring-size codes nexts (getD heads k 0) (sizeAt stretches k))
+
+    -- the loop k laid out in its own stretch
+    pub upto-part : (items own : List ℕ) (k head start end : ℕ) → k < length stretches / 2 → items ≡ laidUpto codes nexts heads stretches items₀ k → head ≡ getD heads k 0 → start ≡ getD stretches (2 * k) 0
+        → end ≡ getD stretches (2 * k + 1) 0 → own ≡ codesAt codes (follow nexts head (length (stretch items start end)))
+        → (putMid start (end - start) items own ≡ laidUpto codes nexts heads stretches items₀ (k + 1)) × (length (putMid start (end - start) items own) ≡ length items₀)
+    upto-part items own k head start end b e eh es ee eo =
+        let q : IsLoop stretches k = omega arith in
+        let inside : end ≤ length items = omega (arith, laid .inside k q, ap length e ∙ length-upto k) in
+        let ring : own ≡ codesAt codes (follow nexts head (end - start)) = eo ∙ ap (λ n. codesAt codes (follow nexts head n)) (length-stretch items start end inside) in
+        let more : putMid start (end - start) items own ≡ laidUpto codes nexts heads stretches items₀ (k + 1)
+        = (λ i. putMid (es i) (ee i - es i) (e i) (ring i))
+        ∙ ap (λ h. putMid (getD stretches (2 * k) 0) (sizeAt stretches k) (laidUpto codes nexts heads stretches items₀ k) (codesAt codes (follow nexts h (end - start)))) eh
+        ∙ (λ i. putMid (getD stretches (2 * k) 0) (sizeAt stretches k) (laidUpto codes nexts heads stretches items₀ k) (codesAt codes (follow nexts (getD heads k 0) (ee i - es i))))
+        ∙ sym (part k q) ∙ ap (laidUpto codes nexts heads stretches items₀) (sym (add-one k)) in
+        (more, ap length more ∙ length-upto (k + 1))
 
     -- what lies in the stretches of the loops below k
     loops-upto : (k : ℕ) → k ≤ length stretches / 2 → (j : ℕ) → j < k → loopAt (laidUpto codes nexts heads stretches items₀ k) stretches j ≡ codesAt codes (follow nexts (getD heads j 0) (sizeAt stretches j))
@@ -124,6 +143,13 @@ module _ (codes nexts heads stretches items₀ : List ℕ) where
         part k q
         ∙ (λ i. putMid (getD stretches (2 * k) 0) (sizeAt stretches k) (same-upto same k (omega arith) i) (same k q i))
         ∙ put-same (getD stretches (2 * k) 0) (sizeAt stretches k) items₀
+
+-- a loop's stretch, as a layer reads it, lies in the list
+pub reads-order : (stretches items : List ℕ) → Laid stretches items → (k start end : ℕ) → k < length stretches / 2 → start ≡ getD stretches (2 * k) 0 → end ≡ getD stretches (2 * k + 1) 0 → start ≤ end
+reads-order stretches items laid k start end b es ee = omega (arith, laid .order k (omega arith))
+
+pub reads-inside : (stretches items now : List ℕ) → Laid stretches items → (k end : ℕ) → k < length stretches / 2 → end ≡ getD stretches (2 * k + 1) 0 → length now ≡ length items → end ≤ length now
+reads-inside stretches items now laid k end b ee same = omega (arith, laid .inside k (omega arith))
 
 -- BY LINKED TABLES
 

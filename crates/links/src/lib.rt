@@ -6,8 +6,7 @@ use fields::put;
 ghost use mathlib.Core.Path.{_≡_};
 ghost use Prim.Native.Nat.{_+_, _*_, _-_, _≤_, _<_};
 ghost use lib.ListN.{length, getD};
-ghost use lib.Seq.{sets};
-ghost use Rattle.edges.specs.Table.{rowsIn};
+ghost use Rattle.edges.specs.Table.{rowsIn, Laid};
 ghost use Rattle.links.specs.Tables.{linksOf, IsLoop, follow, codesAt, fusedAt};
 ghost use Rattle.links.specs.JoinLinks.{inCode, Joinable, Joined};
 ghost use Rattle.links.specs.Lay.{laidOut};
@@ -149,22 +148,24 @@ pub fn join_places(
 
 // LAYING OUT
 
-// The loop with head p is laid out from `start` to `end`.
-fn lay_loop(codes: &[u32], nexts: &[u32], items: &mut [u32], head: usize, start: usize, end: usize)
-    ensures { λ _. ⌜ now (items .exit) ≡ sets (now (items .entry)) start (codesAt (now (codes .entry)) (follow (now (nexts .entry)) head (end - start))) ⌝ }
+// A loop's own stretch of the item list is rewritten: its items from the head on.
+fn lay_loop(codes: &[u32], nexts: &[u32], head: usize, part: &mut [u32])
+    ensures { λ _. ⌜ now (part .exit) ≡ codesAt (now (codes .entry)) (follow (now (nexts .entry)) head (length (now (part .entry)))) ⌝ }
 {
+    let n = part.len();
     let mut p = head;
-    let mut i = start;
-    while i < end {
+    let mut i: usize = 0;
+    while i < n {
         let x = get(codes, p);
-        put(items, i, x);
+        put(part, i, x);
         p = get(nexts, p);
         i += 1;
     }
 }
 
-// Every loop is laid out, from its head round to its head.
+// Every loop is laid out in its stretch, turned so that its head comes first.
 pub fn lay_loops(codes: &[u32], nexts: &[u32], heads: &[u32], stretches: &[u32], items: &mut [u32])
+    requires { ⌜ Laid (now stretches) (now items) ⌝ }
     ensures { λ _. ⌜ now (items .exit) ≡ laidOut (now (codes .entry)) (now (nexts .entry)) (now (heads .entry)) (now (stretches .entry)) (now (items .entry)) ⌝ }
 {
     let n = stretches.len() / 2;
@@ -173,7 +174,7 @@ pub fn lay_loops(codes: &[u32], nexts: &[u32], heads: &[u32], stretches: &[u32],
         let head = get(heads, k);
         let start = get(stretches, 2 * k);
         let end = get(stretches, 2 * k + 1);
-        lay_loop(codes, nexts, items, head, start, end);
+        lay_loop(codes, nexts, head, &mut items[start..end]);
         k += 1;
     }
 }

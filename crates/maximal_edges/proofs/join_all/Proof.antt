@@ -74,7 +74,10 @@ enum-told c = search needs
 
 -- src/lib.rt:506:17
 lay-loops-requires : tie.Need-lay-loops-requires Inv-sweeps μ-sweeps
-lay-loops-requires c κs = search needs
+lay-loops-requires c κs =
+    let a = c .before .before .before .before .before .before .before .before .before .before .before .before .before .before .before .before .before .before .before .before .before .before .before .before .before .before .before .before .before .args in
+    let l = c .before .before .before .before .before .before .before .before .before .before .before .before .sweeps in
+    laid-base (linksOf (l .codes) (l .nexts) (l .heads) (a .owners .now) (l .spots) (l .stretches)) (l .items) (l .inv .6 .laid)
 
 -- src/lib.rt:507:17
 done-requires : tie.Need-done-requires Inv-sweeps μ-sweeps
