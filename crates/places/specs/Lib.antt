@@ -1,4 +1,0 @@
-pub mod Turn
-pub mod Find
-pub mod Replace
-pub mod ReplaceAll
