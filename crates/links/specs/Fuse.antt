@@ -5,34 +5,101 @@ use native.Mathlib.Decide.{ℕ-discrete}
 use mathlib.Core.Path.{_≡_, refl, sym, ap, subst, _∙_}
 use mathlib.Core.Logic.{⊎-elim}
 use mathlib.Core.List.{List, [], _∷_, _++_, map, List·Memᴰ·head, List·Memᴰ·tail, List·Memᴰ·cases-cons}
+use mathlib.Core.Bool.{cond}
 use lib.ListN.{length, getD, set, take, drop, length-set, length-append, take-append-drop}
 use lib.Seq.{getD-set-same, getD-set-other}
+use lib.Dec.{ltb}
+use borrow.Author.Tests.{lt-ltb, le-ltb}
+use borrow.Rule.Slice.PartMut.{putMid, set-mid-at}
+use Rattle.lists.specs.Stretches.{stretch, length-stretch, getD-stretch}
 use Rattle.lists.specs.Lists.{_∈_, Nodup}
 use Rattle.lists.specs.Members.{in-map, map-same}
 use Rattle.lists.specs.TurnedLists.{turn-in}
 use Rattle.edges.specs.Table.{Laid}
-use Rattle.links.specs.Tables.{Links, linksOf, follow, IsLoop, sizeAt, slotsAt, codesAt, ringAt, Chain, Stands, Linked, fusedIn, fusedAt}
+use Rattle.links.specs.Tables.{Links, linksOf, follow, IsLoop, sizeAt, ownEnd, slotsAt, codesAt, ringAt, Chain, Own, Held, Stands, Linked, Turned, fusedIn, fusedAt, FusableIn, Fusable}
 use Rattle.links.specs.Chains.{length-follow, chain-follow, chain-turned, chain-other, nodup-turned, map-turned, Front, front}
 
 -- a loop that stands in some slots has no others
 pub stands-in : (t : Links) (k : ℕ) (l : List ℕ) → Stands t k l → slotsAt t k ≡ l
 stands-in t k l s = ap (follow (t .nexts) (getD (t .heads) k 0)) (sym (s .size)) ∙ chain-follow (t .nexts) (getD (t .heads) k 0) (getD (t .heads) k 0) l (s .closed)
 
--- the values that the code finds, and what it stores
-pub fuse-is : (t : Links) (y x p q k e after : ℕ) (codes nexts heads spots stretches : List ℕ) → p ≡ getD (t .spots) y 0 → q ≡ getD (t .nexts) p 0 → k ≡ getD (t .owners) p 0
-    → e ≡ getD (t .stretches) (2 * k + 1) 0 → after ≡ getD (t .nexts) q 0 → codes ≡ set (t .codes) p x → nexts ≡ set (t .nexts) p after → heads ≡ set (t .heads) k p → spots ≡ set (t .spots) x p
-    → stretches ≡ set (t .stretches) (2 * k + 1) (e - 1) → linksOf codes nexts heads (t .owners) spots stretches ≡ fusedAt t y x
-unfolding fusedIn
-fuse-is t y x p q k e after codes nexts heads spots stretches ep eq ek ee ea ec en eh es et =
-    (λ i. linksOf (ec i) ((en ∙ ap (set (t .nexts) p) (ea ∙ ap (λ z. getD (t .nexts) z 0) eq)) i) (eh i) (t .owners) (es i) ((et ∙ ap (λ z. set (t .stretches) (2 * k + 1) (z - 1)) ee) i))
-    ∙ (λ i. fusedIn t ((ek ∙ ap (λ z. getD (t .owners) z 0) ep) i) (ep i) x)
+-- WHAT THE CODE FINDS AND STORES
 
--- the end of the loop whose slot has the item y
-pub end-there : (t : Links) (y p k e : ℕ) → p ≡ getD (t .spots) y 0 → k ≡ getD (t .owners) p 0 → e ≡ getD (t .stretches) (2 * k + 1) 0
-    → 1 ≤ getD (t .stretches) (2 * getD (t .owners) (getD (t .spots) y 0) 0 + 1) 0 → 1 ≤ e
-end-there t y p k e ep ek ee h =
-    let own : k ≡ getD (t .owners) (getD (t .spots) y 0) 0 = ek ∙ ap (λ z. getD (t .owners) z 0) ep in
-    omega (arith, h, ee, ap (λ z. getD (t .stretches) (2 * z + 1) 0) own)
+pub own-next : (stretches : List ℕ) (size k e : ℕ) → 2 * k + 3 < length stretches → e ≡ getD stretches (2 * k + 2) 0 → e ≡ ownEnd stretches size k
+unfolding ownEnd
+own-next stretches size k e h ee = ee ∙ sym (ap (λ c. cond c (getD stretches (2 * k + 2) 0) size) (lt-ltb (2 * k + 3) (length stretches) h))
+
+pub own-last : (stretches : List ℕ) (size k : ℕ) → length stretches ≤ 2 * k + 3 → size ≡ ownEnd stretches size k
+unfolding ownEnd
+own-last stretches size k h = sym (ap (λ c. cond c (getD stretches (2 * k + 2) 0) size) (le-ltb (2 * k + 3) (length stretches) h))
+
+pub turned-is : (codes nexts head codes′ nexts′ head′ : List ℕ) (start p x q after : ℕ) → q ≡ getD nexts (p - start) 0 → after ≡ getD nexts (q - start) 0 → codes′ ≡ set codes (p - start) x
+    → nexts′ ≡ set nexts (p - start) after → head′ ≡ set head 0 p → Turned codes nexts head start p x codes′ nexts′ head′
+turned-is codes nexts head codes′ nexts′ head′ start p x q after eq ea ec en eh = record {
+  items = ec;
+  links = en ∙ ap (set nexts (p - start)) (ea ∙ ap (λ z. getD nexts (z - start) 0) eq);
+  front = eh;
+}
+
+-- a store in a lent part is a store in the list
+part-set : (l part : List ℕ) (a e p x : ℕ) → a ≤ p → p < e → e ≤ length l → part ≡ set (stretch l a e) (p - a) x → putMid a (e - a) l part ≡ set l p x
+part-set l part a e p x low high inside h =
+    let z : a + (p - a) ≡ p = omega arith in
+    ap (putMid a (e - a) l) h ∙ set-mid-at a (e - a) (p - a) l x (omega (arith, length-stretch l a e inside)) ∙ ap (λ i. set l i x) z
+
+-- what is read in a lent part
+part-get : (l : List ℕ) (a e p : ℕ) → a ≤ p → p < e → getD (stretch l a e) (p - a) 0 ≡ getD l p 0
+part-get l a e p low high = let z : a + (p - a) ≡ p = omega arith in getD-stretch l a e (p - a) 0 (omega arith) ∙ ap (λ i. getD l i 0) z
+
+-- the slot of the item y, its loop, and where the loop's own stretch starts and ends, as the code finds them
+module _ (t : Links) (y x p k start bound : ℕ) (can : Fusable t y) (ep : p ≡ getD (t .spots) y 0) (ek : k ≡ getD (t .owners) p 0) (es : start ≡ getD (t .stretches) (2 * k) 0)
+    (eb : bound ≡ ownEnd (t .stretches) (length (t .codes)) k) where
+  here-can : FusableIn t k p
+  here-can = subst (λ z. FusableIn t z p) (sym ek) (subst (λ z. FusableIn t (getD (t .owners) z 0) z) (sym ep) can)
+
+  -- a loop's own stretch is there to be lent, and slot p lies in it
+  pub end-there : (e : ℕ) → e ≡ getD (t .stretches) (2 * k + 1) 0 → 1 ≤ e
+  end-there e ee = omega (arith, here-can .ending)
+
+  pub lent-order : start ≤ bound
+  lent-order = omega (arith, here-can .own .from-start, here-can .own .to-end)
+
+  pub lent-codes : bound ≤ length (t .codes)
+  lent-codes = omega (arith, here-can .held .codes-hold)
+
+  pub lent-nexts : bound ≤ length (t .nexts)
+  lent-nexts = omega (arith, here-can .held .nexts-hold)
+
+  pub lent-head : k + 1 ≤ length (t .heads)
+  lent-head = omega (arith, here-can .held .room)
+
+  pub slot-after : start ≤ p
+  slot-after = omega (arith, here-can .own .from-start)
+
+  next-is : getD (stretch (t .nexts) start bound) (p - start) 0 ≡ getD (t .nexts) p 0
+  next-is = part-get (t .nexts) start bound p slot-after (omega (arith, here-can .own .to-end))
+
+  pub next-after : start ≤ getD (stretch (t .nexts) start bound) (p - start) 0
+  next-after = omega (arith, next-is, here-can .next-own .from-start)
+
+  -- what stands in the tables when the lent parts are back
+  pub fuse-is : (e : ℕ) (codes nexts head spots stretches : List ℕ) → e ≡ getD (t .stretches) (2 * k + 1) 0 → Turned (stretch (t .codes) start bound) (stretch (t .nexts) start bound) (stretch (t .heads) k (k + 1)) start p x codes nexts head
+      → spots ≡ set (t .spots) x p → stretches ≡ set (t .stretches) (2 * k + 1) (e - 1)
+      → linksOf (putMid start (bound - start) (t .codes) codes) (putMid start (bound - start) (t .nexts) nexts) (putMid k ((k + 1) - k) (t .heads) head) (t .owners) spots stretches ≡ fusedAt t y x
+  unfolding fusedIn
+  fuse-is e codes nexts head spots stretches ee w es′ et =
+      let after : getD (stretch (t .nexts) start bound) (getD (stretch (t .nexts) start bound) (p - start) 0 - start) 0 ≡ getD (t .nexts) (getD (t .nexts) p 0) 0 =
+      ap (λ z. getD (stretch (t .nexts) start bound) (z - start) 0) next-is
+      ∙ part-get (t .nexts) start bound (getD (t .nexts) p 0) (omega (arith, here-can .next-own .from-start)) (omega (arith, here-can .next-own .to-end)) in
+      let ec : putMid start (bound - start) (t .codes) codes ≡ set (t .codes) p x =
+      part-set (t .codes) codes start bound p x slot-after (omega (arith, here-can .own .to-end)) lent-codes (w .items) in
+      let en : putMid start (bound - start) (t .nexts) nexts ≡ set (t .nexts) p (getD (t .nexts) (getD (t .nexts) p 0) 0) =
+      part-set (t .nexts) nexts start bound p (getD (t .nexts) (getD (t .nexts) p 0) 0) slot-after (omega (arith, here-can .own .to-end)) lent-nexts (w .links ∙ ap (set (stretch (t .nexts) start bound) (p - start)) after) in
+      let z : 0 ≡ k - k = omega arith in
+      let eh : putMid k ((k + 1) - k) (t .heads) head ≡ set (t .heads) k p =
+      part-set (t .heads) head k (k + 1) k p (omega arith) (omega arith) lent-head (w .front ∙ ap (λ i. set (stretch (t .heads) k (k + 1)) i p) z) in
+      (λ i. linksOf (ec i) (en i) (eh i) (t .owners) (es′ i) ((et ∙ ap (λ z. set (t .stretches) (2 * k + 1) (z - 1)) ee) i))
+      ∙ (λ i. fusedIn t ((ek ∙ ap (λ z. getD (t .owners) z 0) ep) i) (ep i) x)
 
 -- loop k with one item for the first two, and every other loop as it was
 pub record Fused (t t′ : Links) (k item : ℕ) (rest : List ℕ) : Type 0 where
@@ -82,6 +149,25 @@ module _ (t : Links) (linked : Linked t) (k : ℕ) (is : IsLoop (t .stretches) k
   pub two-items : getD (t .stretches) (2 * k) 0 + 2 ≤ getD (t .stretches) (2 * k + 1) 0
   two-items = omega (arith, two-there)
 
+  -- the slot of the first item leads to that of the second
+  next-slot : getD (t .nexts) (place .first) 0 ≡ place .second
+  next-slot =
+      let c = chain-turned (t .nexts) (slotsAt t k) i (getD (t .heads) k 0) (here .closed) in
+      let d : Chain (t .nexts) (c .0) (place .first ∷ place .second ∷ place .others) (c .0) = subst (λ l. Chain (t .nexts) (c .0) l (c .0)) (place .shape) (c .1) in
+      d .1 .0
+
+  -- the two can be made one
+  pub can-fuse : Fusable t x
+  can-fuse = subst (λ z. FusableIn t z (getD (t .spots) x 0)) (sym owner-is) (subst (FusableIn t k) (sym spot-is) can)
+    where
+      can : FusableIn t k (place .first)
+      can = record {
+        held = here .held;
+        own = here .within (place .first) first-in;
+        next-own = subst (Own t k) (sym next-slot) (here .within (place .second) (of-loop (place .second) (List·Memᴰ·tail (List·Memᴰ·head refl))));
+        ending = omega (arith, two-items);
+      }
+
   module _ (item : ℕ) (room : item < length (t .spots)) (fresh : (j : ℕ) → IsLoop (t .stretches) j → item ∈ ringAt t j → ⊥) where
     abbrev after : Links
     after = fusedIn t k (place .first) item
@@ -100,7 +186,7 @@ module _ (t : Links) (linked : Linked t) (k : ℕ) (is : IsLoop (t .stretches) k
 
     head-now : getD (after .heads) k 0 ≡ place .first
     unfolding fusedIn
-    head-now = getD-set-same (t .heads) k (place .first) 0 (here .room)
+    head-now = getD-set-same (t .heads) k (place .first) 0 (here .held .room)
 
     head-other : (j : ℕ) → (j ≡ k → ⊥) → getD (after .heads) j 0 ≡ getD (t .heads) j 0
     unfolding fusedIn
@@ -108,7 +194,7 @@ module _ (t : Links) (linked : Linked t) (k : ℕ) (is : IsLoop (t .stretches) k
 
     code-now : getD (after .codes) (place .first) 0 ≡ item
     unfolding fusedIn
-    code-now = getD-set-same (t .codes) (place .first) item 0 (here .within (place .first) first-in .0)
+    code-now = getD-set-same (t .codes) (place .first) item 0 (omega (arith, here .within (place .first) first-in .to-end, here .held .codes-hold))
 
     code-other : (s : ℕ) → (s ≡ place .first → ⊥) → getD (after .codes) s 0 ≡ getD (t .codes) s 0
     unfolding fusedIn
@@ -126,16 +212,23 @@ module _ (t : Links) (linked : Linked t) (k : ℕ) (is : IsLoop (t .stretches) k
     unfolding fusedIn
     spot-now = ap (λ c. getD (after .spots) c 0) code-now ∙ getD-set-same (t .spots) item (place .first) 0 room
 
-    as-long : (s : ℕ) → (s < length (t .codes)) × (s < length (t .nexts)) → (s < length (after .codes)) × (s < length (after .nexts))
-    unfolding fusedIn
-    as-long s w = (
-      omega (arith, w .0, length-set (t .codes) (place .first) item),
-      omega (arith, w .1, length-set (t .nexts) (place .first) (getD (t .nexts) (getD (t .nexts) (place .first) 0) 0)),
-    )
+    -- each loop's own stretch is what it was
+    ends-kept : (j : ℕ) → ownEnd (after .stretches) (length (after .codes)) j ≡ ownEnd (t .stretches) (length (t .codes)) j
+    unfolding fusedIn ownEnd
+    ends-kept j =
+        let e : ℕ = getD (t .stretches) (2 * k + 1) 0 - 1 in
+        (λ i. cond (ltb (2 * j + 3) (length-set (t .stretches) (2 * k + 1) e i)) (getD-set-other (t .stretches) (2 * k + 1) (2 * j + 2) e 0 (λ (z : 2 * j + 2 ≡ 2 * k + 1). omega arith) i) (length-set (t .codes) (place .first) item i))
 
-    rooms : (j : ℕ) → j < length (t .heads) → j < length (after .heads)
+    own-kept : (j s : ℕ) → Own t j s → Own after j s
+    own-kept j s w = record { from-start = omega (arith, w .from-start, start-of j); to-end = omega (arith, w .to-end, ends-kept j) }
+
+    held-kept : (j : ℕ) → Held t j → Held after j
     unfolding fusedIn
-    rooms j h = omega (arith, length-set (t .heads) k (place .first))
+    held-kept j w = record {
+      codes-hold = omega (arith, w .codes-hold, ends-kept j, length-set (t .codes) (place .first) item);
+      nexts-hold = omega (arith, w .nexts-hold, ends-kept j, length-set (t .nexts) (place .first) (getD (t .nexts) (getD (t .nexts) (place .first) 0) 0));
+      room = omega (arith, w .room, length-set (t .heads) k (place .first));
+    }
 
     same-owner : (s : ℕ) → getD (after .owners) s 0 ≡ getD (t .owners) s 0
     unfolding fusedIn
@@ -152,7 +245,7 @@ module _ (t : Links) (linked : Linked t) (k : ℕ) (is : IsLoop (t .stretches) k
         let old : Chain (after .nexts) (getD (t .nexts) (place .second) 0) (place .others) (c .0) =
         chain-other (t .nexts) (place .others) p v (getD (t .nexts) (place .second) 0) (c .0) (λ m. distinct .0 (List·Memᴰ·tail m)) (d .1 .1) in
         let next : getD (after .nexts) p 0 ≡ getD (t .nexts) (place .second) 0 =
-        getD-set-same (t .nexts) p v 0 (here .within p first-in .1) ∙ ap (λ z. getD (t .nexts) z 0) (d .1 .0) in (
+        getD-set-same (t .nexts) p v 0 (omega (arith, here .within p first-in .to-end, here .held .nexts-hold)) ∙ ap (λ z. getD (t .nexts) z 0) (d .1 .0) in (
           head-now,
           subst (λ z. Chain (after .nexts) z (place .others) (getD (after .heads) k 0)) (sym next)
               (subst (λ z. Chain (after .nexts) (getD (t .nexts) (place .second) 0) (place .others) z) (d .0 ∙ sym head-now) old),
@@ -166,12 +259,12 @@ module _ (t : Links) (linked : Linked t) (k : ℕ) (is : IsLoop (t .stretches) k
     stands-now = record {
       closed = chain-now;
       size = omega (arith, end-now, start-of k, two-there);
-      room = rooms k (here .room);
+      held = held-kept k (here .held);
       apart = (λ m. distinct .0 (List·Memᴰ·tail m), distinct .1 .1);
       owned = λ s m. same-owner s ∙ here .owned s (sub s m);
       spotted = λ s m. ⊎-elim (λ e. subst (λ z. getD (after .spots) (getD (after .codes) z 0) 0 ≡ z) (sym e) spot-now)
           (λ q. spot-other k s is (sub s m) (λ e. distinct .0 (List·Memᴰ·tail (subst (λ z. z ∈ place .others) e q)))) (List·Memᴰ·cases-cons m);
-      within = λ s m. as-long s (here .within s (sub s m));
+      within = λ s m. own-kept k s (here .within s (sub s m));
     }
       where
         sub : (s : ℕ) → s ∈ (place .first ∷ place .others) → s ∈ slotsAt t k
@@ -188,11 +281,11 @@ module _ (t : Links) (linked : Linked t) (k : ℕ) (is : IsLoop (t .stretches) k
           closed = subst (λ h. Chain (after .nexts) h (slotsAt t j) h) (sym (head-other j n))
               (chain-kept j (slotsAt t j) (λ m. not-there j (place .first) q n m refl) (getD (t .heads) j 0) (getD (t .heads) j 0) (o .closed));
           size = omega (arith, o .size, end-other j n, start-of j);
-          room = rooms j (o .room);
+          held = held-kept j (o .held);
           apart = o .apart;
           owned = λ s m. same-owner s ∙ o .owned s m;
           spotted = λ s m. spot-other j s q m (not-there j s q n m);
-          within = λ s m. as-long s (o .within s m);
+          within = λ s m. own-kept j s (o .within s m);
         }
 
     loops-kept : length (after .stretches) ≡ length (t .stretches)

@@ -29,9 +29,9 @@ use Rattle.theorems.specs.EdgesAfter.{active-inside}
 use Rattle.theorems.specs.Trails.{LoopSound, loop-sound}
 use Rattle.theorems.specs.Places.{inSense, inItem, outItem, timesOf, Found, Missed, place-cases, found-once}
 use Rattle.theorems.specs.JoinLoops.{joinedItems, newItem, joined-found, joined-missed}
-use Rattle.links.specs.Tables.{Links, IsLoop, ringAt, loopOf, Linked, fusedAt}
+use Rattle.links.specs.Tables.{Links, IsLoop, ringAt, loopOf, Linked, fusedAt, Fusable}
 use Rattle.links.specs.Chains.{map-turned, Front, front}
-use Rattle.links.specs.Fuse.{owner-is, two-items, Fused, fused}
+use Rattle.links.specs.Fuse.{owner-is, can-fuse, Fused, fused}
 
 -- all loops
 abbrev pub loopsOf : Links → List (List Item)
@@ -255,23 +255,14 @@ module _ (es : List EdgeData) (v a b : ℕ) (two : TwoEdges es v a b) (t : Links
     laid = λ items l. second-fused .laid items (first-fused .laid items l);
   }
 
-  -- each of the two loops has an end to move
-  pub first-end : 1 ≤ getD (t .stretches) (2 * getD (t .owners) (getD (t .spots) (inCode es v a) 0) 0 + 1) 0
-  first-end =
+  -- in each of the two loops the two items can be made one
+  pub first-can : Fusable t (inCode es v a)
+  first-can =
       let w : At t ka (inCode es v a) (first-loop .2 .rest) = first-at in
-      omega (
-        arith,
-        ap (λ k. getD (t .stretches) (2 * k + 1) 0) (one-loop ka (inCode es v a) (first-loop .2 .rest) w),
-        two-items t linked ka (w .is) (w .at) (inCode es v a) (w .next) (w .others) (w .shape),
-      )
+      can-fuse t linked ka (w .is) (w .at) (inCode es v a) (w .next) (w .others) (w .shape)
 
-  pub second-end : 1 ≤ getD (fusedAt t (inCode es v a) (2 * length es) .stretches) (2 * getD (fusedAt t (inCode es v a) (2 * length es) .owners) (getD (fusedAt t (inCode es v a) (2 * length es) .spots) (inCode es v b) 0) 0 + 1) 0
-  second-end =
-      omega (
-        arith,
-        ap (λ k. getD (once .stretches) (2 * k + 1) 0) (owner-is once (first-fused .linked) kb still-is (second-at .at) (inCode es v b) (second-at .next) (second-at .others) still-at),
-        two-items once (first-fused .linked) kb still-is (second-at .at) (inCode es v b) (second-at .next) (second-at .others) still-at,
-      )
+  pub second-can : Fusable (fusedAt t (inCode es v a) (2 * length es)) (inCode es v b)
+  second-can = can-fuse once (first-fused .linked) kb still-is (second-at .at) (inCode es v b) (second-at .next) (second-at .others) still-at
 
 -- what a join needs: sound loops, the two edges that end at the corner, and room for the new edge's items
 pub record Joinable (es : List EdgeData) (v a b new : ℕ) (t : Links) : Type 0 where
@@ -286,18 +277,15 @@ module _ (es : List EdgeData) (v a b new : ℕ) (t : Links) (j : Joinable es v a
   rooms : 2 * length es + 1 < length (t .spots)
   rooms = omega (arith, j .room, j .number)
 
-  pub fuse-first : 1 ≤ getD (t .stretches) (2 * getD (t .owners) (getD (t .spots) x 0) 0 + 1) 0
-  fuse-first = subst (λ c. 1 ≤ getD (t .stretches) (2 * getD (t .owners) (getD (t .spots) c 0) 0 + 1) 0) (sym ex) (first-end es v a b (j .two) t (j .linked) (j .sound) rooms)
+  pub fuse-first : Fusable t x
+  fuse-first = subst (Fusable t) (sym ex) (first-can es v a b (j .two) t (j .linked) (j .sound) rooms)
 
   module _ (u : Links) (eu : u ≡ fusedAt t x (2 * new)) where
     once-is : u ≡ fusedAt t (inCode es v a) (2 * length es)
     once-is = eu ∙ (λ i. fusedAt t (ex i) (2 * j .number i))
 
-    pub fuse-second : 1 ≤ getD (u .stretches) (2 * getD (u .owners) (getD (u .spots) y 0) 0 + 1) 0
-    fuse-second =
-        subst (λ (s : Links). 1 ≤ getD (s .stretches) (2 * getD (s .owners) (getD (s .spots) y 0) 0 + 1) 0) (sym once-is)
-        (subst (λ c. 1 ≤ getD (fusedAt t (inCode es v a) (2 * length es) .stretches) (2 * getD (fusedAt t (inCode es v a) (2 * length es) .owners) (getD (fusedAt t (inCode es v a) (2 * length es) .spots) c 0) 0 + 1) 0) (sym ey)
-        (second-end es v a b (j .two) t (j .linked) (j .sound) rooms))
+    pub fuse-second : Fusable u y
+    fuse-second = subst (λ (s : Links). Fusable s y) (sym once-is) (subst (Fusable (fusedAt t (inCode es v a) (2 * length es))) (sym ey) (second-can es v a b (j .two) t (j .linked) (j .sound) rooms))
 
     pub join-is : (w : Links) → w ≡ fusedAt u y (2 * new + 1) → Joined es v a b t w
     join-is w ew = subst (Joined es v a b t) (sym (ew ∙ (λ i. fusedAt (once-is i) (ey i) (2 * j .number i + 1)))) (joined-twice es v a b (j .two) t (j .linked) (j .sound) rooms)

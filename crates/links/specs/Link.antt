@@ -16,8 +16,8 @@ use Rattle.lists.specs.Lists.{_∈_, from}
 use Rattle.lists.specs.Runs.{from-in, from-nodup, length-from}
 use Rattle.lists.specs.Members.{map-same}
 use Rattle.edges.specs.Table.{loopAt, Laid}
-use Rattle.links.specs.Tables.{Links, linksOf, IsLoop, sizeAt, slotsAt, codesAt, ringAt, Chain, Stands, Linked}
-use Rattle.links.specs.Fuse.{stands-in}
+use Rattle.links.specs.Tables.{Links, linksOf, IsLoop, sizeAt, ownEnd, slotsAt, codesAt, ringAt, Chain, Own, Held, Stands, Linked}
+use Rattle.links.specs.Fuse.{stands-in, own-next, own-last}
 use Rattle.links.specs.Lay.{laid-before}
 
 -- slot r lies in loop j
@@ -44,7 +44,7 @@ pub record Linkable (items stretches codes nexts owners spots : List ℕ) : Type
   pub spread : (j k r s : ℕ) → InLoop stretches j r → InLoop stretches k s → getD items r 0 ≡ getD items s 0 → r ≡ s
   pub known : (j r : ℕ) → InLoop stretches j r → getD items r 0 < length spots
   pub codes-fit : length items ≤ length codes
-  pub nexts-fit : length items ≤ length nexts
+  pub nexts-fit : length codes ≤ length nexts
   pub owners-fit : length items ≤ length owners
 
 -- slot r of loop j has been linked, where linking has come to slot s of loop k
@@ -107,7 +107,7 @@ module _ (items stretches codes nexts owners spots : List ℕ) (k : ℕ) where
       spread = u .ready .spread;
       known = λ j r p. omega (arith, u .ready .known j r p, ap length et, length-set spots x s);
       codes-fit = omega (arith, u .ready .codes-fit, ap length ec, length-set codes s x);
-      nexts-fit = omega (arith, u .ready .nexts-fit, ap length en, length-set nexts s q);
+      nexts-fit = omega (arith, u .ready .nexts-fit, ap length en, length-set nexts s q, ap length ec, length-set codes s x);
       owners-fit = omega (arith, u .ready .owners-fit, ap length eo, length-set owners s k);
     };
     slots = λ j r p w.
@@ -128,7 +128,7 @@ module _ (items stretches codes nexts owners spots : List ℕ) (k : ℕ) where
       now : SlotLinked items stretches codes′ nexts′ owners′ spots′ k s
       now = record {
         code = ap (λ l. getD l s 0) ec ∙ getD-set-same codes s x 0 (omega (arith, inside, u .ready .codes-fit)) ∙ ex;
-        next = ap (λ l. getD l s 0) en ∙ getD-set-same nexts s q 0 (omega (arith, inside, u .ready .nexts-fit)) ∙ eq ∙ (λ i. nextSlot (es i) (ee i) s);
+        next = ap (λ l. getD l s 0) en ∙ getD-set-same nexts s q 0 (omega (arith, inside, u .ready .codes-fit, u .ready .nexts-fit)) ∙ eq ∙ (λ i. nextSlot (es i) (ee i) s);
         owner = ap (λ l. getD l s 0) eo ∙ getD-set-same owners s k 0 (omega (arith, inside, u .ready .owners-fit));
         spot = ap (λ l. getD l (getD items s 0) 0) et ∙ ap (λ z. getD (set spots x s) z 0) (sym ex) ∙ getD-set-same spots x s 0 (omega (arith, ex, u .ready .known k s here));
       }
@@ -221,17 +221,40 @@ module _ (items stretches codes nexts heads₀ heads owners spots : List ℕ) (n
     inside : end ≤ length items
     inside = u .ready .laid .inside k is
 
+    -- the loop ends in its own stretch, which lies in the list
+    own-after : end ≤ ownEnd stretches (length codes) k
+    own-after =
+        elim (decLt (2 * k + 3) (length stretches)) [
+          | yes p ↦ omega (arith, own-next stretches (length codes) k (getD stretches (2 * k + 2) 0) p refl, u .ready .laid .apart k p)
+          | no p ↦ omega (arith, own-last stretches (length codes) k (omega (arith, p)), inside, u .ready .codes-fit)
+        ]
+
+    own-inside : ownEnd stretches (length codes) k ≤ length codes
+    own-inside =
+        elim (decLt (2 * k + 3) (length stretches)) [
+          | yes p ↦
+              let q : IsLoop stretches (k + 1) = omega arith in
+              let z : 2 * (k + 1) ≡ 2 * k + 2 = omega arith in
+              omega (
+                arith,
+                own-next stretches (length codes) k (getD stretches (2 * k + 2) 0) p refl,
+                ap (λ i. getD stretches i 0) z,
+                u .ready .laid .order (k + 1) q,
+                u .ready .laid .inside (k + 1) q,
+                u .ready .codes-fit,
+              )
+          | no p ↦ omega (arith, own-last stretches (length codes) k (omega (arith, p)))
+        ]
+
     stands : Stands links k (from start (end - start))
     stands = record {
       closed = chain (end - start) refl;
       size = length-from start (end - start);
-      room = omega (arith, h .size);
+      held = record { codes-hold = own-inside; nexts-hold = omega (arith, own-inside, u .ready .nexts-fit); room = omega (arith, h .size) };
       apart = from-nodup start (end - start);
       owned = λ s m. slot-in s m .owner;
       spotted = λ s m. ap (λ c. getD spots c 0) (slot-in s m .code) ∙ slot-in s m .spot;
-      within = λ s m.
-          let w = from-in start (end - start) s m in
-          (omega (arith, inside, u .ready .codes-fit), omega (arith, inside, u .ready .nexts-fit));
+      within = λ s m. let w = from-in start (end - start) s m in record { from-start = w .0; to-end = omega (arith, w .0, w .1, own-after) };
     }
 
     ring-is : ringAt links k ≡ loopAt items stretches k

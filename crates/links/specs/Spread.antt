@@ -129,7 +129,7 @@ module _ (es : List EdgeData) (items stretches : List ℕ) (laid : Laid stretche
       let z : x / 2 < length es = active-inside es (x / 2) (loop-sound es (laidLoops items stretches) sound (laidLoop items stretches j) (loop-there j (p .is)) .actives (itemIn x) (stands-in-loop j r p)) in
       omega arith
 
-  pub sound-linkable : (codes nexts owners spots : List ℕ) → length items ≤ length codes → length items ≤ length nexts → length items ≤ length owners → 2 * length es ≤ length spots
+  pub sound-linkable : (codes nexts owners spots : List ℕ) → length items ≤ length codes → length codes ≤ length nexts → length items ≤ length owners → 2 * length es ≤ length spots
       → Linkable items stretches codes nexts owners spots
   sound-linkable codes nexts owners spots c n o h = record {
     laid = laid;

@@ -37,7 +37,7 @@ pub record SoundIn (rows : List ℕ) (count : ℕ) (items stretches : List ℕ) 
 pub record LinksFit (rows : List ℕ) (count : ℕ) (items stretches codes nexts heads owners spots : List ℕ) : Type 0 where
   pub sound : LoopsSound (edgesIn rows count) (laidLoops items stretches)
   pub codes-fit : length items ≤ length codes
-  pub nexts-fit : length items ≤ length nexts
+  pub nexts-fit : length codes ≤ length nexts
   pub owners-fit : length items ≤ length owners
   pub heads-fit : length stretches ≤ 2 * length heads
   pub spots-fit : 4 * count ≤ length spots

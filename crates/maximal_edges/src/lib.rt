@@ -292,14 +292,15 @@ fn sweep(
             let mut seen: usize = 0;
             'edges: while seen < 2 {
                 seen += ends_of(rows, e, v);
-                if seen == 2 {
-                    change = try_corner(job, index, c, starts, rows, v, a, e);
-                    if stays(change) {
-                        continue 'corners;
-                    }
-                    break 'corners;
+                if seen != 2 {
+                    e = get(highs, v);
+                    continue 'edges;
                 }
-                e = get(highs, v);
+                change = try_corner(job, index, c, starts, rows, v, a, e);
+                if stays(change) {
+                    continue 'corners;
+                }
+                break 'corners;
             }
         }
     }
@@ -444,7 +445,7 @@ fn replace_end(lows: &mut [u32], highs: &mut [u32], v: usize, a: usize, n: usize
 fn join_at(
     rows: &mut [u32],
     n: usize,
-    codes: &mut [u32],
+    list: &mut [u32],
     nexts: &mut [u32],
     heads: &mut [u32],
     owners: &[u32],
@@ -457,15 +458,15 @@ fn join_at(
     a: usize,
     b: usize,
 ) -> EdgeData
-    requires { ⌜ (7 * n + 7 ≤ length (now rows)) × (n < 2048) × (a < b) × (b < n) × Joinable (edgesIn (now rows) n) v a b n (linksOf (now codes) (now nexts) (now heads) (now owners) (now spots) (now stretches)) ⌝ }
-    ensures { λ r. ⌜ JoinedIn n v a b (now (rows .entry)) (linksOf (now (codes .entry)) (now (nexts .entry)) (now (heads .entry)) (now (owners .entry)) (now (spots .entry)) (now (stretches .entry))) (now (ends .entry)) (now (lows .entry)) (now (highs .entry)) (now (rows .exit)) (linksOf (now (codes .exit)) (now (nexts .exit)) (now (heads .exit)) (now (owners .entry)) (now (spots .exit)) (now (stretches .exit))) (now (ends .exit)) (now (lows .exit)) (now (highs .exit)) r ⌝ }
+    requires { ⌜ (7 * n + 7 ≤ length (now rows)) × (n < 2048) × (a < b) × (b < n) × Joinable (edgesIn (now rows) n) v a b n (linksOf (now list) (now nexts) (now heads) (now owners) (now spots) (now stretches)) ⌝ }
+    ensures { λ r. ⌜ JoinedIn n v a b (now (rows .entry)) (linksOf (now (list .entry)) (now (nexts .entry)) (now (heads .entry)) (now (owners .entry)) (now (spots .entry)) (now (stretches .entry))) (now (ends .entry)) (now (lows .entry)) (now (highs .entry)) (now (rows .exit)) (linksOf (now (list .exit)) (now (nexts .exit)) (now (heads .exit)) (now (owners .entry)) (now (spots .exit)) (now (stretches .exit))) (now (ends .exit)) (now (lows .exit)) (now (highs .exit)) r ⌝ }
 {
     let x = edge_at(&rows[..7 * n], a);
     let y = edge_at(&rows[..7 * n], b);
     let part = &rows[..7 * n];
     links::join_places(
         part,
-        codes,
+        list,
         nexts,
         heads,
         owners,
@@ -511,7 +512,7 @@ fn join_all(
     highs: &mut [u32],
     rows: &mut [u32],
     count: usize,
-    codes: &mut [u32],
+    list: &mut [u32],
     nexts: &mut [u32],
     heads: &mut [u32],
     owners: &[u32],
@@ -519,7 +520,7 @@ fn join_all(
     items: &mut [u32],
     stretches: &mut [u32],
 ) -> Joining
-    requires { ⌜ Indexed (now job) (now index) c × (14 * count ≤ length (now rows)) × (count ≤ 1024) × Laid (now stretches) (now items) × Tabled (edgesIn (now rows) count) (now ends) (now lows) (now highs) × Nodup (now names) × ((v : ℕ) → v ∈ now names → v < length (now ends)) × Ranked (now names) (now ranks) × Hung (edgesIn (now rows) count) (linksOf (now codes) (now nexts) (now heads) (now owners) (now spots) (now stretches)) × (laidOut (now codes) (now nexts) (now heads) (now stretches) (now items) ≡ now items) ⌝ }
+    requires { ⌜ Indexed (now job) (now index) c × (14 * count ≤ length (now rows)) × (count ≤ 1024) × Laid (now stretches) (now items) × Tabled (edgesIn (now rows) count) (now ends) (now lows) (now highs) × Nodup (now names) × ((v : ℕ) → v ∈ now names → v < length (now ends)) × Ranked (now names) (now ranks) × Hung (edgesIn (now rows) count) (linksOf (now list) (now nexts) (now heads) (now owners) (now spots) (now stretches)) × (laidOut (now list) (now nexts) (now heads) (now stretches) (now items) ≡ now items) ⌝ }
     ensures { λ r. ⌜ Ran (answersIn (now (job .entry)) (now (index .entry)) c) (now (starts .entry)) (now (names .entry)) (now (rows .entry)) count (now (items .entry)) (now (stretches .entry)) (now (rows .exit)) (now (items .exit)) (now (stretches .exit)) r ⌝ }
 {
     let mut n = count;
@@ -546,7 +547,7 @@ fn join_all(
         );
         match change {
             Change::Unchanged => {
-                links::lay_loops(codes, nexts, heads, stretches, items);
+                links::lay_loops(list, nexts, heads, stretches, items);
                 return done(n, joins, rings);
             }
             Change::Refused(number, place) => return Joining::Refused(number, place),
@@ -562,7 +563,7 @@ fn join_all(
                 let e = join_at(
                     rows,
                     n,
-                    codes,
+                    list,
                     nexts,
                     heads,
                     owners,
@@ -601,7 +602,7 @@ fn join_with(
     highs: &mut [u32],
     rows: &mut [u32],
     count: usize,
-    codes: &mut [u32],
+    list: &mut [u32],
     nexts: &mut [u32],
     heads: &mut [u32],
     owners: &mut [u32],
@@ -609,12 +610,12 @@ fn join_with(
     items: &mut [u32],
     stretches: &mut [u32],
 ) -> Joining
-    requires { ⌜ Indexed (now job) (now index) c × (14 * count ≤ length (now rows)) × (count ≤ 1024) × Laid (now stretches) (now items) × Nodup (now names) × ((v : ℕ) → v ∈ now names → v < length (now ends)) × Blank (now ends) (now lows) (now highs) × (length (now ranks) ≡ length (now ends)) × LinksFit (now rows) count (now items) (now stretches) (now codes) (now nexts) (now heads) (now owners) (now spots) ⌝ }
+    requires { ⌜ Indexed (now job) (now index) c × (14 * count ≤ length (now rows)) × (count ≤ 1024) × Laid (now stretches) (now items) × Nodup (now names) × ((v : ℕ) → v ∈ now names → v < length (now ends)) × Blank (now ends) (now lows) (now highs) × (length (now ranks) ≡ length (now ends)) × LinksFit (now rows) count (now items) (now stretches) (now list) (now nexts) (now heads) (now owners) (now spots) ⌝ }
     ensures { λ r. ⌜ Ran (answersIn (now (job .entry)) (now (index .entry)) c) (now (starts .entry)) (now (names .entry)) (now (rows .entry)) count (now (items .entry)) (now (stretches .entry)) (now (rows .exit)) (now (items .exit)) (now (stretches .exit)) r ⌝ }
 {
     count_ends(&rows[..7 * count], ends, lows, highs);
     rank(names, ranks);
-    links::link_loops(items, stretches, codes, nexts, heads, owners, spots);
+    links::link_loops(items, stretches, list, nexts, heads, owners, spots);
     join_all(
         job,
         index,
@@ -627,7 +628,7 @@ fn join_with(
         highs,
         rows,
         count,
-        codes,
+        list,
         nexts,
         heads,
         owners,
@@ -656,7 +657,7 @@ fn join_small(
     let mut ends = [0u32; 64];
     let mut lows = [0u32; 64];
     let mut highs = [0u32; 64];
-    let mut codes = [0u32; 64];
+    let mut list = [0u32; 64];
     let mut nexts = [0u32; 64];
     let mut heads = [0u32; 64];
     let mut owners = [0u32; 64];
@@ -673,7 +674,7 @@ fn join_small(
         &mut highs,
         rows,
         count,
-        &mut codes,
+        &mut list,
         &mut nexts,
         &mut heads,
         &mut owners,
@@ -702,7 +703,7 @@ fn join_large(
     let mut ends = [0u32; 2048];
     let mut lows = [0u32; 2048];
     let mut highs = [0u32; 2048];
-    let mut codes = [0u32; 2048];
+    let mut list = [0u32; 2048];
     let mut nexts = [0u32; 2048];
     let mut heads = [0u32; 2048];
     let mut owners = [0u32; 2048];
@@ -719,7 +720,7 @@ fn join_large(
         &mut highs,
         rows,
         count,
-        &mut codes,
+        &mut list,
         &mut nexts,
         &mut heads,
         &mut owners,

@@ -50,7 +50,7 @@ loop-again c =
     let l = c .before .before .before .before .before .before .before .loop in
     let n = length (a .part .now) in (
       l .inv .0,
-      lay-step (a .codes .now) (a .nexts .now) (l .part) (c .before .before .before .put .last .0) (sets (a .part .now) 0 (codesAt (a .codes .now) (follow (a .nexts .now) (a .head) (n - 0)))) (l .i) n (l .p) (c .get2 .result) (c .before .before .before .before .before .get .result) (l .inv .1) (c .before .before .before .before .before .before .loop-test .taken) (c .before .before .before .before .before .get .ensures .0) (c .get2 .ensures .0) (c .before .before .before .put .ensures),
+      lay-step (a .list .now) (a .nexts .now) (l .part) (c .before .before .before .put .last .0) (sets (a .part .now) 0 (codesAt (a .list .now) (follow (a .nexts .now) (a .head) (n - 0)))) (l .i) n (l .p) (c .get2 .result) (c .before .before .before .before .before .get .result) (l .inv .1) (c .before .before .before .before .before .before .loop-test .taken) (c .before .before .before .before .before .get .ensures .0) (c .get2 .ensures .0) (c .before .before .before .put .ensures),
       c .before .before .before .put .kept .0 ∙ l .inv .2,
     )
 
@@ -64,8 +64,8 @@ returns c =
     let a = c .before .before .before .before .before .args in
     let l = c .before .loop in
     let n = length (a .part .now) in
-    lay-whole (a .codes .now) (a .nexts .now) (a .part .now) (l .part) (a .head) n refl
-    (lay-done (a .codes .now) (a .nexts .now) (l .part) (sets (a .part .now) 0 (codesAt (a .codes .now) (follow (a .nexts .now) (a .head) (n - 0)))) (l .i) n (l .p) (l .inv .1) (c .loop-test .left))
+    lay-whole (a .list .now) (a .nexts .now) (a .part .now) (l .part) (a .head) n refl
+    (lay-done (a .list .now) (a .nexts .now) (l .part) (sets (a .part .now) 0 (codesAt (a .list .now) (follow (a .nexts .now) (a .head) (n - 0)))) (l .i) n (l .p) (l .inv .1) (c .loop-test .left))
 
 pub lay-loop-spec : {M : Type 1} → statement M
 lay-loop-spec =

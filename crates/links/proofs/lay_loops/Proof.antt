@@ -19,7 +19,7 @@ abbrev μ-loop : tie.MeasureT-loop
 
 -- src/lib.rt:173:5
 loop-holds : tie.Need-loop-holds Inv-loop μ-loop
-loop-holds c = let a = c .before .before .before .before .before .args in (refl, upto-none (a .codes .now) (a .nexts .now) (a .heads .now) (a .stretches .now) (a .items .now), omega arith, refl)
+loop-holds c = let a = c .before .before .before .before .before .args in (refl, upto-none (a .list .now) (a .nexts .now) (a .heads .now) (a .stretches .now) (a .items .now), omega arith, refl)
 
 -- src/lib.rt:174:13
 get-requires : tie.Need-get-requires Inv-loop μ-loop
@@ -78,7 +78,7 @@ loop-again : tie.Need-loop-again Inv-loop μ-loop
 loop-again c =
     let a = c .before .before .before .before .before .before .before .before .before .before .before .before .before .before .args in
     let l = c .before .before .before .before .before .before .before .before .loop in
-    let next = upto-part (a .codes .now) (a .nexts .now) (a .heads .now) (a .stretches .now) (a .items .now) (c .before .before .before .before .before .before .before .before .before .before .before .before .before .before .pre) (l .items) (c .before .before .lay-loop .last .1 .1 .1 .0) (l .k) (c .before .before .before .before .before .before .get .result) (c .before .before .before .before .before .get2 .result) (c .before .before .before .before .get3 .result)
+    let next = upto-part (a .list .now) (a .nexts .now) (a .heads .now) (a .stretches .now) (a .items .now) (c .before .before .before .before .before .before .before .before .before .before .before .before .before .before .pre) (l .items) (c .before .before .lay-loop .last .1 .1 .1 .0) (l .k) (c .before .before .before .before .before .before .get .result) (c .before .before .before .before .before .get2 .result) (c .before .before .before .before .get3 .result)
     (c .before .before .before .before .before .before .before .loop-test .taken) (l .inv .1) (c .before .before .before .before .before .before .get .ensures .0) (c .before .before .before .before .before .get2 .ensures .0) (c .before .before .before .before .get3 .ensures .0) (c .before .before .lay-loop .ensures) in
     (refl, next .0, omega (arith, c .before .before .before .before .before .before .before .loop-test .taken), next .1)
 
@@ -91,7 +91,7 @@ returns : tie.Need-returns Inv-loop μ-loop
 returns c =
     let a = c .before .before .before .before .before .before .before .args in
     let l = c .before .loop in
-    upto-all (a .codes .now) (a .nexts .now) (a .heads .now) (a .stretches .now) (a .items .now) (l .items) (length (a .stretches .now) / 2) (l .k) (l .inv .1) refl (omega (arith, c .loop-test .left, l .inv .0)) (omega (arith, l .inv .0, l .inv .2))
+    upto-all (a .list .now) (a .nexts .now) (a .heads .now) (a .stretches .now) (a .items .now) (l .items) (length (a .stretches .now) / 2) (l .k) (l .inv .1) refl (omega (arith, c .loop-test .left, l .inv .0)) (omega (arith, l .inv .0, l .inv .2))
 
 pub lay-loops-spec : {M : Type 1} → statement M
 lay-loops-spec =

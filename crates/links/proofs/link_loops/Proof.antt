@@ -20,7 +20,7 @@ abbrev μ-loop : tie.MeasureT-loop
 
 -- src/lib.rt:71:5
 loop-holds : tie.Need-loop-holds Inv-loop μ-loop
-loop-holds c = (refl, linking-none (c .before .before .before .before .before .before .before .args .items .now) (c .before .before .before .before .before .before .before .args .stretches .now) (c .before .before .before .before .before .before .before .args .codes .now) (c .before .before .before .before .before .before .before .args .nexts .now) (c .before .before .before .before .before .before .before .args .owners .now) (c .before .before .before .before .before .before .before .args .spots .now) (c .before .before .before .before .before .before .before .pre .0), headed-none (c .before .before .before .before .before .before .before .args .stretches .now) (c .before .before .before .before .before .before .before .args .heads .now), omega arith, refl, refl, refl, refl)
+loop-holds c = (refl, linking-none (c .before .before .before .before .before .before .before .args .items .now) (c .before .before .before .before .before .before .before .args .stretches .now) (c .before .before .before .before .before .before .before .args .list .now) (c .before .before .before .before .before .before .before .args .nexts .now) (c .before .before .before .before .before .before .before .args .owners .now) (c .before .before .before .before .before .before .before .args .spots .now) (c .before .before .before .before .before .before .before .pre .0), headed-none (c .before .before .before .before .before .before .before .args .stretches .now) (c .before .before .before .before .before .before .before .args .heads .now), omega arith, refl, refl, refl, refl)
 
 -- src/lib.rt:72:9
 link-loop-requires : tie.Need-link-loop-requires Inv-loop μ-loop
@@ -81,7 +81,7 @@ same-length-5 c = c .before .loop .inv .7
 
 -- src/lib.rt:57:1
 returns : tie.Need-returns Inv-loop μ-loop
-returns c = linked-all (c .before .before .before .before .before .before .before .before .before .args .items .now) (c .before .before .before .before .before .before .before .before .before .args .stretches .now) (c .before .loop .codes) (c .before .loop .nexts) (c .before .before .before .before .before .before .before .before .before .args .heads .now) (c .before .loop .heads) (c .before .loop .owners) (c .before .loop .spots) (c .before .loop .k) (omega (arith, c .loop-test .left, c .before .loop .inv .0)) (c .before .before .before .before .before .before .before .before .before .pre .1) (c .before .loop .inv .1) (c .before .loop .inv .2)
+returns c = linked-all (c .before .before .before .before .before .before .before .before .before .args .items .now) (c .before .before .before .before .before .before .before .before .before .args .stretches .now) (c .before .loop .list) (c .before .loop .nexts) (c .before .before .before .before .before .before .before .before .before .args .heads .now) (c .before .loop .heads) (c .before .loop .owners) (c .before .loop .spots) (c .before .loop .k) (omega (arith, c .loop-test .left, c .before .loop .inv .0)) (c .before .before .before .before .before .before .before .before .before .pre .1) (c .before .loop .inv .1) (c .before .loop .inv .2)
 
 pub link-loops-spec : {M : Type 1} → statement M
 link-loops-spec =

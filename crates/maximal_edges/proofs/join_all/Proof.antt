@@ -45,7 +45,7 @@ sweeps-holds c =
     let answers = answersIn (a .job .now) (a .index .now) (a .c) in
     let names = a .names .now in
     let whole = wholeRun answers (a .starts .now) names (a .rows .now) (a .count) (a .items .now) (a .stretches .now) in
-    (refl, refl, refl, refl, refl, refl, going-start answers (a .starts .now) names (a .rows .now) (a .count) (length (a .stretches .now)) (laidOut (a .codes .now) (a .nexts .now) (a .heads .now) (a .stretches .now) (a .items .now)) (a .stretches .now) (a .ends .now) (a .lows .now) (a .highs .now) whole (pre .1) (pre .2) refl (subst (Laid (a .stretches .now)) (sym (pre .9)) (pre .3)) (pre .4) (λ faces. ap (λ l. maximalEdges answers (a .starts .now) names (length names) (stateIn (a .rows .now) (a .count) l (a .stretches .now) faces 0 0)) (sym (pre .9))), refl, refl, refl, refl, refl, pre .8)
+    (refl, refl, refl, refl, refl, refl, going-start answers (a .starts .now) names (a .rows .now) (a .count) (length (a .stretches .now)) (laidOut (a .list .now) (a .nexts .now) (a .heads .now) (a .stretches .now) (a .items .now)) (a .stretches .now) (a .ends .now) (a .lows .now) (a .highs .now) whole (pre .1) (pre .2) refl (subst (Laid (a .stretches .now)) (sym (pre .9)) (pre .3)) (pre .4) (λ faces. ap (λ l. maximalEdges answers (a .starts .now) names (length names) (stateIn (a .rows .now) (a .count) l (a .stretches .now) faces 0 0)) (sym (pre .9))), refl, refl, refl, refl, refl, pre .8)
 
 -- src/lib.rt:489:28
 mul-part : tie.Need-mul-part Inv-sweeps μ-sweeps
@@ -77,7 +77,7 @@ lay-loops-requires : tie.Need-lay-loops-requires Inv-sweeps μ-sweeps
 lay-loops-requires c κs =
     let a = c .before .before .before .before .before .before .before .before .before .before .before .before .before .before .before .before .before .before .before .before .before .before .before .before .before .before .before .before .before .args in
     let l = c .before .before .before .before .before .before .before .before .before .before .before .before .sweeps in
-    laid-base (linksOf (l .codes) (l .nexts) (l .heads) (a .owners .now) (l .spots) (l .stretches)) (l .items) (l .inv .6 .laid)
+    laid-base (linksOf (l .list) (l .nexts) (l .heads) (a .owners .now) (l .spots) (l .stretches)) (l .items) (l .inv .6 .laid)
 
 -- src/lib.rt:507:17
 done-requires : tie.Need-done-requires Inv-sweeps μ-sweeps
@@ -128,8 +128,8 @@ returns : tie.Need-returns Inv-sweeps μ-sweeps
 returns c =
     let a = c .before .before .before .before .before .before .before .before .before .before .before .before .before .before .before .before .before .before .before .before .before .before .before .before .before .before .before .before .before .before .before .before .before .args in
     let l = c .before .before .before .before .before .before .before .before .before .before .before .before .before .before .before .before .sweeps in
-    let laid = laidOut (l .codes) (l .nexts) (l .heads) (l .stretches) (l .items) in
-    let links = linksOf (l .codes) (l .nexts) (l .heads) (a .owners .now) (l .spots) (l .stretches) in
+    let laid = laidOut (l .list) (l .nexts) (l .heads) (l .stretches) (l .items) in
+    let links = linksOf (l .list) (l .nexts) (l .heads) (a .owners .now) (l .spots) (l .stretches) in
     let pre = c .before .before .before .before .before .before .before .before .before .before .before .before .before .before .before .before .before .before .before .before .before .before .before .before .before .before .before .before .before .before .before .before .before .pre in
     let answers = answersIn (a .job .now) (a .index .now) (a .c) in
     let names = a .names .now in
@@ -187,8 +187,8 @@ returns-2 : tie.Need-returns-2 Inv-sweeps μ-sweeps
 returns-2 c =
     let a = c .before .before .before .before .before .before .before .before .before .before .before .before .before .before .before .before .before .before .before .before .before .before .before .before .before .args in
     let l = c .before .before .before .before .before .before .before .before .sweeps in
-    let laid = laidOut (l .codes) (l .nexts) (l .heads) (l .stretches) (l .items) in
-    let links = linksOf (l .codes) (l .nexts) (l .heads) (a .owners .now) (l .spots) (l .stretches) in
+    let laid = laidOut (l .list) (l .nexts) (l .heads) (l .stretches) (l .items) in
+    let links = linksOf (l .list) (l .nexts) (l .heads) (a .owners .now) (l .spots) (l .stretches) in
     let pre = c .before .before .before .before .before .before .before .before .before .before .before .before .before .before .before .before .before .before .before .before .before .before .before .before .before .pre in
     let answers = answersIn (a .job .now) (a .index .now) (a .c) in
     let names = a .names .now in
@@ -204,8 +204,8 @@ ring-at-requires : tie.Need-ring-at-requires Inv-sweeps μ-sweeps
 ring-at-requires c κs =
     let a = c .before .before .before .before .before .before .before .before .before .before .before .before .before .before .before .before .before .before .before .before .before .before .before .before .before .before .before .args in
     let l = c .before .before .before .before .before .before .before .before .before .before .sweeps in
-    let laid = laidOut (l .codes) (l .nexts) (l .heads) (l .stretches) (l .items) in
-    let links = linksOf (l .codes) (l .nexts) (l .heads) (a .owners .now) (l .spots) (l .stretches) in
+    let laid = laidOut (l .list) (l .nexts) (l .heads) (l .stretches) (l .items) in
+    let links = linksOf (l .list) (l .nexts) (l .heads) (a .owners .now) (l .spots) (l .stretches) in
     let pre = c .before .before .before .before .before .before .before .before .before .before .before .before .before .before .before .before .before .before .before .before .before .before .before .before .before .before .before .pre in
     let answers = answersIn (a .job .now) (a .index .now) (a .c) in
     let names = a .names .now in
@@ -231,8 +231,8 @@ sweeps-less : tie.Need-sweeps-less Inv-sweeps μ-sweeps
 sweeps-less c =
     let a = c .before .before .before .before .before .before .before .before .before .before .before .before .before .before .before .before .before .before .before .before .before .before .before .before .before .before .before .before .before .before .before .before .before .before .args in
     let l = c .before .before .before .before .before .before .before .before .before .before .before .before .before .before .before .before .before .sweeps in
-    let laid = laidOut (l .codes) (l .nexts) (l .heads) (l .stretches) (l .items) in
-    let links = linksOf (l .codes) (l .nexts) (l .heads) (a .owners .now) (l .spots) (l .stretches) in
+    let laid = laidOut (l .list) (l .nexts) (l .heads) (l .stretches) (l .items) in
+    let links = linksOf (l .list) (l .nexts) (l .heads) (a .owners .now) (l .spots) (l .stretches) in
     let pre = c .before .before .before .before .before .before .before .before .before .before .before .before .before .before .before .before .before .before .before .before .before .before .before .before .before .before .before .before .before .before .before .before .before .before .pre in
     let answers = answersIn (a .job .now) (a .index .now) (a .c) in
     let names = a .names .now in
@@ -245,8 +245,8 @@ sweeps-again : tie.Need-sweeps-again Inv-sweeps μ-sweeps
 sweeps-again c =
     let a = c .before .before .before .before .before .before .before .before .before .before .before .before .before .before .before .before .before .before .before .before .before .before .before .before .before .before .before .before .before .before .before .before .before .before .args in
     let l = c .before .before .before .before .before .before .before .before .before .before .before .before .before .before .before .before .before .sweeps in
-    let laid = laidOut (l .codes) (l .nexts) (l .heads) (l .stretches) (l .items) in
-    let links = linksOf (l .codes) (l .nexts) (l .heads) (a .owners .now) (l .spots) (l .stretches) in
+    let laid = laidOut (l .list) (l .nexts) (l .heads) (l .stretches) (l .items) in
+    let links = linksOf (l .list) (l .nexts) (l .heads) (a .owners .now) (l .spots) (l .stretches) in
     let pre = c .before .before .before .before .before .before .before .before .before .before .before .before .before .before .before .before .before .before .before .before .before .before .before .before .before .before .before .before .before .before .before .before .before .before .pre in
     let answers = answersIn (a .job .now) (a .index .now) (a .c) in
     let names = a .names .now in
@@ -276,8 +276,8 @@ join-at-requires : tie.Need-join-at-requires Inv-sweeps μ-sweeps
 join-at-requires c κs =
     let a = c .before .before .before .before .before .before .before .before .before .before .before .before .before .before .before .before .before .before .before .before .before .before .before .before .before .before .before .before .before .before .before .before .before .before .args in
     let l = c .before .before .before .before .before .before .before .before .before .before .before .before .before .before .before .before .before .sweeps in
-    let laid = laidOut (l .codes) (l .nexts) (l .heads) (l .stretches) (l .items) in
-    let links = linksOf (l .codes) (l .nexts) (l .heads) (a .owners .now) (l .spots) (l .stretches) in
+    let laid = laidOut (l .list) (l .nexts) (l .heads) (l .stretches) (l .items) in
+    let links = linksOf (l .list) (l .nexts) (l .heads) (a .owners .now) (l .spots) (l .stretches) in
     let pre = c .before .before .before .before .before .before .before .before .before .before .before .before .before .before .before .before .before .before .before .before .before .before .before .before .before .before .before .before .before .before .before .before .before .before .pre in
     let answers = answersIn (a .job .now) (a .index .now) (a .c) in
     let names = a .names .now in
@@ -340,8 +340,8 @@ sweeps-less-2 : tie.Need-sweeps-less-2 Inv-sweeps μ-sweeps
 sweeps-less-2 c =
     let a = c .before .before .before .before .before .before .before .before .before .before .before .before .before .before .before .before .before .before .before .before .before .before .before .before .before .before .before .before .before .before .before .before .before .before .before .before .before .before .before .before .before .before .before .before .before .before .before .before .before .before .before .before .before .before .before .before .before .before .before .before .before .before .before .args in
     let l = c .before .before .before .before .before .before .before .before .before .before .before .before .before .before .before .before .before .before .before .before .before .before .before .before .before .before .before .before .before .before .before .before .before .before .before .before .before .before .before .before .before .before .before .before .before .before .sweeps in
-    let laid = laidOut (l .codes) (l .nexts) (l .heads) (l .stretches) (l .items) in
-    let links = linksOf (l .codes) (l .nexts) (l .heads) (a .owners .now) (l .spots) (l .stretches) in
+    let laid = laidOut (l .list) (l .nexts) (l .heads) (l .stretches) (l .items) in
+    let links = linksOf (l .list) (l .nexts) (l .heads) (a .owners .now) (l .spots) (l .stretches) in
     let pre = c .before .before .before .before .before .before .before .before .before .before .before .before .before .before .before .before .before .before .before .before .before .before .before .before .before .before .before .before .before .before .before .before .before .before .before .before .before .before .before .before .before .before .before .before .before .before .before .before .before .before .before .before .before .before .before .before .before .before .before .before .before .before .before .pre in
     let answers = answersIn (a .job .now) (a .index .now) (a .c) in
     let names = a .names .now in
@@ -354,8 +354,8 @@ sweeps-again-2 : tie.Need-sweeps-again-2 Inv-sweeps μ-sweeps
 sweeps-again-2 c =
     let a = c .before .before .before .before .before .before .before .before .before .before .before .before .before .before .before .before .before .before .before .before .before .before .before .before .before .before .before .before .before .before .before .before .before .before .before .before .before .before .before .before .before .before .before .before .before .before .before .before .before .before .before .before .before .before .before .before .before .before .before .before .before .before .before .args in
     let l = c .before .before .before .before .before .before .before .before .before .before .before .before .before .before .before .before .before .before .before .before .before .before .before .before .before .before .before .before .before .before .before .before .before .before .before .before .before .before .before .before .before .before .before .before .before .before .sweeps in
-    let laid = laidOut (l .codes) (l .nexts) (l .heads) (l .stretches) (l .items) in
-    let links = linksOf (l .codes) (l .nexts) (l .heads) (a .owners .now) (l .spots) (l .stretches) in
+    let laid = laidOut (l .list) (l .nexts) (l .heads) (l .stretches) (l .items) in
+    let links = linksOf (l .list) (l .nexts) (l .heads) (a .owners .now) (l .spots) (l .stretches) in
     let pre = c .before .before .before .before .before .before .before .before .before .before .before .before .before .before .before .before .before .before .before .before .before .before .before .before .before .before .before .before .before .before .before .before .before .before .before .before .before .before .before .before .before .before .before .before .before .before .before .before .before .before .before .before .before .before .before .before .before .before .before .before .before .before .before .pre in
     let answers = answersIn (a .job .now) (a .index .now) (a .c) in
     let names = a .names .now in

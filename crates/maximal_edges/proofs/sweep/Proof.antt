@@ -68,6 +68,25 @@ ends-of-requires c κs = search needs
 add-seen : tie.Need-add-seen Inv-edges μ-edges Inv-corners μ-corners
 add-seen c = omega (arith, c .before .edges-test .taken, c .ends-of .ensures .1)
 
+get-requires-4 : tie.Need-get-requires-4 Inv-edges μ-edges Inv-corners μ-corners
+get-requires-4 c κs = search needs
+
+edges-less : tie.Need-edges-less Inv-edges μ-edges Inv-corners μ-corners
+edges-less c =
+    let a = c .before .before .before .before .before .before .before .before .before .before .before .before .before .before .before .before .before .before .before .before .args in
+    let v = c .before .before .before .before .before .before .before .before .before .get .result in
+    let scan = c .before .before .before .before .edges in
+    let ends = c .before .before .ends-of in
+    omega (arith, c .before .before .before .edges-test .taken, scan-more (rowsIn (a .rows .now)) v (c .before .before .before .before .before .get3 .result) (getD (a .highs .now) v 0) (scan .seen) (scan .e) (scan .inv) (ends .result) (ends .ensures .0))
+
+edges-again : tie.Need-edges-again Inv-edges μ-edges Inv-corners μ-corners
+edges-again c =
+    let a = c .before .before .before .before .before .before .before .before .before .before .before .before .before .before .before .before .before .before .before .before .args in
+    let v = c .before .before .before .before .before .before .before .before .before .get .result in
+    let scan = c .before .before .before .before .edges in
+    let ends = c .before .before .ends-of in
+    scan-on (rowsIn (a .rows .now)) v (c .before .before .before .before .before .get3 .result) (getD (a .highs .now) v 0) (scan .seen) (scan .e) (scan .inv) (ends .result) (ends .ensures .0) (c .before .if2 .taken) (c .get4 .result) (c .get4 .ensures .0)
+
 try-corner-requires : tie.Need-try-corner-requires Inv-edges μ-edges Inv-corners μ-corners
 try-corner-requires c κs = search needs
 
@@ -92,32 +111,13 @@ corners-again-2 c =
     let answers = answersIn (a .job .now) (a .index .now) (a .c) in
     let es = rowsIn (a .rows .now) in
     let names = a .names .now in
-    let pair = scan-both es v low (getD (a .highs .now) v 0) (scan .seen) (scan .e) (scan .inv) (ends .result) (ends .ensures .0) (c .before .before .before .if2 .taken) in
+    let pair = scan-both es v low (getD (a .highs .now) v 0) (scan .seen) (scan .e) (scan .inv) (ends .result) (ends .ensures .0) (c .before .before .before .if2 .left) in
     let stays = sym (c .before .stays .ensures) ∙ c .if3 .taken in
     let still = subst (Still answers (a .starts .now) es) (c .before .before .before .before .before .before .before .before .before .before .before .get .ensures .0) (tried-still answers (a .starts .now) es v low (scan .e) (tried .result) pair (tried .ensures) stays) in (
       still-unchanged (tried .result) stays,
       omega (arith, next-more (a .high) (a .top) i, c .before .before .before .before .before .before .before .before .before .before .next-after .ensures, corners .inv .1),
       subst (AllStill answers (a .starts .now) names es) (sym (c .before .before .before .before .before .before .before .before .before .before .next-after .ensures)) (still-next answers (a .starts .now) names es (a .low) (a .high) (a .top) (c .before .before .before .before .before .before .before .before .before .before .before .before .before .before .before .before .before .before .before .before .before .before .pre .3) i (corners .inv .1) (corners .inv .2) still),
     )
-
-get-requires-4 : tie.Need-get-requires-4 Inv-edges μ-edges Inv-corners μ-corners
-get-requires-4 c κs = search needs
-
-edges-less : tie.Need-edges-less Inv-edges μ-edges Inv-corners μ-corners
-edges-less c =
-    let a = c .before .before .before .before .before .before .before .before .before .before .before .before .before .before .before .before .before .before .before .before .args in
-    let v = c .before .before .before .before .before .before .before .before .before .get .result in
-    let scan = c .before .before .before .before .edges in
-    let ends = c .before .before .ends-of in
-    omega (arith, c .before .before .before .edges-test .taken, scan-more (rowsIn (a .rows .now)) v (c .before .before .before .before .before .get3 .result) (getD (a .highs .now) v 0) (scan .seen) (scan .e) (scan .inv) (ends .result) (ends .ensures .0))
-
-edges-again : tie.Need-edges-again Inv-edges μ-edges Inv-corners μ-corners
-edges-again c =
-    let a = c .before .before .before .before .before .before .before .before .before .before .before .before .before .before .before .before .before .before .before .before .args in
-    let v = c .before .before .before .before .before .before .before .before .before .get .result in
-    let scan = c .before .before .before .before .edges in
-    let ends = c .before .before .ends-of in
-    scan-on (rowsIn (a .rows .now)) v (c .before .before .before .before .before .get3 .result) (getD (a .highs .now) v 0) (scan .seen) (scan .e) (scan .inv) (ends .result) (ends .ensures .0) (c .before .if2 .left) (c .get4 .result) (c .get4 .ensures .0)
 
 corners-less-3 : tie.Need-corners-less-3 Inv-edges μ-edges Inv-corners μ-corners
 corners-less-3 c =
@@ -157,7 +157,7 @@ returns-2 c =
     let tried = c .before .before .try-corner in
     let answers = answersIn (a .job .now) (a .index .now) (a .c) in
     let es = rowsIn (a .rows .now) in
-    let pair = scan-both es v low (getD (a .highs .now) v 0) (scan .seen) (scan .e) (scan .inv) (ends .result) (ends .ensures .0) (c .before .before .before .if2 .taken) in
+    let pair = scan-both es v low (getD (a .highs .now) v 0) (scan .seen) (scan .e) (scan .inv) (ends .result) (ends .ensures .0) (c .before .before .before .if2 .left) in
     swept-here answers (a .starts .now) (a .names .now) es (a .low) (a .high) (a .top) (corners .i) v low (scan .e) (tried .result) (c .before .before .before .before .before .before .before .before .before .before .before .before .before .before .before .before .before .before .before .before .before .before .pre .3) (corners .inv .1) (corners .inv .2) (c .before .before .before .before .before .before .before .before .before .before .before .before .corners-test .taken) (c .before .before .before .before .before .before .before .before .before .before .before .get .ensures .0) pair (tried .ensures) (sym (c .before .stays .ensures) ∙ c .if3 .left)
 
 pub sweep-spec : {M : Type 1} → statement M
@@ -178,13 +178,13 @@ sweep-spec =
     corners-again
     ends-of-requires
     add-seen
+    get-requires-4
+    edges-less
+    edges-again
     try-corner-requires
     stays-requires
     corners-less-2
     corners-again-2
-    get-requires-4
-    edges-less
-    edges-again
     corners-less-3
     corners-again-3
     returns
