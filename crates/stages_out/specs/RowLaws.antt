@@ -9,21 +9,22 @@ use mathlib.Core.Bool.{Bool, true, false, not, cond}
 use lib.ListN.{length, getD, take, drop, length-take, length-drop, length-append}
 use Rattle.lists.specs.Lists.{from, below, keep}
 use Rattle.lists.specs.Tests.{both-ways, not-is, is-not, cond-true, cond-false}
-use Rattle.lists.specs.Runs.{below-snoc, length-below}
-use Rattle.lists.specs.Members.{keep-append}
+use Rattle.lists.specs.Runs.{below-snoc, below-in, length-below}
+use Rattle.lists.specs.Members.{keep-append, map-same}
 use Rattle.lists.specs.KeepCounts.{keep-none, keep-cons}
 use Rattle.lists.specs.Rows.{flatMap-map, flatMap-keep, flatMap-places, flatMap-even, rows-more}
 use Rattle.rules.specs.declared.Use.{Use}
 use Rattle.rules.specs.Sense.{senseNumber}
 use Rattle.rules.specs.Fields.{bytes32, fieldBytes}
-use Rattle.rules.specs.Read.{noUse, useAt, faceOfUse, oldSuccessor}
+use Rattle.rules.specs.Read.{noUse, useAt, faceOfUse}
 use Rattle.rules.specs.Merge.{isRemoved, mergedFaceOf}
 use Rattle.rules.specs.Walk.{successor}
 use Rattle.rules.specs.Stage.{useFields, keptUses}
 use Rattle.fields.specs.Wrote.{Wrote}
 use Rattle.walk.specs.Walks.{loopIn, loopsIn, Following}
 use Rattle.stages_out.specs.Rows.{walkRow, walkRows, pairRow, pairRows, keptRow, keptRows, roundRow, roundRows, endOf}
-use Rattle.stages_out.specs.Writing.{wrote-one, wrote-both, wrote-same, wrote-nothing}
+use Rattle.uses.specs.Table.{Records}
+use Rattle.stages_out.specs.Writing.{Rowed, wrote-one, wrote-both, wrote-same, wrote-nothing}
 
 -- two numbers as fields
 pub two-fields : (before mid after : List ℕ) (at a b p q : ℕ) → Wrote before at (bytes32 a) mid p → Wrote mid p (bytes32 b) after q → Wrote before at (fieldBytes (a ∷ b ∷ [])) after q
@@ -37,13 +38,23 @@ two-same before after at a b x y q e g w = wrote-same (a ∷ b ∷ []) (x ∷ y 
 abbrev pub useRow : List Use → ℕ → List ℕ
 useRow us h = useFields (useAt us h)
 
-pub use-row : (us : List Use) (before mid after : List ℕ) (at p q h a b c d : ℕ) → a ≡ useAt us h .edge → b ≡ faceOfUse us h → c ≡ senseNumber (useAt us h .sense) → d ≡ oldSuccessor us h
-    → Wrote before at (fieldBytes (a ∷ b ∷ [])) mid p → Wrote mid p (fieldBytes (c ∷ d ∷ [])) after q → Wrote before at (fieldBytes (useRow us h)) after q
-use-row us before mid after at p q h a b c d ea eb ec ed u w =
-    wrote-same (a ∷ b ∷ c ∷ d ∷ []) (useRow us h) before after at q (λ t. ea t ∷ eb t ∷ ec t ∷ ed t ∷ []) (wrote-both (a ∷ b ∷ []) (c ∷ d ∷ []) before mid after at p q u w)
+pub use-fields : (u : Use) (before mid after : List ℕ) (at p q a b c d : ℕ) → a ≡ u .edge → b ≡ u .face → c ≡ senseNumber (u .sense) → d ≡ u .next
+    → Wrote before at (fieldBytes (a ∷ b ∷ [])) mid p → Wrote mid p (fieldBytes (c ∷ d ∷ [])) after q → Wrote before at (fieldBytes (useFields u)) after q
+use-fields u before mid after at p q a b c d ea eb ec ed v w =
+    wrote-same (a ∷ b ∷ c ∷ d ∷ []) (useFields u) before after at q (λ t. ea t ∷ eb t ∷ ec t ∷ ed t ∷ []) (wrote-both (a ∷ b ∷ []) (c ∷ d ∷ []) before mid after at p q v w)
 
 pub use-rows : (us : List Use) (n : ℕ) → n ≡ length us → flatMap (useRow us) (below n) ≡ flatMap useFields us
 use-rows us n e = ap (λ k. flatMap (useRow us) (below k)) e ∙ sym (flatMap-places useFields us noUse)
+
+-- the rows of an array of records whose first are the uses
+pub record-rows : (us rs : List Use) (before after : List ℕ) (p n : ℕ) → n ≡ length us → Records us rs (length us) → Rowed (useRow rs) 4 before after p n → Wrote before 0 (fieldBytes (flatMap useFields us)) after p
+record-rows us rs before after p n e k w =
+    wrote-same (flatMap (useRow rs) (below n)) (flatMap useFields us) before after 0 p
+    (sym (flatMap-map useFields (useAt rs) (below n))
+    ∙ ap (flatMap useFields) (map-same (useAt rs) (useAt us) (below n) (λ h m. k .same h (omega (arith, below-in n h m, e))))
+    ∙ flatMap-map useFields (useAt us) (below n)
+    ∙ use-rows us n e)
+    (w .wrote)
 
 pub use-rows-length : (us : List Use) → length (flatMap useFields us) ≡ 4 * length us
 use-rows-length us = flatMap-even useFields 4 us (λ u. refl)

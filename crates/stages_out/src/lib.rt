@@ -5,11 +5,11 @@ use fields::is_set;
 use fields::put_table;
 use fields::put_word;
 use rules::Ending;
+use rules::Use;
 use uses::count;
-use uses::use_edge;
+use uses::records_of;
+use uses::use_at;
 use uses::use_face;
-use uses::use_next;
-use uses::use_sense;
 use walk::successor;
 ghost use mathlib.Core.Path.{_≡_};
 ghost use Prim.Native.Nat.{_+_, _*_, _<_, _≤_, _^_};
@@ -22,6 +22,8 @@ ghost use Rattle.rules.specs.Stage.{useFields, keptUses};
 ghost use Rattle.fields.specs.Wrote.{Wrote};
 ghost use Rattle.uses.specs.Table.{usesIn};
 ghost use Rattle.walk.specs.Walks.{loopsIn, Following};
+ghost use Rattle.stages_out.specs.RowLaws.{useRow};
+ghost use Rattle.stages_out.specs.Writing.{Rowed};
 ghost use Rattle.stages_out.specs.Rows.{Staged, walkRow, walkRows, pairRows, keptRows, roundRow, roundRows, endOf};
 
 // Two numbers as fields at a place; gives the place after them.
@@ -33,24 +35,46 @@ pub fn put_two(out: &mut [u8], at: usize, a: usize, b: usize) -> usize
     put_word(out, p, b)
 }
 
+// A number as wide as a place.
+fn wide(v: u32) -> usize
+    ensures { λ r. ⌜ r ≡ v ⌝ }
+{
+    v as usize
+}
+
+// The fields of one use; gives the place after them.
+fn put_use(out: &mut [u8], at: usize, u: Use) -> usize
+    requires { ⌜ at < 2 ^ 58 ⌝ }
+    ensures { λ r. ⌜ Wrote (now (out .entry)) at (fieldBytes (useFields u)) (now (out .exit)) r ⌝ }
+{
+    let sense = u.sense;
+    let p = put_two(out, at, wide(u.edge), wide(u.face));
+    put_two(out, p, job::sense_number(sense), wide(u.next))
+}
+
+// The fields of the first n uses of the job, which are lent as a slice of records; gives the place after them.
+fn put_records(records: [Use; 2048], n: usize, out: &mut [u8]) -> usize
+    requires { ⌜ n ≤ 2048 ⌝ }
+    ensures { λ r. ⌜ Rowed (useRow records) 4 (now (out .entry)) (now (out .exit)) r n ⌝ }
+{
+    let lent = records;
+    let mut p: usize = 0;
+    let mut h: usize = 0;
+    while h < n {
+        let u = use_at(&lent, h);
+        p = put_use(out, p, u);
+        h += 1;
+    }
+    p
+}
+
 // The fields of each use; gives the place after them.
 fn put_uses(uses: &[u32], out: &mut [u8]) -> usize
     requires { ⌜ length (usesIn (now uses)) ≤ 2048 ⌝ }
     ensures { λ r. ⌜ Wrote (now (out .entry)) 0 (fieldBytes (flatMap useFields (usesIn (now (uses .entry))))) (now (out .exit)) r ⌝ }
 {
-    let n = count(uses);
-    let mut p: usize = 0;
-    let mut h: usize = 0;
-    while h < n {
-        let e = use_edge(uses, h);
-        let f = use_face(uses, h);
-        let s = job::sense_number(use_sense(uses, h));
-        let g = use_next(uses, h);
-        let q = put_two(out, p, e, f);
-        p = put_two(out, q, s, g);
-        h += 1;
-    }
-    p
+    let records = records_of(uses);
+    put_records(records, count(uses), out)
 }
 
 // The stage `read`: edge, selected face, sense and old successor of each use.

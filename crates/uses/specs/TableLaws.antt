@@ -3,9 +3,11 @@ use Prim.Native.Nat.{ℕ, _+_, _*_, _/_, _<_, _≤_}
 use native.Mathlib.Omega.{arith}
 use mathlib.Core.Path.{_≡_, refl, sym, ap, _∙_}
 use mathlib.Core.Logic.{⊎-elim}
-use mathlib.Core.List.{List, map}
+use native.Mathlib.Decide.{ℕ-discrete}
+use native.Mathlib.Nat.{not-suc-le-zero}
+use mathlib.Core.List.{List, map, replicate}
 use mathlib.Core.Bool.{true, cond}
-use lib.ListN.{length, getD, set, length-set, List·getD-eq-default}
+use lib.ListN.{length, getD, set, length-set, length-replicate, List·getD-eq-default}
 use lib.Seq.{getD-set-same, getD-set-other}
 use lib.Dec.{ltb}
 use borrow.Author.Tests.{lt-ltb, le-ltb, ltb-true, ltb-false}
@@ -17,7 +19,7 @@ use Rattle.rules.specs.declared.Sense.the-variants.{Same, Reversed}
 use Rattle.rules.specs.declared.Use.{Use}
 use Rattle.rules.specs.Sense.{senseOf, senseNumber}
 use Rattle.rules.specs.Read.{noUse, useAt}
-use Rattle.uses.specs.Table.{fieldOf, useIn, usesIn, withUse}
+use Rattle.uses.specs.Table.{fieldOf, useIn, usesIn, withUse, Records}
 
 pub length-uses : (t : List ℕ) → length (usesIn t) ≡ length t / 4
 unfolding usesIn
@@ -155,3 +157,19 @@ module _ (t : List ℕ) (h : ℕ) (u : Use) where
         next = same-field g 3 n (omega arith) i;
       })
       ∙ sym (use-is t g)
+
+-- THE USES AS RECORDS
+
+pub records-none : (us : List Use) (u : Use) → Records us (replicate 2048 u) 0
+records-none us u = record { size = length-replicate 2048 u; same = λ h p. absurd (not-suc-le-zero p) }
+
+-- one record more
+pub records-more : (us rs rs′ : List Use) (h : ℕ) (u : Use) → Records us rs h → h < 2048 → u ≡ useAt us h → rs′ ≡ set rs h u → Records us rs′ (h + 1)
+records-more us rs rs′ h u w inside eu er = record {
+  size = ap length er ∙ length-set rs h u ∙ w .size;
+  same = λ j p.
+      elim (ℕ-discrete j h) [
+        | yes e ↦ ap (λ l. useAt l j) er ∙ ap (λ i. useAt (set rs h u) i) e ∙ getD-set-same rs h u noUse (omega (arith, w .size)) ∙ eu ∙ ap (useAt us) (sym e)
+        | no n ↦ ap (λ l. useAt l j) er ∙ getD-set-other rs h j u noUse n ∙ w .same j (omega (arith, n))
+      ];
+}

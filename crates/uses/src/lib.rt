@@ -12,7 +12,7 @@ ghost use lib.ListN.{length, getD};
 ghost use Rattle.rules.specs.Job.{ring};
 ghost use Rattle.rules.specs.Read.{useAt, faceOfUse, oldSuccessor, edgeOfUse, useStart};
 ghost use Rattle.job.specs.Lists.{pointsIn, edgesIn};
-ghost use Rattle.uses.specs.Table.{fieldOf, usesIn, withUse};
+ghost use Rattle.uses.specs.Table.{fieldOf, usesIn, withUse, Records};
 
 // How many uses a table has.
 pub fn count(uses: &[u32]) -> usize
@@ -108,6 +108,22 @@ fn record_of(uses: &[u32], h: usize) -> Use
         sense: use_sense(uses, h),
         next: field_of(uses, h, 3) as u32,
     }
+}
+
+// All uses of the table as records, and after them uses of no edge.
+pub fn records_of(uses: &[u32]) -> [Use; 2048]
+    requires { ⌜ length (usesIn (now uses)) ≤ 2048 ⌝ }
+    ensures { λ r. ⌜ Records (usesIn (now (uses .entry))) r (length (usesIn (now (uses .entry)))) ⌝ }
+{
+    let none = record_of(uses, uses.len());
+    let mut records = [none; 2048];
+    let n = uses.len() / 4;
+    let mut h: usize = 0;
+    while h < n {
+        records[h] = record_of(uses, h);
+        h += 1;
+    }
+    records
 }
 
 // Uses h and t of the table as records.
