@@ -36,6 +36,11 @@ abbrev pub Within : List ℕ → Stretched → Type 0
 Within bytes (Refused n p) = Unit {0}
 Within bytes (At a e) = (a ≤ e) × (e ≤ length bytes)
 
+-- a part that begins at the stretch's first byte, by the addresses of the job's first byte and of the part's
+abbrev pub Placed : ℕ × ℕ → Outcome Stretch → ℕ × ℕ → Type 0
+Placed job (ok s) part = part ≡ (job .0, job .1 + s .start)
+Placed job (refuse number place) part = part ≡ job
+
 -- WITHIN THE JOB
 
 -- each loop's payload lies within the bytes
@@ -129,3 +134,10 @@ shown-none bytes n number place r e q = ap (shown bytes) (sym (ap stretchOf q) �
 
 pub shown-at : (bytes : List ℕ) (n a z : ℕ) (r : Stretched) → stretchOf r ≡ requested bytes n → r ≡ At a z → take (z - a) (drop a bytes) ≡ shown bytes (requested bytes n)
 shown-at bytes n a z r e q = ap (shown bytes) (sym (ap stretchOf q) ∙ e)
+
+-- where these bytes stand
+pub placed-none : (job : ℕ × ℕ) (bytes : List ℕ) (n number place : ℕ) (r : Stretched) → stretchOf r ≡ requested bytes n → r ≡ Refused number place → Placed job (requested bytes n) (job .0, 0 + job .1)
+placed-none job bytes n number place r e q = subst (λ o. Placed job o (job .0, 0 + job .1)) (sym (ap stretchOf q) ∙ e) (let z : 0 + job .1 ≡ job .1 = omega arith in λ i. (job .0, z i))
+
+pub placed-at : (job : ℕ × ℕ) (bytes : List ℕ) (n a z : ℕ) (r : Stretched) → stretchOf r ≡ requested bytes n → r ≡ At a z → Placed job (requested bytes n) (job .0, a + job .1)
+placed-at job bytes n a z r e q = subst (λ o. Placed job o (job .0, a + job .1)) (sym (ap stretchOf q) ∙ e) (let y : a + job .1 ≡ job .1 + a = omega arith in λ i. (job .0, y i))

@@ -20,7 +20,7 @@ ghost use Rattle.job.specs.Lists.{fieldsAt, answersIn};
 ghost use Rattle.load.specs.Kept.{loopKept, keptIndex};
 ghost use Rattle.load.specs.Judged.{Here, Judged};
 ghost use Rattle.load.specs.Going.{Going, SteppedAs, LoadedAs};
-ghost use Rattle.load.specs.Stretches.{stretchOf, Within};
+ghost use Rattle.load.specs.Stretches.{stretchOf, Within, Placed};
 
 // What becomes of one record: the number of a refusal, or the counts after it and the byte of the next.
 pub enum Stepped {
@@ -218,9 +218,9 @@ pub fn loop_stretch(job: &[u8], n: usize) -> Stretched
     }
 }
 
-// The bytes of the job that hold the payload of loop n; none where the request is refused.
+// The bytes of the job that hold the payload of loop n, where they stand in the job; none where the request is refused.
 pub fn loop_payload(job: &[u8], n: usize) -> &[u8]
-    ensures { λ r. ⌜ now r ≡ shown (now (job .entry)) (requested (now (job .entry)) n) ⌝ }
+    ensures { λ r. ⌜ (now r ≡ shown (now (job .entry)) (requested (now (job .entry)) n)) × Placed (job .entry .ptr) (requested (now (job .entry)) n) (r .ptr) ⌝ }
 {
     let s = loop_stretch(job, n);
     match s {

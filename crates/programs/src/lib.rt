@@ -1,5 +1,8 @@
 // What the programs share: reading an input to its end, and an operation by its number.
 use rules::Ending;
+ghost use lib.ListN.{length};
+ghost use Rattle.rules.specs.Sew.{Ends};
+ghost use Rattle.programs.specs.Operation.{operation};
 
 // What became of a reading: a read that failed, or so many bytes at the buffer's start.
 pub enum Input {
@@ -25,8 +28,10 @@ pub fn read_to_end(fd: i32, buffer: &mut [u8]) -> Input {
 }
 
 // The stages by their numbers from 1 to 11, and sewing by any other.
-pub fn operate(operation: usize, job: &[u8], out: &mut [u8]) -> Ending {
-    match operation {
+pub fn operate(number: usize, job: &[u8], out: &mut [u8]) -> Ending
+    ensures { λ r. ⌜ Ends (operation number (now (job .entry)) (length (now (out .entry)))) (now (out .entry)) (now (out .exit)) r ⌝ }
+{
+    match number {
         1 => sewing::read_stage(job, out),
         2 => sewing::pair_stage(job, out),
         3 => sewing::merge_stage(job, out),

@@ -1,4 +1,4 @@
-use Rattle.load.specs.Stretches.{shown-none, shown-at}
+use Rattle.load.specs.Stretches.{shown-none, shown-at, placed-none, placed-at}
 use native.Mathlib.Omega.{arith}
 use borrow.Author.Needs.{needs}
 use Rattle.load.proofs.loop_payload.Statement.{statement}
@@ -45,11 +45,11 @@ part-result-end-2 c = let w = rw (c .before .s .given .1) at (c .before .before 
 
 -- src/lib.rt:215:1
 returns : tie.Need-returns
-returns c = shown-none (c .before .before .before .before .before .args .job .now) (c .before .before .before .before .before .args .n) _ _ (c .before .before .before .loop-stretch .result) (c .before .before .before .loop-stretch .ensures .0) (c .before .enum-told .given .1)
+returns c = (shown-none (c .before .before .before .before .before .args .job .now) (c .before .before .before .before .before .args .n) _ _ (c .before .before .before .loop-stretch .result) (c .before .before .before .loop-stretch .ensures .0) (c .before .enum-told .given .1), placed-none (c .before .before .before .before .before .args .job .ptr) (c .before .before .before .before .before .args .job .now) (c .before .before .before .before .before .args .n) _ _ (c .before .before .before .loop-stretch .result) (c .before .before .before .loop-stretch .ensures .0) (c .before .enum-told .given .1))
 
 -- src/lib.rt:215:1
 returns-2 : tie.Need-returns-2
-returns-2 c = shown-at (c .before .before .before .before .before .before .args .job .now) (c .before .before .before .before .before .before .args .n) _ _ (c .before .before .before .before .loop-stretch .result) (c .before .before .before .before .loop-stretch .ensures .0) (c .before .before .s .given .1)
+returns-2 c = (shown-at (c .before .before .before .before .before .before .args .job .now) (c .before .before .before .before .before .before .args .n) _ _ (c .before .before .before .before .loop-stretch .result) (c .before .before .before .before .loop-stretch .ensures .0) (c .before .before .s .given .1), placed-at (c .before .before .before .before .before .before .args .job .ptr) (c .before .before .before .before .before .before .args .job .now) (c .before .before .before .before .before .before .args .n) _ _ (c .before .before .before .before .loop-stretch .result) (c .before .before .before .before .loop-stretch .ensures .0) (c .before .before .s .given .1))
 
 pub loop-payload-spec : {M : Type 1} → statement M
 loop-payload-spec =

@@ -1,0 +1,75 @@
+-- Each number has its operation.
+use Prim.Native.Nat.{ℕ, zero, suc}
+use mathlib.Core.Path.{_≡_, refl, sym, ap, subst}
+use mathlib.Core.List.{List}
+use lib.ListN.{length}
+use Rattle.rules.specs.declared.Ending.{Ending}
+use Rattle.rules.specs.Outcome.{Outcome}
+use Rattle.rules.specs.Rules.{ordinary}
+use Rattle.rules.specs.Sew.{sewn, Ends}
+use Rattle.rules.specs.Stage.{readStage, pairStage, mergeStage, vertexLoopStage, walkStage, loopStage, fanStage, edgeStage, joiningStage, shellStage, lumpStage}
+use Rattle.programs.specs.Operation.{operation}
+
+-- the ending of an operation, by its number
+pub ends-by : (k : ℕ) (f : List ℕ → ℕ → Outcome (List ℕ)) (job before after : List ℕ) (e : Ending) → f ≡ operation k → Ends (f job (length before)) before after e → Ends (operation k job (length before)) before after e
+ends-by k f job before after e q E = subst (λ g. Ends (g job (length before)) before after e) q E
+
+pub is-1 : (k : ℕ) → k ≡ 1 → readStage ≡ operation k
+unfolding operation
+is-1 k e = sym (ap operation e)
+
+pub is-2 : (k : ℕ) → k ≡ 2 → pairStage ≡ operation k
+unfolding operation
+is-2 k e = sym (ap operation e)
+
+pub is-3 : (k : ℕ) → k ≡ 3 → mergeStage ordinary ≡ operation k
+unfolding operation
+is-3 k e = sym (ap operation e)
+
+pub is-4 : (k : ℕ) → k ≡ 4 → vertexLoopStage ordinary ≡ operation k
+unfolding operation
+is-4 k e = sym (ap operation e)
+
+pub is-5 : (k : ℕ) → k ≡ 5 → walkStage ordinary ≡ operation k
+unfolding operation
+is-5 k e = sym (ap operation e)
+
+pub is-6 : (k : ℕ) → k ≡ 6 → loopStage ordinary ≡ operation k
+unfolding operation
+is-6 k e = sym (ap operation e)
+
+pub is-7 : (k : ℕ) → k ≡ 7 → fanStage ordinary ≡ operation k
+unfolding operation
+is-7 k e = sym (ap operation e)
+
+pub is-8 : (k : ℕ) → k ≡ 8 → edgeStage ordinary ≡ operation k
+unfolding operation
+is-8 k e = sym (ap operation e)
+
+pub is-9 : (k : ℕ) → k ≡ 9 → joiningStage ordinary ≡ operation k
+unfolding operation
+is-9 k e = sym (ap operation e)
+
+pub is-10 : (k : ℕ) → k ≡ 10 → shellStage ordinary ≡ operation k
+unfolding operation
+is-10 k e = sym (ap operation e)
+
+pub is-11 : (k : ℕ) → k ≡ 11 → lumpStage ordinary ≡ operation k
+unfolding operation
+is-11 k e = sym (ap operation e)
+
+pub is-sewing : (k : ℕ) → (k ≡ 1 → ⊥) → (k ≡ 2 → ⊥) → (k ≡ 3 → ⊥) → (k ≡ 4 → ⊥) → (k ≡ 5 → ⊥) → (k ≡ 6 → ⊥) → (k ≡ 7 → ⊥) → (k ≡ 8 → ⊥) → (k ≡ 9 → ⊥) → (k ≡ 10 → ⊥) → (k ≡ 11 → ⊥) → sewn ordinary ≡ operation k
+unfolding operation
+is-sewing zero n1 n2 n3 n4 n5 n6 n7 n8 n9 n10 n11 = refl
+is-sewing (suc zero) n1 n2 n3 n4 n5 n6 n7 n8 n9 n10 n11 = absurd (n1 refl)
+is-sewing (suc (suc zero)) n1 n2 n3 n4 n5 n6 n7 n8 n9 n10 n11 = absurd (n2 refl)
+is-sewing (suc (suc (suc zero))) n1 n2 n3 n4 n5 n6 n7 n8 n9 n10 n11 = absurd (n3 refl)
+is-sewing (suc (suc (suc (suc zero)))) n1 n2 n3 n4 n5 n6 n7 n8 n9 n10 n11 = absurd (n4 refl)
+is-sewing (suc (suc (suc (suc (suc zero))))) n1 n2 n3 n4 n5 n6 n7 n8 n9 n10 n11 = absurd (n5 refl)
+is-sewing (suc (suc (suc (suc (suc (suc zero)))))) n1 n2 n3 n4 n5 n6 n7 n8 n9 n10 n11 = absurd (n6 refl)
+is-sewing (suc (suc (suc (suc (suc (suc (suc zero))))))) n1 n2 n3 n4 n5 n6 n7 n8 n9 n10 n11 = absurd (n7 refl)
+is-sewing (suc (suc (suc (suc (suc (suc (suc (suc zero)))))))) n1 n2 n3 n4 n5 n6 n7 n8 n9 n10 n11 = absurd (n8 refl)
+is-sewing (suc (suc (suc (suc (suc (suc (suc (suc (suc zero))))))))) n1 n2 n3 n4 n5 n6 n7 n8 n9 n10 n11 = absurd (n9 refl)
+is-sewing (suc (suc (suc (suc (suc (suc (suc (suc (suc (suc zero)))))))))) n1 n2 n3 n4 n5 n6 n7 n8 n9 n10 n11 = absurd (n10 refl)
+is-sewing (suc (suc (suc (suc (suc (suc (suc (suc (suc (suc (suc zero))))))))))) n1 n2 n3 n4 n5 n6 n7 n8 n9 n10 n11 = absurd (n11 refl)
+is-sewing (suc (suc (suc (suc (suc (suc (suc (suc (suc (suc (suc (suc k)))))))))))) n1 n2 n3 n4 n5 n6 n7 n8 n9 n10 n11 = refl
