@@ -1,13 +1,17 @@
 -- The answers' enums: for each case the paper's number and values.
 use Prim.Native.Nat.{ℕ, _<_}
 use mathlib.Core.List.{List}
-use mathlib.Core.Bool.{Bool, true, false, cond}
+use mathlib.Core.Bool.{Bool, true, false}
 use lib.ListN.{drop}
 use Rattle.rules.specs.Outcome.{Outcome, ok, refuse}
 use Rattle.rules.specs.Fields.{field, fieldsIn}
-use Rattle.rules.specs.Questions.{Found, missing, found, isUndecided}
+use Rattle.rules.specs.Questions.{surfaceAnswer, verdict, Found, missing, found}
 use Rattle.ask.specs.declared.Answer.{Answer}
 use Rattle.ask.specs.declared.Answer.the-variants.{Value as Valued, Missing}
+use Rattle.ask.specs.declared.Surface.{Surface}
+use Rattle.ask.specs.declared.Surface.the-variants.{Says as Surfaced, Missing as NoSurface}
+use Rattle.ask.specs.declared.Answered.{Answered}
+use Rattle.ask.specs.declared.Answered.the-variants.{Says, Missing as NoAnswer}
 use Rattle.ask.specs.declared.Asked.{Asked}
 use Rattle.ask.specs.declared.Asked.the-variants.{Value, Refused}
 use Rattle.ask.specs.declared.Told.{Told}
@@ -20,10 +24,15 @@ abbrev pub valueOf : Found → Answer
 valueOf missing = Missing
 valueOf (found v) = Valued (field v 0)
 
--- what follows from an answer on record: no record, undecided, or the value
-abbrev pub decidedBy : ℕ → Answer → Outcome ℕ
-decidedBy kind Missing = refuse 20 kind
-decidedBy kind (Valued v) = cond (isUndecided kind v) (refuse 21 kind) (ok v)
+-- kind 8: no record, or the answer that its value is the number of
+abbrev pub surfaceBy : Found → Surface
+surfaceBy missing = NoSurface
+surfaceBy (found v) = Surfaced (surfaceAnswer (field v 0))
+
+-- kinds 9 to 13: no record, or the answer that its value is the number of
+abbrev pub answeredBy : Found → Answered
+answeredBy missing = NoAnswer
+answeredBy (found v) = Says (verdict (field v 0))
 
 -- the value, or the refusal
 abbrev pub askedOf : Asked → Outcome ℕ

@@ -8,14 +8,18 @@ use mathlib.Core.Bool.{Bool, true, false}
 use lib.ListN.{getD, drop}
 use lib.Seq.{drop-drop, getD-drop}
 use lib.Dec.{eqb}
+use borrow.Author.Tests.{ne-eqb}
 use Rattle.lists.specs.Tests.{cond-true, cond-false}
 use Rattle.rules.specs.declared.Counts.{Counts}
-use Rattle.rules.specs.Outcome.{Outcome, ok, refuse}
-use Rattle.rules.specs.OutcomeLaws.{bind-on, bind-stop}
+use Rattle.rules.specs.Outcome.{Outcome, ok, refuse, _>>=_}
 use Rattle.rules.specs.Fields.{le16, le32, fieldsIn, field}
 use Rattle.rules.specs.Job.{Answer as Record}
 use Rattle.rules.specs.Kinds.{kindOf, questionLength}
-use Rattle.rules.specs.Questions.{Found, missing, found, find, isUndecided, decided, ask, askYes, askSame, ordered, askRadial}
+use Rattle.rules.specs.declared.SurfaceAnswer.{SurfaceAnswer}
+use Rattle.rules.specs.declared.SurfaceAnswer.the-variants.{Different, Agreeing, Opposed, Vanishing, Undecided as SurfaceUndecided}
+use Rattle.rules.specs.declared.Verdict.{Verdict}
+use Rattle.rules.specs.declared.Verdict.the-variants.{No, Yes, Undecided}
+use Rattle.rules.specs.Questions.{surfaceNumber, verdictNumber, numbered, surfaceAnswer, verdict, Found, missing, found, find, onRecord, decided, askYes, askSame, ordered, askRadial}
 use Rattle.job.specs.Lists.{fieldsAt, answersIn}
 use Rattle.job.specs.FieldLaws.{field-at, drop-fields}
 use Rattle.answers.specs.declared.Question.{Question}
@@ -28,9 +32,25 @@ use Rattle.answers.specs.Index.{placeFor, valueAt, Indexed}
 use Rattle.answers.specs.ChainLaws.{placed-right}
 use Rattle.ask.specs.declared.Answer.{Answer}
 use Rattle.ask.specs.declared.Answer.the-variants.{Value as Valued, Missing}
-use Rattle.ask.specs.declared.Asked.{Asked}
-use Rattle.ask.specs.declared.Asked.the-variants.{Value, Refused}
-use Rattle.ask.specs.Told.{valueOf, decidedBy, askedOf}
+use Rattle.ask.specs.declared.Surface.{Surface}
+use Rattle.ask.specs.declared.Surface.the-variants.{Says as Surfaced, Missing as NoSurface}
+use Rattle.ask.specs.declared.Answered.{Answered}
+use Rattle.ask.specs.declared.Answered.the-variants.{Says, Missing as NoAnswer}
+use Rattle.ask.specs.Told.{valueOf, surfaceBy, answeredBy}
+
+-- THE CASES DIFFER
+
+missing-valued : {v : ℕ} → Missing ≡ Valued v → ⊥
+missing-valued e = let z : _≡_ {A = ℕ} 0 1 = cc in omega arith
+
+valued-one : {v w : ℕ} → Valued v ≡ Valued w → v ≡ w
+valued-one e = cc
+
+no-says : {v : Verdict} → NoAnswer ≡ Says v → ⊥
+no-says e = let z : _≡_ {A = ℕ} 0 1 = cc in omega arith
+
+says-one : {v w : Verdict} → Says v ≡ Says w → v ≡ w
+says-one e = cc
 
 -- WHAT IS FOUND
 
@@ -60,31 +80,96 @@ module _ (bytes ix : List ℕ) (c : Counts) (q : Question) (f : Place) (i : Inde
       let other : le16 bytes (p + 4) ≢ 7 = λ z. n (ap (λ x. x .kind) (sym (r .1)) ∙ w .kind ∙ z) in
       ap Valued (ev ∙ ap (λ x. le32 bytes (p + 6 + 4 * x)) words ∙ sym (first-value bytes p (r .0) other)) ∙ sym (ap valueOf (found-by ∙ ap (valueAt bytes) e))
 
+-- THE NUMBERS
+
+-- by number
+pub surface-0 : (v : ℕ) → v ≡ 0 → Different ≡ surfaceAnswer v
+unfolding surfaceAnswer numbered surfaceNumber
+surface-0 v e = rw e
+
+pub surface-1 : (v : ℕ) → v ≡ 1 → Agreeing ≡ surfaceAnswer v
+unfolding surfaceAnswer numbered surfaceNumber
+surface-1 v e = rw e
+
+pub surface-2 : (v : ℕ) → v ≡ 2 → Opposed ≡ surfaceAnswer v
+unfolding surfaceAnswer numbered surfaceNumber
+surface-2 v e = rw e
+
+pub surface-3 : (v : ℕ) → v ≡ 3 → Vanishing ≡ surfaceAnswer v
+unfolding surfaceAnswer numbered surfaceNumber
+surface-3 v e = rw e
+
+pub surface-other : (v : ℕ) → (v ≡ 0 → ⊥) → (v ≡ 1 → ⊥) → (v ≡ 2 → ⊥) → (v ≡ 3 → ⊥) → SurfaceUndecided ≡ surfaceAnswer v
+unfolding surfaceAnswer numbered surfaceNumber
+surface-other v a b c d = rw (ne-eqb v 0 a, ne-eqb v 1 b, ne-eqb v 2 c, ne-eqb v 3 d)
+
+pub verdict-0 : (v : ℕ) → v ≡ 0 → No ≡ verdict v
+unfolding verdict numbered verdictNumber
+verdict-0 v e = rw e
+
+pub verdict-1 : (v : ℕ) → v ≡ 1 → Yes ≡ verdict v
+unfolding verdict numbered verdictNumber
+verdict-1 v e = rw e
+
+pub verdict-other : (v : ℕ) → (v ≡ 0 → ⊥) → (v ≡ 1 → ⊥) → Undecided ≡ verdict v
+unfolding verdict numbered verdictNumber
+verdict-other v a b = rw (ne-eqb v 0 a, ne-eqb v 1 b)
+
 -- QUESTIONS PUT
 
--- no record, undecided, else the value
-decided-is : (kind : ℕ) (f : Found) → decided kind f ≡ decidedBy kind (valueOf f)
+-- the answer that the value on record is the number of
+surface-by : (f : Found) (a : Answer) → a ≡ valueOf f → (v : ℕ) → a ≡ Valued v → Surfaced (surfaceAnswer v) ≡ surfaceBy f
+surface-by missing a ea v e = absurd (missing-valued (sym ea ∙ e))
+surface-by (found x) a ea v e = ap (λ n. Surfaced (surfaceAnswer n)) (sym (valued-one (sym ea ∙ e)))
+
+pub surface-says : (f : Found) (a : Answer) (v : ℕ) (s : SurfaceAnswer) → a ≡ valueOf f → a ≡ Valued v → s ≡ surfaceAnswer v → Surfaced s ≡ surfaceBy f
+surface-says f a v s ea e es = ap Surfaced es ∙ surface-by f a ea v e
+
+pub surface-missing : (f : Found) (a : Answer) → a ≡ valueOf f → a ≡ Missing → NoSurface ≡ surfaceBy f
+surface-missing missing a ea e = refl
+surface-missing (found x) a ea e = absurd (missing-valued (sym e ∙ ea))
+
+answered-by : (f : Found) (a : Answer) → a ≡ valueOf f → (v : ℕ) → a ≡ Valued v → Says (verdict v) ≡ answeredBy f
+answered-by missing a ea v e = absurd (missing-valued (sym ea ∙ e))
+answered-by (found x) a ea v e = ap (λ n. Says (verdict n)) (sym (valued-one (sym ea ∙ e)))
+
+pub answered-says : (f : Found) (a : Answer) (v : ℕ) (s : Verdict) → a ≡ valueOf f → a ≡ Valued v → s ≡ verdict v → Says s ≡ answeredBy f
+answered-says f a v s ea e es = ap Says es ∙ answered-by f a ea v e
+
+pub answered-missing : (f : Found) (a : Answer) → a ≡ valueOf f → a ≡ Missing → NoAnswer ≡ answeredBy f
+answered-missing missing a ea e = refl
+answered-missing (found x) a ea e = absurd (missing-valued (sym e ∙ ea))
+
+-- what is told by what is on record
+module _ (kind : ℕ) (f : Found) (a : Answered) (ea : a ≡ answeredBy f) where
+  pub told-missing : a ≡ NoAnswer → refuse 20 kind ≡ (onRecord kind f >>= λ v. decided kind (verdict v))
+  unfolding onRecord
+  told-missing e = go f ea
+    where
+      go : (f : Found) → a ≡ answeredBy f → refuse 20 kind ≡ (onRecord kind f >>= λ v. decided kind (verdict v))
+      go missing q = refl
+      go (found x) q = absurd (no-says (sym e ∙ q))
+
+  pub told-says : (v : Verdict) (o : Outcome Bool) → a ≡ Says v → o ≡ decided kind v → o ≡ (onRecord kind f >>= λ v. decided kind (verdict v))
+  unfolding onRecord
+  told-says v o e eo = go f ea
+    where
+      go : (f : Found) → a ≡ answeredBy f → o ≡ (onRecord kind f >>= λ v. decided kind (verdict v))
+      go missing q = absurd (no-says (sym q ∙ e))
+      go (found x) q = eo ∙ ap (decided kind) (says-one (sym e ∙ q))
+
+-- by case
+pub told-no : (kind : ℕ) (v : Verdict) → v ≡ No → ok false ≡ decided kind v
 unfolding decided
-decided-is kind missing = refl
-decided-is kind (found v) = refl
+told-no kind v e = rw e
 
-module _ (kind : ℕ) (f : Found) (a : Answer) (ea : a ≡ valueOf f) where
-  pub asked-missing : a ≡ Missing → refuse 20 kind ≡ decided kind f
-  asked-missing e = sym (decided-is kind f ∙ ap (decidedBy kind) (sym ea ∙ e))
+pub told-yes : (kind : ℕ) (v : Verdict) → v ≡ Yes → ok true ≡ decided kind v
+unfolding decided
+told-yes kind v e = rw e
 
-  pub asked-undecided : (v : ℕ) (t : Bool) → a ≡ Valued v → t ≡ isUndecided kind v → t ≡ true → refuse 21 kind ≡ decided kind f
-  asked-undecided v t e et h = sym (decided-is kind f ∙ ap (decidedBy kind) (sym ea ∙ e) ∙ cond-true (isUndecided kind v) _ _ (sym et ∙ h))
-
-  pub asked-value : (v : ℕ) (t : Bool) → a ≡ Valued v → t ≡ isUndecided kind v → t ≡ false → ok v ≡ decided kind f
-  asked-value v t e et h = sym (decided-is kind f ∙ ap (decidedBy kind) (sym ea ∙ e) ∙ cond-false (isUndecided kind v) _ _ (sym et ∙ h))
-
--- value 1 is yes
-module _ (l : List Record) (kind : ℕ) (key : List ℕ) (a : Asked) (ea : askedOf a ≡ ask l kind key) where
-  pub told-refused : (n p : ℕ) → a ≡ Refused n p → refuse n p ≡ askYes l kind key
-  told-refused n p e = sym (bind-stop (λ v. ok (eqb v 1)) (sym ea ∙ ap askedOf e))
-
-  pub told-value : (v : ℕ) (t : Bool) → a ≡ Value v → eqb v 1 ≡ t → ok t ≡ askYes l kind key
-  told-value v t e et = sym (bind-on (λ v. ok (eqb v 1)) (sym ea ∙ ap askedOf e) ∙ ap ok et)
+pub told-undecided : (kind : ℕ) (v : Verdict) → v ≡ Undecided → refuse 21 kind ≡ decided kind v
+unfolding decided
+told-undecided kind v e = rw e
 
 -- a question made by a function that answers with an equal one
 pub shaped-as : (q r : Question) → q ≡ r → Shaped r → Shaped q
@@ -93,8 +178,8 @@ shaped-as q r e s = subst Shaped (sym e) s
 pub put-as : (q r : Question) → q ≡ r → Shaped r → r .kind ≢ 7 → Shaped q × (q .kind ≢ 7)
 put-as q r e s n = (shaped-as q r e s, λ z. n (ap (λ x. x .kind) (sym e) ∙ z))
 
-pub asked-as : (l : List Record) (o : Outcome ℕ) (q r : Question) → q ≡ r → o ≡ ask l (q .kind) (keyOf q) → o ≡ ask l (r .kind) (keyOf r)
-asked-as l o q r e h = h ∙ ap (λ x. ask l (x .kind) (keyOf x)) e
+pub value-as : (l : List Record) (a : Answer) (q r : Question) → q ≡ r → a ≡ valueOf (find l (q .kind) (keyOf q)) → a ≡ valueOf (find l (r .kind) (keyOf r))
+value-as l a q r e h = h ∙ ap (λ x. valueOf (find l (x .kind) (keyOf x))) e
 
 pub told-as : (l : List Record) (o : Outcome Bool) (q r : Question) → q ≡ r → o ≡ askYes l (q .kind) (keyOf q) → o ≡ askYes l (r .kind) (keyOf r)
 told-as l o q r e h = h ∙ ap (λ x. askYes l (x .kind) (keyOf x)) e

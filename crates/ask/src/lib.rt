@@ -3,19 +3,33 @@ use answers::Found;
 use answers::Question;
 use fields::word;
 use rules::Counts;
+use rules::SurfaceAnswer;
+use rules::Verdict;
 ghost use mathlib.Core.Path.{_≡_};
 ghost use mathlib.Core.List.{[], _∷_};
 ghost use mathlib.Core.Logic.{_≢_};
 ghost use Prim.Native.Nat.{_<_};
-ghost use Rattle.rules.specs.Questions.{isUndecided, find as findAnswer, ask as asks, askYes, askSame, askRadial};
+ghost use Rattle.rules.specs.Questions.{surfaceAnswer, verdict as verdictOf, find as findAnswer, askYes, askSame, askRadial};
 ghost use Rattle.job.specs.Lists.{answersIn};
 ghost use Rattle.answers.specs.Question.{keyOf, Shaped};
 ghost use Rattle.answers.specs.Index.{Indexed};
-ghost use Rattle.ask.specs.Told.{valueOf, askedOf, toldOf, orderOf, Order32};
+ghost use Rattle.ask.specs.Told.{valueOf, surfaceBy, answeredBy, toldOf, orderOf, Order32};
 
-// What is on record for a question of kinds 8 to 13.
+// The number on record for a question of kinds 8 to 13.
 pub enum Answer {
     Value(usize),
+    Missing,
+}
+
+// What is on record for a question of kind 8.
+pub enum Surface {
+    Says(SurfaceAnswer),
+    Missing,
+}
+
+// What is on record for a question of kinds 9 to 13.
+pub enum Answered {
+    Says(Verdict),
     Missing,
 }
 
@@ -49,45 +63,55 @@ fn answer_to(job: &[u8], index: &[u32], c: Counts, q: Question) -> Answer
     }
 }
 
-// The value stands for undecided.
-fn undecided(kind: usize, v: usize) -> bool
-    ensures { λ r. ⌜ r ≡ isUndecided kind v ⌝ }
+// The answer of kind 8 that has a number.
+pub fn surface_answer(v: usize) -> SurfaceAnswer
+    ensures { λ r. ⌜ r ≡ surfaceAnswer v ⌝ }
 {
-    if kind == 8 {
-        return v == 4;
+    match v {
+        0 => SurfaceAnswer::Different,
+        1 => SurfaceAnswer::Agreeing,
+        2 => SurfaceAnswer::Opposed,
+        3 => SurfaceAnswer::Vanishing,
+        _ => SurfaceAnswer::Undecided,
     }
-    v == 2
 }
 
-// Kinds 8 to 13.
-pub fn ask(job: &[u8], index: &[u32], c: Counts, q: Question) -> Asked
+// The answer of kinds 9 to 13 that has a number.
+pub fn verdict(v: usize) -> Verdict
+    ensures { λ r. ⌜ r ≡ verdictOf v ⌝ }
+{
+    match v {
+        0 => Verdict::No,
+        1 => Verdict::Yes,
+        _ => Verdict::Undecided,
+    }
+}
+
+// What is on record for a question of kinds 9 to 13.
+fn recorded(job: &[u8], index: &[u32], c: Counts, q: Question) -> Answered
     requires { ⌜ Indexed (now job) (now index) c × Shaped q × (q .kind ≢ 7) ⌝ }
-    ensures { λ r. ⌜ askedOf r ≡ asks (answersIn (now (job .entry)) (now (index .entry)) c) (q .kind) (keyOf q) ⌝ }
+    ensures { λ r. ⌜ r ≡ answeredBy (findAnswer (answersIn (now (job .entry)) (now (index .entry)) c) (q .kind) (keyOf q)) ⌝ }
 {
-    let kind = q.kind;
-    let Answer::Value(v) = answer_to(job, index, c, q) else {
-        return Asked::Refused(20, kind);
-    };
-    if undecided(kind, v) {
-        return Asked::Refused(21, kind);
+    let a = answer_to(job, index, c, q);
+    match a {
+        Answer::Value(v) => Answered::Says(verdict(v)),
+        Answer::Missing => Answered::Missing,
     }
-    Asked::Value(v)
 }
 
-// Kinds 9 to 13: value 1 is yes.
+// Kinds 9 to 13.
 pub fn ask_yes(job: &[u8], index: &[u32], c: Counts, q: Question) -> Told
     requires { ⌜ Indexed (now job) (now index) c × Shaped q × (q .kind ≢ 7) ⌝ }
     ensures { λ r. ⌜ toldOf r ≡ askYes (answersIn (now (job .entry)) (now (index .entry)) c) (q .kind) (keyOf q) ⌝ }
 {
-    let a = ask(job, index, c, q);
-    match a {
-        Asked::Refused(n, p) => Told::Refused(n, p),
-        Asked::Value(v) => {
-            if v == 1 {
-                return Told::Yes;
-            }
-            Told::No
-        }
+    let kind = q.kind;
+    let Answered::Says(v) = recorded(job, index, c, q) else {
+        return Told::Refused(20, kind);
+    };
+    match v {
+        Verdict::No => Told::No,
+        Verdict::Yes => Told::Yes,
+        Verdict::Undecided => Told::Refused(21, kind),
     }
 }
 
@@ -103,11 +127,15 @@ pub fn ask_same(job: &[u8], index: &[u32], c: Counts, kind: usize, a: usize, b: 
 }
 
 // Kind 8, for the lower use of a pair.
-pub fn ask_surface(job: &[u8], index: &[u32], c: Counts, h: usize) -> Asked
+pub fn ask_surface(job: &[u8], index: &[u32], c: Counts, h: usize) -> Surface
     requires { ⌜ Indexed (now job) (now index) c × (h < 4294967296) ⌝ }
-    ensures { λ r. ⌜ askedOf r ≡ asks (answersIn (now (job .entry)) (now (index .entry)) c) 8 (h ∷ []) ⌝ }
+    ensures { λ r. ⌜ r ≡ surfaceBy (findAnswer (answersIn (now (job .entry)) (now (index .entry)) c) 8 (h ∷ [])) ⌝ }
 {
-    ask(job, index, c, answers::about_one(8, h))
+    let a = answer_to(job, index, c, answers::about_one(8, h));
+    match a {
+        Answer::Value(v) => Surface::Says(surface_answer(v)),
+        Answer::Missing => Surface::Missing,
+    }
 }
 
 // Kind 11.

@@ -131,11 +131,17 @@ recorded-is (ok rs) before after e h E =
     ∙ ap {B = Outcome (List Record)} ok (records-back rs h)
 recorded-is (refuse n p) before after e h E = ap (recorded after) (E .0)
 
--- what is listed of sewing's answer is the listing of document 01
+-- what is listed of sewing's answer is the text of the job's records
+pub room-listing : (rules : Rules) (job before after : List ℕ) (e : Ending) → AllFit (sewnRecords rules job (length before)) → Ends (sewn rules job (length before)) before after e
+    → listingOf (recorded after e) ≡ listingOf (sewnRecords rules job (length before))
+room-listing rules job before after e h E =
+    ap listingOf (recorded-is (sewnRecords rules job (length before)) before after e h (subst (λ o. Ends o before after e) (sewn-records rules job (length before)) E))
+
+-- with 65,536 bytes, it is the listing of document 01
 pub listing-is : (rules : Rules) (job before after : List ℕ) (e : Ending) → AllFit (sewnRecords rules job 65536) → length before ≡ 65536 → Ends (sewn rules job (length before)) before after e
     → listingOf (recorded after e) ≡ listing rules job
 listing-is rules job before after e h n E =
-    ap listingOf (recorded-is (sewnRecords rules job 65536) before after e h (subst (λ o. Ends o before after e) (ap (sewn rules job) n ∙ sewn-records rules job 65536) E))
+    room-listing rules job before after e (subst (λ k. AllFit (sewnRecords rules job k)) (sym n) h) E ∙ ap (λ k. listingOf (sewnRecords rules job k)) n
 
 -- ROWS
 

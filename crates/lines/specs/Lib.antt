@@ -4,3 +4,4 @@ pub mod Writing
 pub mod LineLaws
 pub mod Exact
 pub mod Room
+pub mod Listed

@@ -107,7 +107,7 @@ lines-three (r ∷ rs) each =
     omega (arith, length-append (lineOf r) (flatMap lineOf rs), length-append (framed r) (framedAll rs), line-three r (each r (List·Memᴰ·head refl)), lines-three rs (λ s m. each s (List·Memᴰ·tail m)))
 
 -- the records of an outcome take no more than so many bytes
-abbrev Within : ℕ → Outcome (List Record) → Type 0
+abbrev pub Within : ℕ → Outcome (List Record) → Type 0
 Within room (ok rs) = length (framedAll rs) ≤ room
 Within room (refuse number place) = Unit {0}
 
@@ -116,7 +116,7 @@ unfolding need
 within-fit rs room n true h = h refl
 within-fit rs room n false h = tt
 
-sewn-within : (rules : Rules) (job : List ℕ) (room : ℕ) → Within room (sewnRecords rules job room)
+pub sewn-within : (rules : Rules) (job : List ℕ) (room : ℕ) → Within room (sewnRecords rules job room)
 unfolding sewnRecords
 sewn-within rules job room = from-job (loaded job)
   where
@@ -134,7 +134,7 @@ refusal-short number place =
     let a : List ℕ = fieldText place ++ (10 ∷ []) in
     omega (arith, length-append refusedWord (fieldText number ++ a), length-append (fieldText number) a, length-append (fieldText place) (10 ∷ []), decimal-short number, decimal-short place)
 
-listed-small : (o : Outcome (List Record)) → AllFit o → Within 65536 o → length (listingOf o) ≤ 196608
+pub listed-small : (o : Outcome (List Record)) → AllFit o → Within 65536 o → length (listingOf o) ≤ 196608
 listed-small (ok rs) h w = omega (arith, lines-three rs h)
 listed-small (refuse number place) h w = omega (arith, refusal-short number place)
 

@@ -15,9 +15,8 @@ fn main() {
         return;
     };
     let mut out = io::large_buffer();
-    let ending = sewing::sew(lines::front(&job, n), &mut out);
     let mut page = [0u8; PAGE];
-    let length = lines::put_listing(&mut page, &out, ending);
+    let length = listed::list(lines::front(&job, n), &mut out, &mut page);
     if !io::write_all(libc::STDOUT_FILENO, lines::front(&page, length)) {
         os::fail(b"standard output");
     }

@@ -6,13 +6,14 @@ use mathlib.Core.Bool.{cond}
 use Rattle.lists.specs.Lists.{below}
 use Rattle.rules.specs.declared.Face.{Face}
 use Rattle.rules.specs.declared.Use.{Use}
+use Rattle.rules.specs.declared.SurfaceAnswer.{SurfaceAnswer}
 use Rattle.rules.specs.Outcome.{Outcome, ok, refuse, _>>=_}
 use Rattle.rules.specs.Sense.{sameSense}
 use Rattle.rules.specs.Job.{faceAt}
 use Rattle.rules.specs.Read.{storedSense}
 use Rattle.rules.specs.Groups.{joined}
 use Rattle.rules.specs.Rules.{fullTable}
-use Rattle.rules.specs.Merge.{surfaceAnswer, joinsFaces, boundaryStep}
+use Rattle.rules.specs.Merge.{joinsFaces, boundaryStep}
 use Rattle.groups.specs.Parents.{Ordered, Stands}
 use Rattle.merge_faces.specs.declared.Merging.{Merging}
 use Rattle.merge_faces.specs.declared.Merging.the-variants.{Done, Refused}
@@ -33,7 +34,7 @@ MergedTo Done parents o = (g : List ℕ) × (o ≡ ok g) × Stands parents g
 MergedTo (Refused n p) parents o = o ≡ refuse n p
 
 -- the groups after the surface answer v about faces a and b
-unfoldable pub answeredStep : List Face → ℕ → ℕ → ℕ → List ℕ → Outcome (List ℕ)
+unfoldable pub answeredStep : List Face → ℕ → ℕ → SurfaceAnswer → List ℕ → Outcome (List ℕ)
 answeredStep fs a b v g =
-    joinsFaces fullTable (sameSense (storedSense (faceAt fs a)) (storedSense (faceAt fs b))) (surfaceAnswer v) >>= λ yes.
+    joinsFaces fullTable (sameSense (storedSense (faceAt fs a)) (storedSense (faceAt fs b))) v >>= λ yes.
     ok (cond yes (joined g a b) g)

@@ -21,13 +21,19 @@ use Rattle.rules.specs.Outcome.{Outcome, ok, refuse, throughout}
 use Rattle.rules.specs.OutcomeLaws.{bind-on, bind-stop, through-none, through-on, through-stop}
 use Rattle.rules.specs.Sense.{sameSense}
 use Rattle.rules.specs.Job.{Answer, faceAt}
-use Rattle.rules.specs.Questions.{ask}
+use Rattle.rules.specs.Fields.{field}
+use Rattle.rules.specs.Questions.{surfaceAnswer, Found, missing, found, find, onRecord}
+use Rattle.rules.specs.declared.SurfaceAnswer.{SurfaceAnswer}
+use Rattle.rules.specs.declared.SurfaceAnswer.the-variants.{Different, Agreeing, Opposed, Vanishing, Undecided}
+use Rattle.ask.specs.declared.Surface.{Surface}
+use Rattle.ask.specs.declared.Surface.the-variants.{Says, Missing}
+use Rattle.ask.specs.Told.{surfaceBy}
 use Rattle.rules.specs.Read.{faceOfUse, storedSense}
 use Rattle.rules.specs.Groups.{alone, labelOf, joined}
 use Rattle.rules.specs.GroupLaws.{length-joined}
 use Rattle.rules.specs.Pair.{twinOf}
 use Rattle.rules.specs.Rules.{fullTable}
-use Rattle.rules.specs.Merge.{otherFace, surfaceAnswer, vanishing, joinsFaces, unasked, surfaceStep, mergeStep, mergedGroups, boundaryStep, boundaries}
+use Rattle.rules.specs.Merge.{otherFace, joinsFaces, unasked, surfaceStep, mergeStep, mergedGroups, boundaryStep, boundaries}
 use Rattle.job.specs.Lists.{facesIn}
 use Rattle.groups.specs.Parents.{Ordered, Stands, JoinedIn, padded}
 use Rattle.groups.specs.Padding.{padded-at, joined-padded}
@@ -35,44 +41,48 @@ use Rattle.merge_faces.specs.declared.Merging.{Merging}
 use Rattle.merge_faces.specs.declared.Merging.the-variants.{Done, Refused}
 use Rattle.merge_faces.specs.Merging.{MergedTo, answeredStep, JoinedPairs}
 
+-- THE CASES DIFFER
+
+missing-says : {v : SurfaceAnswer} → Missing ≡ Says v → ⊥
+missing-says e = let z : _≡_ {A = ℕ} 0 1 = cc in omega arith
+
+says-one : {v w : SurfaceAnswer} → Says v ≡ Says w → v ≡ w
+says-one e = cc
+
 -- ONE ANSWER
 
--- by value
-pub joins-0 : (v : ℕ) (equal : Bool) → v ≡ 0 → ok false ≡ joinsFaces fullTable equal (surfaceAnswer v)
-unfolding surfaceAnswer joinsFaces
-joins-0 v equal e = rw e
-
-pub joins-1 : (v : ℕ) (equal : Bool) → v ≡ 1 → ok equal ≡ joinsFaces fullTable equal (surfaceAnswer v)
-unfolding surfaceAnswer joinsFaces
-joins-1 v true e = rw e
-joins-1 v false e = rw e
-
-pub joins-2 : (v : ℕ) (equal : Bool) → v ≡ 2 → ok (not equal) ≡ joinsFaces fullTable equal (surfaceAnswer v)
-unfolding surfaceAnswer joinsFaces
-joins-2 v true e = rw e
-joins-2 v false e = rw e
-
--- every value from 3 on
-vanishes : (v : ℕ) → (v ≡ 0 → ⊥) → (v ≡ 1 → ⊥) → (v ≡ 2 → ⊥) → surfaceAnswer v ≡ vanishing
-unfolding surfaceAnswer
-vanishes zero a b c = absurd (a refl)
-vanishes (suc zero) a b c = absurd (b refl)
-vanishes (suc (suc zero)) a b c = absurd (c refl)
-vanishes (suc (suc (suc v))) a b c = refl
-
-pub joins-3 : (v : ℕ) (equal : Bool) → (v ≡ 0 → ⊥) → (v ≡ 1 → ⊥) → (v ≡ 2 → ⊥) → refuse 22 8 ≡ joinsFaces fullTable equal (surfaceAnswer v)
+-- by case
+pub joins-different : (v : SurfaceAnswer) (equal : Bool) → v ≡ Different → ok false ≡ joinsFaces fullTable equal v
 unfolding joinsFaces
-joins-3 v equal a b c = rw (vanishes v a b c)
+joins-different v equal e = rw e
+
+pub joins-agreeing : (v : SurfaceAnswer) (equal : Bool) (o : Outcome Bool) → v ≡ Agreeing → o ≡ ok equal → o ≡ joinsFaces fullTable equal v
+unfolding joinsFaces
+joins-agreeing v true o e q = rw e q
+joins-agreeing v false o e q = rw e q
+
+pub joins-opposed : (v : SurfaceAnswer) (equal : Bool) (o : Outcome Bool) → v ≡ Opposed → o ≡ ok (not equal) → o ≡ joinsFaces fullTable equal v
+unfolding joinsFaces
+joins-opposed v true o e q = rw e q
+joins-opposed v false o e q = rw e q
+
+pub joins-vanishing : (v : SurfaceAnswer) (equal : Bool) → v ≡ Vanishing → refuse 22 8 ≡ joinsFaces fullTable equal v
+unfolding joinsFaces
+joins-vanishing v equal e = rw e
+
+pub joins-undecided : (v : SurfaceAnswer) (equal : Bool) → v ≡ Undecided → refuse 21 8 ≡ joinsFaces fullTable equal v
+unfolding joinsFaces
+joins-undecided v equal e = rw e
 
 -- whether faces a and b join after answer v, by the code's senses
-abbrev joining : List Face → ℕ → ℕ → ℕ → Outcome Bool
-joining fs a b v = joinsFaces fullTable (sameSense (storedSense (faceAt fs a)) (storedSense (faceAt fs b))) (surfaceAnswer v)
+abbrev joining : List Face → ℕ → ℕ → SurfaceAnswer → Outcome Bool
+joining fs a b v = joinsFaces fullTable (sameSense (storedSense (faceAt fs a)) (storedSense (faceAt fs b))) v
 
-pub joining-is : (fs : List Face) (a b v : ℕ) (s t : Sense) (equal : Bool) (o : Outcome Bool)
-    → s ≡ storedSense (faceAt fs a) → t ≡ storedSense (faceAt fs b) → equal ≡ sameSense s t → o ≡ joinsFaces fullTable equal (surfaceAnswer v) → joining fs a b v ≡ o
-joining-is fs a b v s t equal o p q r e = sym (e ∙ ap (λ x. joinsFaces fullTable x (surfaceAnswer v)) (r ∙ (λ i. sameSense (p i) (q i))))
+pub joining-is : (fs : List Face) (a b : ℕ) (v : SurfaceAnswer) (s t : Sense) (equal : Bool) (o : Outcome Bool)
+    → s ≡ storedSense (faceAt fs a) → t ≡ storedSense (faceAt fs b) → equal ≡ sameSense s t → o ≡ joinsFaces fullTable equal v → joining fs a b v ≡ o
+joining-is fs a b v s t equal o p q r e = sym (e ∙ ap (λ x. joinsFaces fullTable x v) (r ∙ (λ i. sameSense (p i) (q i))))
 
-module _ (fs : List Face) (a b v : ℕ) (g : List ℕ) where
+module _ (fs : List Face) (a b : ℕ) (v : SurfaceAnswer) (g : List ℕ) where
   pub answer-refuses : (n p : ℕ) → joining fs a b v ≡ refuse n p → answeredStep fs a b v g ≡ refuse n p
   unfolding answeredStep
   answer-refuses n p e = bind-stop _ e
@@ -109,13 +119,23 @@ module _ (answers : List Answer) (fs : List Face) (us : List Use) (ts : List ℕ
           cond-false (unasked us ts h) (ok g) _
           (none-or (leb (twinOf ts h) h) _ (lt-leb (twinOf ts h) h (omega arith)) (ne-eqb (faceOfUse us h) (otherFace us ts h) (λ e. ne (ea ∙ e ∙ sym other))))
 
-      pub use-refused : (n p : ℕ) → ask answers 8 (h ∷ []) ≡ refuse n p → mergeStep fullTable answers fs us ts h g ≡ refuse n p
-      unfolding surfaceStep
-      use-refused n p e = put ∙ bind-stop _ e
+      pub use-missing : (r : Surface) → r ≡ surfaceBy (find answers 8 (h ∷ [])) → r ≡ Missing → mergeStep fullTable answers fs us ts h g ≡ refuse 20 8
+      unfolding surfaceStep onRecord
+      use-missing r er e = put ∙ bind-stop _ (go (find answers 8 (h ∷ [])) er)
+        where
+          go : (f : Found) → r ≡ surfaceBy f → onRecord 8 f ≡ refuse 20 8
+          go missing q = refl
+          go (found x) q = absurd (missing-says (sym e ∙ q))
 
-      pub use-answered : (v : ℕ) → ask answers 8 (h ∷ []) ≡ ok v → mergeStep fullTable answers fs us ts h g ≡ answeredStep fs a b v g
-      unfolding surfaceStep answeredStep
-      use-answered v e = put ∙ bind-on _ e ∙ (λ i. answeredStep fs (sym ea i) (sym other i) v g)
+      pub use-answered : (r : Surface) (v : SurfaceAnswer) → r ≡ surfaceBy (find answers 8 (h ∷ [])) → r ≡ Says v → mergeStep fullTable answers fs us ts h g ≡ answeredStep fs a b v g
+      unfolding surfaceStep answeredStep onRecord
+      use-answered r v er e =
+          let w = go (find answers 8 (h ∷ [])) er in
+          put ∙ bind-on _ (w .1) ∙ (λ i. answeredStep fs (sym ea i) (sym other i) (w .2 i) g)
+        where
+          go : (f : Found) → r ≡ surfaceBy f → (n : ℕ) × (onRecord 8 f ≡ ok n) × (surfaceAnswer n ≡ v)
+          go missing q = absurd (missing-says (sym q ∙ e))
+          go (found x) q = (field x 0, refl, says-one (sym q ∙ e))
 
 -- ALL USES
 

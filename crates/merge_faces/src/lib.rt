@@ -1,5 +1,5 @@
 // Merging: boundaries, merged groups of faces, removed uses, and the merged faces by number.
-use ask::Asked;
+use ask::Surface;
 use ask::Told;
 use fields::get;
 use fields::put;
@@ -8,18 +8,20 @@ use groups::Groups;
 use groups::join;
 use groups::join_in;
 use rules::Counts;
+use rules::SurfaceAnswer;
 use uses::use_face;
 ghost use mathlib.Core.Path.{_≡_};
-ghost use mathlib.Core.Bool.{cond};
+ghost use mathlib.Core.Bool.{cond, not};
 ghost use mathlib.Core.List.{List};
 ghost use Prim.Native.Nat.{ℕ, _+_, _≤_, _<_, _^_};
 ghost use lib.ListN.{length, take};
 ghost use Rattle.lists.specs.Lists.{keep};
+ghost use Rattle.rules.specs.Outcome.{ok};
 ghost use Rattle.rules.specs.Read.{faceOfUse};
 ghost use Rattle.rules.specs.Groups.{lowestMembers, groupNumbers};
 ghost use Rattle.rules.specs.GroupLaws.{Lowest};
 ghost use Rattle.rules.specs.Rules.{fullTable};
-ghost use Rattle.rules.specs.Merge.{boundaries as boundariesOf, otherFace, surfaceAnswer, joinsFaces, mergeStep, mergedGroups, removes, removedUses};
+ghost use Rattle.rules.specs.Merge.{boundaries as boundariesOf, otherFace, joinsFaces, mergeStep, mergedGroups, removes, removedUses};
 ghost use Rattle.job.specs.Lists.{facesIn, answersIn};
 ghost use Rattle.uses.specs.Table.{usesIn};
 ghost use Rattle.groups.specs.Parents.{Ordered, Stands};
@@ -80,26 +82,36 @@ pub fn boundaries(uses: &[u32], twins: &[u32], labels: &mut [u32])
 
 // MERGED GROUPS
 
-// Whether a surface answer joins: 1 where stored senses are equal, 2 where they differ; 22 where normals vanish.
-fn joins_faces(v: usize, equal: bool) -> Told
-    ensures { λ r. ⌜ toldOf r ≡ joinsFaces fullTable equal (surfaceAnswer v) ⌝ }
+// Whether a surface answer joins: agreeing where stored senses are equal, opposed where they differ; 22 where normals
+// vanish, 21 where it is undecided.
+fn joins_faces(v: SurfaceAnswer, equal: bool) -> Told
+    ensures { λ r. ⌜ toldOf r ≡ joinsFaces fullTable equal v ⌝ }
 {
-    if v == 0 {
-        return Told::No;
+    match v {
+        SurfaceAnswer::Different => Told::No,
+        SurfaceAnswer::Agreeing => yes_if(equal),
+        SurfaceAnswer::Opposed => no_if(equal),
+        SurfaceAnswer::Vanishing => Told::Refused(22, 8),
+        SurfaceAnswer::Undecided => Told::Refused(21, 8),
     }
-    if v == 1 {
-        if equal {
-            return Told::Yes;
-        }
-        return Told::No;
-    }
-    if v == 2 {
-        if equal {
-            return Told::No;
-        }
+}
+
+fn yes_if(test: bool) -> Told
+    ensures { λ r. ⌜ toldOf r ≡ ok test ⌝ }
+{
+    if test {
         return Told::Yes;
     }
-    Told::Refused(22, 8)
+    Told::No
+}
+
+fn no_if(test: bool) -> Told
+    ensures { λ r. ⌜ toldOf r ≡ ok (not test) ⌝ }
+{
+    if test {
+        return Told::No;
+    }
+    Told::Yes
 }
 
 // The groups after the surface answer v about faces a and b.
@@ -110,7 +122,7 @@ fn join_by(
     labels: &mut [u32],
     a: usize,
     b: usize,
-    v: usize,
+    v: SurfaceAnswer,
 ) -> Merging
     requires { ⌜ (c .faces ≤ 256) × Ordered (now labels) ⌝ }
     ensures { λ r. ⌜ ((g : List ℕ) → Stands (now (labels .entry)) g → MergedTo r (now (labels .exit)) (answeredStep (facesIn (now (job .entry)) (now (index .entry)) c) a b v g)) ⌝ }
@@ -151,11 +163,10 @@ fn merge_use(
     if a == b {
         return Merging::Done;
     }
-    let q = ask::ask_surface(job, index, c, h);
-    match q {
-        Asked::Refused(n, p) => Merging::Refused(n, p),
-        Asked::Value(v) => join_by(job, index, c, labels, a, b, v),
-    }
+    let Surface::Says(v) = ask::ask_surface(job, index, c, h) else {
+        return Merging::Refused(20, 8);
+    };
+    join_by(job, index, c, labels, a, b, v)
 }
 
 // The surface questions of the uses in order. Each face's label in the end.

@@ -27,7 +27,9 @@ pub mod Body
 pub mod Sew
 pub mod Stage
 pub mod Listing
+pub mod Rows
 pub mod Open
 pub mod Tables
 pub mod Parts
 pub mod Cases
+pub mod MoreCases

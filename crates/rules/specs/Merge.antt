@@ -7,10 +7,12 @@ use lib.Dec.{eqb, leb}
 use Rattle.lists.specs.Lists.{below}
 use Rattle.rules.specs.declared.Face.{Face}
 use Rattle.rules.specs.declared.Use.{Use}
+use Rattle.rules.specs.declared.SurfaceAnswer.{SurfaceAnswer}
+use Rattle.rules.specs.declared.SurfaceAnswer.the-variants.{Different, Agreeing, Opposed, Vanishing, Undecided}
 use Rattle.rules.specs.Outcome.{Outcome, ok, refuse, _>>=_, throughout}
 use Rattle.rules.specs.Sense.{sameSense}
 use Rattle.rules.specs.Job.{Answer, faceAt}
-use Rattle.rules.specs.Questions.{ask}
+use Rattle.rules.specs.Questions.{surfaceAnswer, ask}
 use Rattle.rules.specs.Read.{faceOfUse, storedSense}
 use Rattle.rules.specs.Groups.{alone, labelOf, joined, groupNumbers}
 use Rattle.rules.specs.Pair.{twinOf}
@@ -28,22 +30,13 @@ boundaryStep us ts g h = joined g (faceOfUse us h) (otherFace us ts h)
 abbrev pub boundaries : List Use → List ℕ → ℕ → List ℕ
 boundaries us ts faces = foldl (boundaryStep us ts) (alone faces) (below (length us))
 
--- Job records, kind 8: 0 different, 1 same with normals agreeing, 2 same and opposed, 3 vanishing
-pub data SurfaceAnswer : Type 0 where
-  different : SurfaceAnswer
-  agreeing : SurfaceAnswer
-  opposed : SurfaceAnswer
-  vanishing : SurfaceAnswer
-
-unfoldable pub surfaceAnswer : ℕ → SurfaceAnswer
-surfaceAnswer v = getD (different ∷ agreeing ∷ opposed ∷ []) v vanishing
-
--- Merging: whether an answer joins the groups, by whether the stored senses are equal; 22 where normals vanish
+-- Merging: whether an answer joins the groups, by whether the stored senses are equal; 21 where it is undecided, 22 where normals vanish
 unfoldable pub joinsFaces : Table → Bool → SurfaceAnswer → Outcome Bool
-joinsFaces t equal different = ok false
-joinsFaces t equal agreeing = ok (cond equal (t .agreeingEqual) (t .agreeingDifferent))
-joinsFaces t equal opposed = ok (cond equal (t .opposedEqual) (t .opposedDifferent))
-joinsFaces t equal vanishing = refuse 22 8
+joinsFaces t equal Different = ok false
+joinsFaces t equal Agreeing = ok (cond equal (t .agreeingEqual) (t .agreeingDifferent))
+joinsFaces t equal Opposed = ok (cond equal (t .opposedEqual) (t .opposedDifferent))
+joinsFaces t equal Vanishing = refuse 22 8
+joinsFaces t equal Undecided = refuse 21 8
 
 -- stored senses of a use's face and its twin's are equal
 abbrev pub equalSenses : List Face → List Use → List ℕ → ℕ → Bool

@@ -4,6 +4,10 @@ use mathlib.Core.List.{List, [], _∷_}
 use mathlib.Core.Bool.{Bool, true, false, _&&_, cond}
 use lib.Dec.{eqb, leb}
 use Rattle.lists.specs.Lists.{same}
+use Rattle.rules.specs.declared.SurfaceAnswer.{SurfaceAnswer}
+use Rattle.rules.specs.declared.SurfaceAnswer.the-variants.{Different, Agreeing, Opposed, Vanishing, Undecided as SurfaceUndecided}
+use Rattle.rules.specs.declared.Verdict.{Verdict}
+use Rattle.rules.specs.declared.Verdict.the-variants.{No, Yes, Undecided}
 use Rattle.rules.specs.Outcome.{Outcome, ok, refuse, _>>=_}
 use Rattle.rules.specs.Fields.{field}
 use Rattle.rules.specs.Job.{Answer}
@@ -29,22 +33,56 @@ abbrev pub isFound : Found → Bool
 isFound missing = false
 isFound (found v) = true
 
--- Job records: the value that stands for undecided, 4 of kind 8, 2 of kinds 9 to 13
-abbrev pub isUndecided : ℕ → ℕ → Bool
-isUndecided kind v = eqb v (cond (eqb kind 8) 4 2)
+-- THE ANSWERS BY NUMBER
 
--- Endings, 20 and 21, kinds 8 to 13: no record answers it, the answer is undecided, else its value
-unfoldable pub decided : ℕ → Found → Outcome ℕ
-decided kind missing = refuse 20 kind
-decided kind (found v) = cond (isUndecided kind (field v 0)) (refuse 21 kind) (ok (field v 0))
+-- Job records, kind 8: 0 different, 1 same with normals agreeing, 2 same and opposed, 3 vanishing, 4 undecided
+unfoldable pub surfaceNumber : SurfaceAnswer → ℕ
+surfaceNumber Different = 0
+surfaceNumber Agreeing = 1
+surfaceNumber Opposed = 2
+surfaceNumber Vanishing = 3
+surfaceNumber SurfaceUndecided = 4
+
+-- Job records, kinds 9 to 13: 0 different, no or void; 1 same, yes or outer; 2 undecided
+unfoldable pub verdictNumber : Verdict → ℕ
+verdictNumber No = 0
+verdictNumber Yes = 1
+verdictNumber Undecided = 2
+
+-- the first of some answers that has number v, else another
+unfoldable pub numbered : {A : Type 0} → (A → ℕ) → List A → A → ℕ → A
+numbered number [] other v = other
+numbered number (a ∷ more) other v =
+    let later = numbered number more other v in
+    cond (eqb v (number a)) a later
+
+-- the answer of a number
+unfoldable pub surfaceAnswer : ℕ → SurfaceAnswer
+surfaceAnswer v = numbered surfaceNumber (Different ∷ Agreeing ∷ Opposed ∷ Vanishing ∷ []) SurfaceUndecided v
+
+unfoldable pub verdict : ℕ → Verdict
+verdict v = numbered verdictNumber (No ∷ Yes ∷ []) Undecided v
+
+-- THE QUESTIONS PUT
+
+-- Endings, 20, kinds 8 to 13: no record answers it, else the value on record
+unfoldable pub onRecord : ℕ → Found → Outcome ℕ
+onRecord kind missing = refuse 20 kind
+onRecord kind (found v) = ok (field v 0)
 
 -- a question of kinds 8 to 13 is put
 abbrev pub ask : List Answer → ℕ → List ℕ → Outcome ℕ
-ask answers kind question = decided kind (find answers kind question)
+ask answers kind question = onRecord kind (find answers kind question)
 
--- Job records: of kinds 9 to 13 value 1 is same, yes, outer
+-- Endings, 21, kinds 9 to 13: the answer is undecided, else yes or no
+unfoldable pub decided : ℕ → Verdict → Outcome Bool
+decided kind No = ok false
+decided kind Yes = ok true
+decided kind Undecided = refuse 21 kind
+
+-- a question of kinds 9 to 13 is put
 abbrev pub askYes : List Answer → ℕ → List ℕ → Outcome Bool
-askYes answers kind question = ask answers kind question >>= λ v. ok (eqb v 1)
+askYes answers kind question = ask answers kind question >>= λ v. decided kind (verdict v)
 
 -- Job records: equal numbers are the same without a record (kinds 9 and 10)
 unfoldable pub askSame : List Answer → ℕ → ℕ → ℕ → Outcome Bool

@@ -24,6 +24,22 @@ pub enum Kind {
     Inside,
 }
 
+// What is answered to a question of kind 8, Surface.
+pub enum SurfaceAnswer {
+    Different,
+    Agreeing,
+    Opposed,
+    Vanishing,
+    Undecided,
+}
+
+// What is answered to a question of kinds 9 to 13.
+pub enum Verdict {
+    No,
+    Yes,
+    Undecided,
+}
+
 // What has been loaded so far: the part reached (0 nothing, 1 Head, 2 vertices, 3 edges, 4 faces with their loops,
 // 5 answers), then how many of each thing; `loops` counts both sorts.
 pub struct Counts {

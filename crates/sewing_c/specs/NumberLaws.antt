@@ -12,15 +12,19 @@ use Rattle.rules.specs.declared.EdgeData.{EdgeData}
 use Rattle.rules.specs.declared.KeptVertexLoop.{KeptVertexLoop}
 use Rattle.rules.specs.Outcome.{Outcome, ok, refuse, _>>=_, need, throughout, forEach}
 use Rattle.rules.specs.OutcomeLaws.{refuse-ok}
-use Rattle.rules.specs.Fields.{field, fieldBytes}
+use Rattle.rules.specs.Fields.{fieldBytes}
 use Rattle.rules.specs.Frame.{Frame, framedAll}
 use Rattle.rules.specs.Job.{Job, Answer, Loop, Content, ofItems, atVertex}
 use Rattle.rules.specs.Load.{Loading, loadRecord, loading, loaded, requested}
 use Rattle.rules.specs.Read.{usesOf}
-use Rattle.rules.specs.Questions.{Found, unordered, isUndecided, missing, found, decided, ask, askYes, askSame, ordered, askRadial}
+use Rattle.rules.specs.declared.SurfaceAnswer.{SurfaceAnswer}
+use Rattle.rules.specs.declared.SurfaceAnswer.the-variants.{Different, Agreeing, Opposed, Vanishing, Undecided as SurfaceUndecided}
+use Rattle.rules.specs.declared.Verdict.{Verdict}
+use Rattle.rules.specs.declared.Verdict.the-variants.{No, Yes, Undecided}
+use Rattle.rules.specs.Questions.{Found, unordered, missing, found, onRecord, decided, ask, askYes, askSame, ordered, askRadial}
 use Rattle.rules.specs.Pair.{sameUse, pairTwo, takePredecessor, takePredecessors, pairRound, pairUses, pairEdge, complete, pair}
 use Rattle.rules.specs.Rules.{Rules, Table}
-use Rattle.rules.specs.Merge.{SurfaceAnswer, different, agreeing, opposed, vanishing, joinsFaces, surfaceStep, unasked, mergeStep, mergeFaces, mergedFaces}
+use Rattle.rules.specs.Merge.{joinsFaces, surfaceStep, unasked, mergeStep, mergeFaces, mergedFaces}
 use Rattle.rules.specs.VertexLoops.{alreadyThere, keepUnlessThere, contentStep, vertexLoopStep, vertexLoops}
 use Rattle.rules.specs.Walk.{loopsOf}
 use Rattle.rules.specs.Fans.{fanPoint, keptWithEnds}
@@ -82,13 +86,19 @@ requested-numbered job n = bind (loaded job) _ (loaded-numbered job) (λ j. test
 
 -- QUESTIONS
 
-decided-numbered : (kind : ℕ) (f : Found) → Numbered (decided kind f)
+on-record-numbered : (kind : ℕ) (f : Found) → Numbered (onRecord kind f)
+unfolding onRecord isNumber has
+on-record-numbered kind missing = refusal 20 kind refl
+on-record-numbered kind (found v) = value
+
+decided-numbered : (kind : ℕ) (v : Verdict) → Numbered (decided kind v)
 unfolding decided isNumber has
-decided-numbered kind missing = refusal 20 kind refl
-decided-numbered kind (found v) = either (isUndecided kind (field v 0)) _ _ (refusal 21 kind refl) value
+decided-numbered kind No = value
+decided-numbered kind Yes = value
+decided-numbered kind Undecided = refusal 21 kind refl
 
 yes-numbered : (answers : List Answer) (kind : ℕ) (question : List ℕ) → Numbered (askYes answers kind question)
-yes-numbered answers kind question = bind (ask answers kind question) _ (decided-numbered kind _) (λ v. value)
+yes-numbered answers kind question = bind (ask answers kind question) _ (on-record-numbered kind _) (λ v. decided-numbered kind _)
 
 same-numbered : (answers : List Answer) (kind a b : ℕ) → Numbered (askSame answers kind a b)
 unfolding askSame
@@ -134,14 +144,15 @@ pair-numbered answers us edges = bind (throughout (pairEdge answers us) _ _) com
 
 joins-numbered : (t : Table) (equal : Bool) (a : SurfaceAnswer) → Numbered (joinsFaces t equal a)
 unfolding joinsFaces isNumber has
-joins-numbered t equal different = value
-joins-numbered t equal agreeing = value
-joins-numbered t equal opposed = value
-joins-numbered t equal vanishing = refusal 22 8 refl
+joins-numbered t equal Different = value
+joins-numbered t equal Agreeing = value
+joins-numbered t equal Opposed = value
+joins-numbered t equal Vanishing = refusal 22 8 refl
+joins-numbered t equal SurfaceUndecided = refusal 21 8 refl
 
 surface-numbered : (t : Table) (answers : List Answer) (fs : List Face) (us : List Use) (ts : List ℕ) (h : ℕ) (g : List ℕ) → Numbered (surfaceStep t answers fs us ts h g)
 unfolding surfaceStep
-surface-numbered t answers fs us ts h g = bind (ask answers 8 (h ∷ [])) _ (decided-numbered 8 _) (λ v. bind (joinsFaces t _ _) _ (joins-numbered t _ _) (λ yes. value))
+surface-numbered t answers fs us ts h g = bind (ask answers 8 (h ∷ [])) _ (on-record-numbered 8 _) (λ v. bind (joinsFaces t _ _) _ (joins-numbered t _ _) (λ yes. value))
 
 merge-numbered : (t : Table) (answers : List Answer) (fs : List Face) (us : List Use) (ts : List ℕ) (h : ℕ) (g : List ℕ) → Numbered (mergeStep t answers fs us ts h g)
 unfolding mergeStep

@@ -1,16 +1,21 @@
 -- What a caller in another language is told of an outcome: numbers, and the output.
-use Prim.Native.Nat.{ℕ, _+_, _≤_}
+use Prim.Native.Nat.{ℕ, _+_, _<_, _≤_}
 use mathlib.Core.Path.{_≡_}
 use mathlib.Core.List.{List, [], _∷_}
 use mathlib.Core.Bool.{Bool, true, cond}
-use lib.ListN.{length}
+use lib.ListN.{length, take}
 use lib.Dec.{eqb}
 use Rattle.lists.specs.Lists.{has}
 use Rattle.rules.specs.declared.Ending.{Ending}
 use Rattle.rules.specs.declared.Ending.the-variants.{Written, Refused}
 use Rattle.rules.specs.Outcome.{Outcome, ok, refuse}
 use Rattle.rules.specs.Job.{Stretch}
-use Rattle.rules.specs.Sew.{written}
+use Rattle.rules.specs.Rules.{ordinary}
+use Rattle.rules.specs.Sew.{sewn, written}
+use Rattle.rules.specs.Listing.{listingOf, sewnRecords}
+use Rattle.fields.specs.Wrote.{Wrote}
+use Rattle.theorems.specs.Narrow.{Below}
+use Rattle.lines.specs.Text.{recorded}
 
 -- NUMBERS
 
@@ -53,6 +58,16 @@ valueOf (refuse number place) = place
 -- an operation that found this outcome answers this number, which is 0 for success alone, and leaves this output and this value
 abbrev pub Tells : Outcome (List ℕ) → List ℕ → List ℕ → ℕ → ℕ → Type 0
 Tells o before after value number = (number ≡ numberOf o) × (value ≡ valueOf o) × (after ≡ written o before) × Numbered o
+
+-- THE LISTING
+
+-- a listing of an answer on a page, by the answer's number and value and the output that sewing left
+pub record ListsAnswer (number value : ℕ) (out page printed : List ℕ) (r : ℕ) : Type 0 where
+  -- the text of what the output's bytes read back as
+  pub text : Wrote page 0 (listingOf (recorded (take 4294967295 out) (endingOf number value))) printed r
+  -- where that is sewing's answer to a job of bytes: the text of the job's records, which for an output of 65,536 bytes is the job's listing
+  pub records : (job before : List ℕ) → Below 256 job → length before < 4294967296 → length out ≡ length before → Tells (sewn ordinary job (length before)) before out value number
+      → Wrote page 0 (listingOf (sewnRecords ordinary job (length before))) printed r
 
 -- THE LOOP REQUEST
 

@@ -3,21 +3,26 @@ use Prim.Native.Nat.{ℕ, _-_, _<_}
 use native.Mathlib.Omega.{arith}
 use mathlib.Core.Path.{_≡_, refl, sym, ap, _∙_, subst}
 use mathlib.Core.List.{List}
-use mathlib.Core.Bool.{cond}
+use mathlib.Core.Bool.{true, false, cond, false≢true}
 use lib.ListN.{length, take, length-take}
+use lib.Seq.{take-all}
+use Rattle.lists.specs.Lists.{has}
 use borrow.Author.Tests.{eq-eqb, ne-eqb}
 use Rattle.rules.specs.declared.Ending.{Ending}
 use Rattle.rules.specs.declared.Ending.the-variants.{Written, Refused as Stopped}
 use Rattle.rules.specs.Outcome.{Outcome, ok, refuse}
 use Rattle.rules.specs.Job.{Stretch}
-use Rattle.rules.specs.Sew.{ended, Ends}
+use Rattle.rules.specs.Rules.{fullTable, ordinary}
+use Rattle.rules.specs.Sew.{ended, Ends, sewn}
 use Rattle.load.specs.declared.Stretched.{Stretched}
 use Rattle.load.specs.declared.Stretched.the-variants.{Refused, At}
-use Rattle.rules.specs.Listing.{listingOf}
+use Rattle.rules.specs.Listing.{listingOf, sewnRecords}
 use Rattle.load.specs.Stretches.{stretchOf, Within}
 use Rattle.fields.specs.Wrote.{Wrote}
 use Rattle.lines.specs.Text.{recorded}
-use Rattle.sewing_c.specs.Told.{endNumber, endValue, endingOf, Numbered, numberOf, valueOf, Tells, Inside, TellsLoop}
+use Rattle.lines.specs.Writing.{wrote-same}
+use Rattle.lines.specs.Listed.{recorded-listing}
+use Rattle.sewing_c.specs.Told.{isNumber, endNumber, endValue, endingOf, Numbered, numberOf, valueOf, Tells, ListsAnswer, Inside, TellsLoop}
 
 number-is : (o : Outcome (List ℕ)) → endNumber (ended o) ≡ numberOf o
 number-is (ok bytes) = refl
@@ -61,3 +66,23 @@ few-bytes out body e = omega (arith, ap length e ∙ length-take 4294967295 out)
 -- the listing by what was told
 pub listed : (page after out body : List ℕ) (e told : Ending) (n : ℕ) → body ≡ out → told ≡ e → Wrote page 0 (listingOf (recorded body told)) after n → Wrote page 0 (listingOf (recorded out e)) after n
 listed page after out body e told n p q w = subst (λ x. Wrote page 0 (listingOf (recorded x e)) after n) p (subst (λ x. Wrote page 0 (listingOf (recorded body x)) after n) q w)
+
+-- what was told is the ending
+not-zero : (n : ℕ) → isNumber n ≡ true → n ≡ 0 → ⊥
+unfolding isNumber has
+not-zero n t e = false≢true (ap isNumber (sym e) ∙ t)
+
+pub ends-told : (o : Outcome (List ℕ)) (before after : List ℕ) (number value : ℕ) → Tells o before after value number → Ends o before after (endingOf number value)
+ends-told (ok bytes) before after number value T = (sym (ending-written number value (T .0)) ∙ ap Written (T .1), T .2)
+ends-told (refuse n p) before after number value T =
+    (sym (ending-refused number value (λ z. not-zero n (T .3 .listed n p refl) (sym (T .0) ∙ z))) ∙ (λ i. Stopped (T .0 i) (T .1 i)), T .2)
+
+pub lists-answer : (number value : ℕ) (out page printed : List ℕ) (r : ℕ) → Wrote page 0 (listingOf (recorded (take 4294967295 out) (endingOf number value))) printed r → ListsAnswer number value out page printed r
+lists-answer number value out page printed r w = record {
+  text = w;
+  records = λ job before bytes few same T.
+      let all : take 4294967295 out ≡ out = take-all 4294967295 out (omega (arith, few, same)) in
+      wrote-same page printed _ (listingOf (sewnRecords ordinary job (length before))) 0 r
+      (ap (λ l. listingOf (recorded l (endingOf number value))) all
+      ∙ recorded-listing fullTable job before out (endingOf number value) bytes few (ends-told (sewn ordinary job (length before)) before out number value T)) w;
+}

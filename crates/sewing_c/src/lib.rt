@@ -3,17 +3,14 @@
 use load::Stretched;
 use rules::Ending;
 ghost use mathlib.Core.Path.{_≡_};
-ghost use lib.ListN.{length, take};
+ghost use lib.ListN.{length};
 ghost use Rattle.rules.specs.Load.{requested};
 ghost use Rattle.rules.specs.Rules.{ordinary, fullTable};
-ghost use Rattle.rules.specs.Listing.{listingOf};
 ghost use Rattle.rules.specs.Sew.{sewn};
 ghost use Rattle.rules.specs.Stage.{readStage, pairStage, mergeStage, vertexLoopStage, walkStage, loopStage, fanStage, edgeStage, joiningStage, shellStage, lumpStage};
 ghost use Rattle.theorems.specs.Demand3.{Demand3};
-ghost use Rattle.fields.specs.Wrote.{Wrote};
-ghost use Rattle.lines.specs.Text.{recorded};
 ghost use Rattle.sewing.specs.Steps.{Promised};
-ghost use Rattle.sewing_c.specs.Told.{endNumber, endValue, endingOf, Tells, Inside, TellsLoop};
+ghost use Rattle.sewing_c.specs.Told.{endNumber, endValue, endingOf, Tells, ListsAnswer, Inside, TellsLoop};
 
 // The longest body of which a listing is made.
 const BODY: usize = 4294967295;
@@ -198,7 +195,7 @@ pub extern "C" fn zaxclover_listing(
     out: &[u8],
     page: &mut [u8],
 ) -> usize
-    ensures { λ r. ⌜ Wrote (now (page .entry)) 0 (listingOf (recorded (take 4294967295 (now (out .entry))) (endingOf number value))) (now (page .exit)) r ⌝ }
+    ensures { λ r. ⌜ ListsAnswer number value (now (out .entry)) (now (page .entry)) (now (page .exit)) r ⌝ }
 {
     let body = lines::front(out, BODY);
     let ending = ending_of(number, value);

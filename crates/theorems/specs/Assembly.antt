@@ -144,6 +144,19 @@ module _ (t : Table) (job : List ℕ) (j : Job) (w : Walked) (l : loaded job ≡
         rings = omega (arith, B .rings, R .few, none);
       })
 
+  -- the totals are small
+  pub totals-small : (ending : Joining) → maximalEdges (j .answers) (fan .starts) (fan .names) (length (fan .names)) start ≡ ok ending → Small (totalsOf w ending)
+  totals-small ending e =
+      let R : Ran ending = ran ending e in
+      let passed = passed-total t j w (G .linked .size) s in
+      record {
+        uses = G .few;
+        removed = omega (arith, removed-count, removed-few, G .few);
+        passed = omega (arith, passed, passed-few w (G .walks), G .few);
+        joins = omega (arith, R .joins, R .few, G .few);
+        rings = omega (arith, R .rings, R .few, G .few);
+      }
+
   -- a job with faces
   solid-holds : (bytes : List ℕ) (x : Joined) (ns : List Nested) → eqb (length (j .faces)) 0 ≡ false → throughJoining (withTable t) j ≡ ok x
       → bytes ≡ framedAll (bodyRecords (bodyOf j x ns)) → JoiningHolds t j w bytes
@@ -153,13 +166,7 @@ module _ (t : Table) (job : List ℕ) (j : Job) (w : Walked) (l : loaded job ≡
       let R : Ran ending = ran ending (r .2) in
       let T : bodyOf j x ns .totals ≡ totalsOf w ending = body-totals j x ns ∙ ap (λ (y : Joined). totalsOf (y .fan .walk) (y .joining)) (r .1) ∙ fan-walk j w ending in
       let passed = passed-total t j w (G .linked .size) s in
-      let S : Small (totalsOf w ending) = record {
-        uses = G .few;
-        removed = omega (arith, removed-count, removed-few, G .few);
-        passed = omega (arith, passed, passed-few w (G .walks), G .few);
-        joins = omega (arith, R .joins, R .few, G .few);
-        rings = omega (arith, R .rings, R .few, G .few);
-      } in
+      let S : Small (totalsOf w ending) = totals-small ending (r .2) in
       let B : Begins bytes (totalsOf w ending) = subst₂ Begins (sym e) T (begins-body (bodyOf j x ns) (subst Small (sym T) S)) in
       holds bytes ending (q ∙ ap ok (r .1)) R
       (record {

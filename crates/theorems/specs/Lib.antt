@@ -30,3 +30,7 @@ pub mod Starting
 pub mod Reporting
 pub mod Assembly
 pub mod Figures
+pub mod Touching
+pub mod Reached
+pub mod Narrow
+pub mod Requests

@@ -27,7 +27,7 @@ FitLoading : Loading → Type 0
 FitLoading s = Fit (s .counts) (s .job)
 
 -- a record that loading takes
-record-taken : (f : Frame) (s t : Loading) → loadRecord f s ≡ ok t
+pub record-taken : (f : Frame) (s t : Loading) → loadRecord f s ≡ ok t
     → Taken (kindOf (f .kind)) (f .fields) (s .counts) (s .job)
     × (t ≡ record { counts = counted (kindOf (f .kind)) (length (f .fields)) (s .counts); job = extended (kindOf (f .kind)) (f .at) (f .fields) (s .job) })
 unfolding loadRecord

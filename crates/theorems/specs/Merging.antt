@@ -15,13 +15,13 @@ use Rattle.rules.specs.declared.Use.{Use}
 use Rattle.rules.specs.Outcome.{Outcome, ok, refuse, _>>=_}
 use Rattle.rules.specs.OutcomeLaws.{ok-one, bind-ok, bind-on, cond-ok}
 use Rattle.rules.specs.Job.{Answer}
-use Rattle.rules.specs.Questions.{ask}
+use Rattle.rules.specs.Questions.{surfaceAnswer, ask}
 use Rattle.rules.specs.Read.{faceOfUse, oldSuccessor}
 use Rattle.rules.specs.Groups.{alone, labelOf}
 use Rattle.rules.specs.GroupLaws.{Lowest}
 use Rattle.rules.specs.Pair.{twinOf}
 use Rattle.rules.specs.Rules.{Table}
-use Rattle.rules.specs.Merge.{otherFace, boundaries, surfaceAnswer, joinsFaces, equalSenses, surfaceStep, unasked, mergeStep, mergedGroups, removes, removedUses, isRemoved, Merged, mergeFaces}
+use Rattle.rules.specs.Merge.{otherFace, boundaries, joinsFaces, equalSenses, surfaceStep, unasked, mergeStep, mergedGroups, removes, removedUses, isRemoved, Merged, mergeFaces}
 use Rattle.theorems.specs.Linked.{Twins, Linked}
 use Rattle.theorems.specs.Connected.{Connected, Equivalence, value-equivalence, connected-by, joinStep, joined-all-length, joined-all-lowest, joined-all-connected, joined-all-within, through-fold, boundaries-length, boundaries-twin}
 

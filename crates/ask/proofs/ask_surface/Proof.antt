@@ -1,7 +1,8 @@
-use Rattle.ask.specs.ToldLaws.{put-as, asked-as}
-use Rattle.ask.specs.Told.{askedOf}
+use Rattle.ask.specs.ToldLaws.{put-as, surface-says, surface-missing, value-as}
 use Rattle.answers.specs.QuestionLaws.{shaped-one}
 use Rattle.answers.specs.Question.{aboutOne}
+use Rattle.rules.specs.Questions.{find}
+use mathlib.Core.List.{[], _∷_}
 use Rattle.job.specs.Lists.{answersIn}
 use native.Mathlib.Omega.{arith}
 use borrow.Author.Needs.{needs}
@@ -10,22 +11,49 @@ use Rattle.ask.proofs.ask_surface.Tie as tie
 use Rattle.ask.proofs.ask_surface.Reads as reads
 use Rattle.ask.proofs.ask_surface.Lts as lts
 use Rattle.answers.proofs.about_one.Reads as about-one-reads
-use Rattle.ask.proofs.ask.Reads as ask-reads
+use Rattle.ask.proofs.answer_to.Reads as answer-to-reads
+use Rattle.ask.proofs.surface_answer.Reads as surface-answer-reads
 
--- src/lib.rt:111:24
 about-one-requires : tie.Need-about-one-requires
 about-one-requires c κs = search needs
 
--- src/lib.rt:111:5
-ask-requires : tie.Need-ask-requires
-ask-requires c κs = let w = put-as (c .about-one .result) (aboutOne 8 (c .before .before .before .args .h)) (c .about-one .ensures) (shaped-one 8 (c .before .before .before .args .h) (omega arith) (c .before .before .before .pre .1)) (λ z. omega arith) in (c .before .before .before .pre .0, w .0, w .1)
+answer-to-requires : tie.Need-answer-to-requires
+answer-to-requires c κs = let w = put-as (c .about-one .result) (aboutOne 8 (c .before .before .before .args .h)) (c .about-one .ensures) (shaped-one 8 (c .before .before .before .args .h) (omega arith) (c .before .before .before .pre .1)) (λ z. omega arith) in (c .before .before .before .pre .0, w .0, w .1)
 
--- src/lib.rt:107:1
+enum-known-a : tie.Need-enum-known-a
+enum-known-a c = search needs
+
+surface-answer-requires : tie.Need-surface-answer-requires
+surface-answer-requires c κs = search needs
+
+enum-told : tie.Need-enum-told
+enum-told c = search needs
+
 returns : tie.Need-returns
 returns c =
-    let a = c .before .before .before .before .args in
-    let about-one = c .before .about-one in
-    asked-as (answersIn (a .job .now) (a .index .now) (a .c)) (askedOf (c .ask .result)) (about-one .result) (aboutOne 8 (a .h)) (about-one .ensures) (c .ask .ensures)
+    let a = c .before .before .before .before .before .before .before .before .args in
+    let about-one = c .before .before .before .before .before .about-one in
+    let answer-to = c .before .before .before .before .answer-to in
+    let told = c .before .before .a in
+    let l = answersIn (a .job .now) (a .index .now) (a .c) in
+    surface-says (find l 8 (a .h ∷ [])) (answer-to .result) (told .given .0 .0) (c .surface-answer .result) (value-as l (answer-to .result) (about-one .result) (aboutOne 8 (a .h)) (about-one .ensures) (answer-to .ensures)) (told .given .1) (c .surface-answer .ensures)
+
+returns-2 : tie.Need-returns-2
+returns-2 c =
+    let a = c .before .before .before .before .before .before .args in
+    let about-one = c .before .before .before .about-one in
+    let answer-to = c .before .before .answer-to in
+    let l = answersIn (a .job .now) (a .index .now) (a .c) in
+    surface-missing (find l 8 (a .h ∷ [])) (answer-to .result) (value-as l (answer-to .result) (about-one .result) (aboutOne 8 (a .h)) (about-one .ensures) (answer-to .ensures)) (c .enum-told .given .1)
 
 pub ask-surface-spec : {M : Type 1} → statement M
-ask-surface-spec = tie.close (tie.spec about-one-requires ask-requires returns)
+ask-surface-spec =
+    tie.close
+    (tie.spec
+    about-one-requires
+    answer-to-requires
+    enum-known-a
+    surface-answer-requires
+    enum-told
+    returns
+    returns-2)

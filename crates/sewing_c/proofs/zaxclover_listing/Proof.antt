@@ -1,4 +1,4 @@
-use Rattle.sewing_c.specs.ToldLaws.{few-bytes, listed}
+use Rattle.sewing_c.specs.ToldLaws.{few-bytes, listed, lists-answer}
 use borrow.Author.Needs.{needs}
 use Rattle.sewing_c.proofs.zaxclover_listing.Statement.{statement}
 use Rattle.sewing_c.proofs.zaxclover_listing.Tie as tie
@@ -26,7 +26,7 @@ same-length c = search needs
 
 -- src/lib.rt:190:1
 returns : tie.Need-returns
-returns c = listed (c .before .before .before .before .before .before .before .before .args .page .now) (c .before .before .put-listing .last .0) _ (c .before .before .before .before .before .front .result .now) _ (c .before .before .before .before .ending-of .result) (c .before .before .put-listing .result) (c .before .before .before .before .before .front .ensures) (c .before .before .before .before .ending-of .ensures) (c .before .before .put-listing .ensures)
+returns c = lists-answer _ _ (c .before .before .before .before .before .before .before .before .args .out .now) (c .before .before .before .before .before .before .before .before .args .page .now) (c .before .before .put-listing .last .0) (c .before .before .put-listing .result) (listed (c .before .before .before .before .before .before .before .before .args .page .now) (c .before .before .put-listing .last .0) _ (c .before .before .before .before .before .front .result .now) _ (c .before .before .before .before .ending-of .result) (c .before .before .put-listing .result) (c .before .before .before .before .before .front .ensures) (c .before .before .before .before .ending-of .ensures) (c .before .before .put-listing .ensures))
 
 pub zaxclover-listing-spec : {M : Type 1} → statement M
 zaxclover-listing-spec =

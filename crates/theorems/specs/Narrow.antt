@@ -1,0 +1,547 @@
+-- Every number in a body of a job of bytes is below 4,294,967,296, so that its four bytes hold it.
+use Prim.Native.Nat.{ℕ, zero, suc, _+_, _*_, _/_, _≤_, _<_}
+use native.Mathlib.Omega.{arith}
+use mathlib.Core.Path.{_≡_, refl, sym, ap, _∙_, subst}
+use mathlib.Core.Logic.{_⊎_, inl, inr, ⊎-elim}
+use mathlib.Core.List.{List, [], _∷_, _++_, map, flatMap, foldl, List·Memᴰ·head, List·Memᴰ·tail, List·Memᴰ·not-nil, List·Memᴰ·cases-cons, List·Memᴰ·append-cases}
+use mathlib.Core.Bool.{Bool, true, false, _||_, cond}
+use lib.ListN.{length, getD, set, drop, length-append, length-map, length-set}
+use lib.Dec.{eqb}
+use Rattle.lists.specs.Lists.{_∈_, below, keep, positions, position, indexOf, has}
+use Rattle.lists.specs.Tests.{both-ways}
+use Rattle.lists.specs.Members.{keep-in, keep-length, map-in, flatMap-in, positions-in, positions-length}
+use Rattle.lists.specs.Runs.{length-below}
+use Rattle.rules.specs.declared.Edge.{Edge}
+use Rattle.rules.specs.declared.Face.{Face}
+use Rattle.rules.specs.declared.Item.{Item}
+use Rattle.rules.specs.declared.Sense.{Sense}
+use Rattle.rules.specs.declared.Sense.the-variants.{Same, Reversed}
+use Rattle.rules.specs.declared.EdgeData.{EdgeData}
+use Rattle.rules.specs.declared.KeptVertexLoop.{KeptVertexLoop}
+use Rattle.rules.specs.Outcome.{Outcome, ok, refuse, _>>=_, need, throughout, forEach}
+use Rattle.rules.specs.OutcomeLaws.{ok-one, bind-ok, need-ok, cond-ok, through-keeps, each-ok}
+use Rattle.rules.specs.Sense.{senseNumber}
+use Rattle.rules.specs.Fields.{le32, fieldsIn, field}
+use Rattle.rules.specs.Frame.{Frame, Record, wholeRecord, frameAt, taking, framesFrom, frames}
+use Rattle.rules.specs.Job.{unset, Answer, Content, ofItems, atVertex, Loop, Job, edgeAt, noEdge, faceAt}
+use Rattle.rules.specs.Kinds.{kindOf, numberOf}
+use Rattle.rules.specs.Load.{Loading, loadRecord, nothingLoaded, loading, loaded, extended, alsoIf, edgeOf, faceOf}
+use Rattle.rules.specs.Read.{usesOf, useAt, edgeOfUse}
+use Rattle.rules.specs.Questions.{askYes}
+use Rattle.rules.specs.Groups.{isLowest, lowestMembers}
+use Rattle.rules.specs.Rules.{Table, fullTable}
+use Rattle.rules.specs.Merge.{mergedFaces}
+use Rattle.rules.specs.VertexLoops.{alreadyThere, keepUnlessThere, contentStep, vertexLoopStep, vertexLoops}
+use Rattle.rules.specs.Fans.{namesFan, fanNames, startPoints, fanPoint}
+use Rattle.rules.specs.Edges.{edgeData, edgesOf, lowerKept, lowerUses, FaceLoop}
+use Rattle.rules.specs.Join.{Joining, noEdgeData, edgeDataAt, activeEdges, farEnd, joinedEdge, retired, ringOf, joinEdges, joinAt, ringAt, Tried, unchanged, changed, sweep, afterSweep, maximalEdges}
+use Rattle.rules.specs.Shells.{Shell, shellFaces, allShellFaces, orientShell, shells, enclosingShell, orRefuse, none, outers, Nested, nest, nested, voidsOf, lumpOf, lumps, lowestFace}
+use Rattle.rules.specs.Body.{Totals, BodyFace, Body, emptyBody, meet, metFans, vertexOf, withVertices, renumbered, loopsIn, pointsIn, bodyFace, bodyFaces, stillActive, solidBody, bodyKind, totalsRecord, vertexRecord, edgeRecord, itemFields, loopRecord, vertexLoopRecord, faceRecords, lumpRecords, bodyRecords}
+use Rattle.rules.specs.Sew.{Walked, walked, Fanned, fansOf, fanned, unjoined, Joined, edged, throughJoining, shellsOf, lumpsClear, totalsOf, bodyOf, solid, rebuild}
+use Rattle.theorems.specs.Demand3.{withTable, Settled}
+use Rattle.theorems.specs.Loading.{record-taken, loaded-sound, loading-counted}
+use Rattle.theorems.specs.Merging.{merge-groups-length}
+use Rattle.theorems.specs.Changes.{Made, sweep-made}
+use Rattle.theorems.specs.Ground.{Ground, ground, walked-settled, settled-uses}
+use Rattle.theorems.specs.Reporting.{Small, body-totals, through-joined}
+use Rattle.theorems.specs.Assembly.{totals-small}
+
+-- each number is below a bound
+abbrev pub Below : ℕ → List ℕ → Type 0
+Below n l = (x : ℕ) → x ∈ l → x < n
+
+-- a number that four bytes hold
+abbrev pub Low : ℕ → Type 0
+Low n = n < 4294967296
+
+pub below-at : (n : ℕ) (l : List ℕ) (i : ℕ) → 0 < n → Below n l → getD l i 0 < n
+below-at n [] i h b = h
+below-at n (x ∷ l) zero h b = b x (List·Memᴰ·head refl)
+below-at n (x ∷ l) (suc i) h b = below-at n l i h (λ y m. b y (List·Memᴰ·tail m))
+
+-- a member, or what stands for none, has what all have
+at-has : {A : Type 0} (P : A → Type 0) (l : List A) (i : ℕ) (d : A) → P d → ((x : A) → x ∈ l → P x) → P (getD l i d)
+at-has P [] i d h all = h
+at-has P (x ∷ l) zero d h all = all x (List·Memᴰ·head refl)
+at-has P (x ∷ l) (suc i) d h all = at-has P l i d h (λ y m. all y (List·Memᴰ·tail m))
+
+set-has : {A : Type 0} (P : A → Type 0) (l : List A) (i : ℕ) (a : A) → P a → ((x : A) → x ∈ l → P x) → (x : A) → x ∈ set l i a → P x
+set-has P [] i a h all x m = absurd (List·Memᴰ·not-nil m)
+set-has P (y ∷ l) zero a h all x m = ⊎-elim (λ e. subst P (sym e) h) (λ k. all x (List·Memᴰ·tail k)) (List·Memᴰ·cases-cons m)
+set-has P (y ∷ l) (suc i) a h all x m =
+    let later = set-has P l i a h (λ z k. all z (List·Memᴰ·tail k)) x in
+    ⊎-elim (λ e. subst P (sym e) (all y (List·Memᴰ·head refl))) later (List·Memᴰ·cases-cons m)
+
+snoc-has : {A : Type 0} (P : A → Type 0) (l : List A) (a : A) → P a → ((x : A) → x ∈ l → P x) → (x : A) → x ∈ l ++ (a ∷ []) → P x
+snoc-has P l a h all x m =
+    ⊎-elim (all x) (λ i. ⊎-elim (λ e. subst P (sym e) h) (λ z. absurd (List·Memᴰ·not-nil z)) (List·Memᴰ·cases-cons i)) (List·Memᴰ·append-cases l m)
+
+below-drop : (n k : ℕ) (l : List ℕ) → Below n l → Below n (drop k l)
+below-drop n zero l b = b
+below-drop n (suc k) [] b = b
+below-drop n (suc k) (x ∷ l) b = below-drop n k l (λ y m. b y (List·Memᴰ·tail m))
+
+pub position-most : {A : Type 0} (p : A → Bool) (l : List A) → position p l ≤ length l
+unfolding position
+position-most p [] = omega arith
+position-most p (x ∷ l) =
+    let later = position-most p l in
+    ⊎-elim (λ t. rw t (omega arith)) (λ t. rw t (omega arith)) (both-ways (p x))
+
+-- THE FIELDS OF A JOB
+
+field-low : (l : List ℕ) (p : ℕ) → Below 256 l → Low (le32 l p)
+unfolding le32
+field-low l p b = omega (arith, below-at 256 l p (omega arith) b, below-at 256 l (p + 1) (omega arith) b, below-at 256 l (p + 2) (omega arith) b, below-at 256 l (p + 3) (omega arith) b)
+
+fields-low : (n : ℕ) (l : List ℕ) → Below 256 l → Below 4294967296 (fieldsIn n l)
+unfolding fieldsIn
+fields-low zero l b x m = absurd (List·Memᴰ·not-nil m)
+fields-low (suc n) l b x m =
+    let later = fields-low n (drop 4 l) (below-drop 256 4 l b) x in
+    ⊎-elim (λ e. subst Low (sym e) (field-low l 0 b)) later (List·Memᴰ·cases-cons m)
+
+frames-low : (most at : ℕ) (rest : List ℕ) → Below 256 rest → (f : Frame) → f ∈ framesFrom most at rest → Below 4294967296 (f .fields)
+unfolding framesFrom frameAt
+frames-low zero at rest b f m = absurd (List·Memᴰ·not-nil m)
+frames-low (suc most) at [] b f m = absurd (List·Memᴰ·not-nil m)
+frames-low (suc most) at (y ∷ ys) b f m =
+    let rest : List ℕ = y ∷ ys in
+    let later = frames-low most (at + taking rest) (drop (taking rest) rest) (below-drop 256 (taking rest) rest b) f in
+    let here : Below 4294967296 (frameAt at rest .fields) = fields-low (cond (wholeRecord rest) (le32 rest 0 / 4) 0) (drop 6 rest) (below-drop 256 6 rest b) in
+    ⊎-elim (λ e. subst (λ (g : Frame). Below 4294967296 (g .fields)) (sym e) here) later (List·Memᴰ·cases-cons m)
+
+-- points, curves and surfaces of a job have four bytes
+pub record LowJob (j : Job) : Type 0 where
+  pub points : (p : ℕ) → p ∈ j .points → Low p
+  pub curves : (e : Edge) → e ∈ j .edges → Low (e .curve)
+  pub surfaces : (f : Face) → f ∈ j .faces → Low (f .surface)
+
+also-has : {A : Type 0} (P : A → Type 0) (t : Bool) (xs : List A) (a : A) → P a → ((x : A) → x ∈ xs → P x) → (x : A) → x ∈ alsoIf t xs a → P x
+also-has P false xs a h all x m = all x m
+also-has P true xs a h all x m = snoc-has P xs a h all x m
+
+record-low : (f : Frame) (s t : Loading) → Below 4294967296 (f .fields) → LowJob (s .job) → loadRecord f s ≡ ok t → LowJob (t .job)
+unfolding extended
+record-low f s t b L e =
+    let low : Low (field (f .fields) 0) = below-at 4294967296 (f .fields) 0 (omega arith) b in
+    subst (λ (u : Loading). LowJob (u .job)) (sym (record-taken f s t e .1)) (record {
+      points = also-has Low (eqb (numberOf (kindOf (f .kind))) 2) (s .job .points) (field (f .fields) 0) low (L .points);
+      curves = also-has (λ (e : Edge). Low (e .curve)) (eqb (numberOf (kindOf (f .kind))) 3) (s .job .edges) (edgeOf (f .fields)) low (L .curves);
+      surfaces = also-has (λ (g : Face). Low (g .surface)) (eqb (numberOf (kindOf (f .kind))) 4) (s .job .faces) (faceOf (f .fields)) low (L .surfaces);
+    })
+
+pub loaded-low : (job : List ℕ) (j : Job) → Below 256 job → loaded job ≡ ok j → LowJob j
+unfolding loading
+loaded-low job j b l =
+    let r = bind-ok (loading job) _ j l in
+    let small = need-ok _ _ _ _ (r .0) (r .1) in
+    let some = need-ok _ _ _ _ (r .0) (small .1) in
+    let all = through-keeps loadRecord (λ (s : Loading). LowJob (s .job)) (frames job) nothingLoaded (r .0)
+    (λ f u v m S q. record-low f u v (frames-low (length job) 0 job b f m) S q)
+    (record { points = λ p m. absurd (List·Memᴰ·not-nil m); curves = λ e m. absurd (List·Memᴰ·not-nil m); surfaces = λ f m. absurd (List·Memᴰ·not-nil m) }) (some .1) in
+    subst LowJob (ok-one (r .2)) all
+
+-- VERTEX LOOPS
+
+step-points : (answers : List Answer) (points : List ℕ) (face : ℕ) (c : Content) (ks ks′ : List KeptVertexLoop) → Below 4294967296 points
+    → ((k : KeptVertexLoop) → k ∈ ks → Low (k .point)) → contentStep answers points face c ks ≡ ok ks′ → (k : KeptVertexLoop) → k ∈ ks′ → Low (k .point)
+unfolding keepUnlessThere
+step-points answers points face (ofItems xs) ks ks′ b all e = subst (λ (l : List KeptVertexLoop). (k : KeptVertexLoop) → k ∈ l → Low (k .point)) (ok-one e) all
+step-points answers points face (atVertex v) ks ks′ b all e =
+    let r = bind-ok (alreadyThere answers face (getD points v 0) ks) _ ks′ e in
+    go (r .0) (ok-one (r .2))
+  where
+    new : KeptVertexLoop
+    new = record { face = face; point = getD points v 0 }
+
+    go : (t : Bool) → cond t ks (ks ++ (new ∷ [])) ≡ ks′ → (k : KeptVertexLoop) → k ∈ ks′ → Low (k .point)
+    go true q = subst (λ (l : List KeptVertexLoop). (k : KeptVertexLoop) → k ∈ l → Low (k .point)) q all
+    go false q =
+        subst (λ (l : List KeptVertexLoop). (k : KeptVertexLoop) → k ∈ l → Low (k .point)) q
+        (snoc-has (λ (k : KeptVertexLoop). Low (k .point)) ks new (below-at 4294967296 points v (omega arith) b) all)
+
+pub kept-points : (answers : List Answer) (points numbers : List ℕ) (loops : List Loop) (ks : List KeptVertexLoop) → Below 4294967296 points
+    → vertexLoops answers points numbers loops ≡ ok ks → (k : KeptVertexLoop) → k ∈ ks → Low (k .point)
+kept-points answers points numbers loops ks b e =
+    through-keeps (vertexLoopStep answers points numbers) (λ (l : List KeptVertexLoop). (k : KeptVertexLoop) → k ∈ l → Low (k .point)) loops [] ks
+    (λ l u v m S q. step-points answers points (getD numbers (l .face) 0) (l .content) u v b S q) (λ k m. absurd (List·Memᴰ·not-nil m)) e
+
+-- EDGES AND JOINING
+
+-- curves of edges have four bytes
+abbrev pub CurvesLow : List EdgeData → Type 0
+CurvesLow es = (e : EdgeData) → e ∈ es → Low (e .curve)
+
+curve-at : (es : List EdgeData) (i : ℕ) → CurvesLow es → Low (edgeDataAt es i .curve)
+curve-at es i all = at-has (λ (e : EdgeData). Low (e .curve)) es i noEdgeData (omega arith) all
+
+-- how joining changes edges: their curves stay low, and there is at most one more
+pub record Grown (s t : Joining) (more : ℕ) : Type 0 where
+  pub count : length (t .edges) ≤ length (s .edges) + more
+  pub curves : CurvesLow (s .edges) → CurvesLow (t .edges)
+
+made-grown : (s t : Joining) (v : ℕ) → Made s v t → Grown s t 1
+unfolding ringAt joinAt joinEdges joinedEdge
+made-grown s t v (inl r) =
+    let es : List EdgeData = s .edges in
+    subst (λ (u : Joining). Grown s u 1) (sym (r .after)) (record {
+      count = omega (arith, length-set es (r .edge) (ringOf (edgeDataAt es (r .edge))));
+      curves = λ all. set-has (λ (e : EdgeData). Low (e .curve)) es (r .edge) (ringOf (edgeDataAt es (r .edge))) (curve-at es (r .edge) all) all;
+    })
+made-grown s t v (inr r) =
+    let es : List EdgeData = s .edges in
+    let a : EdgeData = edgeDataAt es (r .first) in
+    let b : EdgeData = edgeDataAt es (r .second) in
+    let one : List EdgeData = set es (r .first) (retired a) in
+    let two : List EdgeData = set one (r .second) (retired b) in
+    subst (λ (u : Joining). Grown s u 1) (sym (r .after)) (record {
+      count = omega (arith, length-append two (joinedEdge v a b ∷ []), length-set one (r .second) (retired b), length-set es (r .first) (retired a));
+      curves = λ all.
+          snoc-has (λ (e : EdgeData). Low (e .curve)) two (joinedEdge v a b) (curve-at es (r .first) all)
+          (set-has (λ (e : EdgeData). Low (e .curve)) one (r .second) (retired b) (curve-at es (r .second) all)
+          (set-has (λ (e : EdgeData). Low (e .curve)) es (r .first) (retired a) (curve-at es (r .first) all) all));
+    })
+
+pub joining-grown : (answers : List Answer) (starts names : List ℕ) (most : ℕ) (s t : Joining) → maximalEdges answers starts names most s ≡ ok t → Grown s t most
+unfolding maximalEdges
+joining-grown answers starts names zero s t e = subst (λ (u : Joining). Grown s u zero) (ok-one e) (record { count = omega arith; curves = λ all. all })
+joining-grown answers starts names (suc most) s t e =
+    let r = bind-ok (sweep answers starts s names) (λ u. afterSweep u s (maximalEdges answers starts names most)) t e in
+    go (r .0) (r .1) (r .2) (λ u. joining-grown answers starts names most u t)
+  where
+    go : (u : Tried) → sweep answers starts s names ≡ ok u → afterSweep u s (maximalEdges answers starts names most) ≡ ok t
+        → ((u : Joining) → maximalEdges answers starts names most u ≡ ok t → Grown u t most) → Grown s t (suc most)
+    go unchanged q z later = subst (λ (u : Joining). Grown s u (suc most)) (ok-one z) (record { count = omega arith; curves = λ all. all })
+    go (changed u) q z later =
+        let m = sweep-made answers starts s u names q in
+        let a = made-grown s u (m .0) (m .3) in
+        let b = later u z in
+        record { count = omega (arith, b .count, a .count); curves = λ all. b .curves (a .curves all) }
+
+-- SHELLS
+
+each-has : {A B : Type 0} (f : A → Outcome B) (P : B → Type 0) (xs : List A) (r : List B) → ((x : A) (y : B) → x ∈ xs → f x ≡ ok y → P y) → forEach f xs ≡ ok r → (y : B) → y ∈ r → P y
+unfolding forEach
+each-has f P [] r h e y m = absurd (List·Memᴰ·not-nil (subst (λ l. y ∈ l) (sym (ok-one e)) m))
+each-has f P (x ∷ xs) r h e y m =
+    let p = each-ok f x xs r e in
+    let later = each-has f P xs (p .1) (λ z w k. h z w (List·Memᴰ·tail k)) (p .3) y in
+    ⊎-elim (λ q. subst P (sym q) (h x (p .0) (List·Memᴰ·head refl) (p .2))) later (List·Memᴰ·cases-cons (subst (λ l. y ∈ l) (p .4) m))
+
+orient-faces : (answers : List Answer) (proven : ℕ) (faces : List ℕ) (s : Shell) → orientShell answers proven faces ≡ ok s → s .faces ≡ faces
+unfolding orientShell
+orient-faces answers proven faces s e =
+    let r = bind-ok (cond (eqb proven 1) (ok true) (askYes answers 12 (lowestFace faces ∷ []))) (λ yes. ok (record { faces = faces; outer = yes })) s e in
+    let q : record { faces = faces; outer = r .0 } ≡ s = ok-one (r .2) in
+    ap (λ (x : Shell). x .faces) (sym q)
+
+nest-shell : (answers : List Answer) (os : List ℕ) (s : Shell) (n : Nested) → nest answers os s ≡ ok n → n .shell ≡ s
+unfolding nest
+nest-shell answers os s n e =
+    let low : ℕ = lowestFace (s .faces) in
+    let r = bind-ok (cond (s .outer) (ok low) (enclosingShell answers low os none >>= λ taken. orRefuse taken low)) (λ o. ok (record { shell = s; home = o })) n e in
+    let q : record { shell = s; home = r .0 } ≡ n = ok-one (r .2) in
+    ap (λ (x : Nested). x .shell) (sym q)
+
+shell-faces-few : (boundaries members : List ℕ) (b x : ℕ) → x ∈ shellFaces boundaries members b → x < length members
+shell-faces-few boundaries members b x m =
+    let r = positions-in (λ r. eqb (getD boundaries r 0) b) 0 members 0 x m in
+    omega (arith, r .1)
+
+-- each shell's faces are merged faces
+nested-few : (answers : List Answer) (proven : ℕ) (boundaries groups : List ℕ) (ss : List Shell) (ns : List Nested) → shells answers proven (allShellFaces boundaries groups) ≡ ok ss
+    → nested answers ss ≡ ok ns → (n : Nested) → n ∈ ns → Below (length groups) (n .shell .faces)
+nested-few answers proven boundaries groups ss ns p q =
+    let members : List ℕ = lowestMembers groups in
+    let few : length members ≤ length groups = omega (arith, keep-length (isLowest groups) (below (length groups)), length-below (length groups)) in
+    let oriented : (s : Shell) → s ∈ ss → Below (length groups) (s .faces) =
+    each-has (orientShell answers proven) (λ (s : Shell). Below (length groups) (s .faces)) (allShellFaces boundaries groups) ss
+    (λ fs s m e. subst (Below (length groups)) (sym (orient-faces answers proven fs s e))
+    (let r = map-in (shellFaces boundaries members) (lowestMembers boundaries) fs m in
+    subst (Below (length groups)) (sym (r .2)) (λ x k. let a = shell-faces-few boundaries members (r .0) x k in omega arith))) p in
+    each-has (nest answers (outers ss)) (λ (n : Nested). Below (length groups) (n .shell .faces)) ss ns
+    (λ s n m e. subst (λ (u : Shell). Below (length groups) (u .faces)) (sym (nest-shell answers (outers ss) s n e)) (oriented s m)) q
+
+lumps-few : (bound : ℕ) (ns : List Nested) → ((n : Nested) → n ∈ ns → Below bound (n .shell .faces)) → (lump : List (List ℕ)) → lump ∈ lumps ns → (shell : List ℕ) → shell ∈ lump → Below bound shell
+unfolding lumps
+lumps-few bound ns all lump m shell k =
+    let a = map-in (lumpOf ns) (keep (λ (n : Nested). n .shell .outer) ns) lump m in
+    let n : Nested = a .0 in
+    ⊎-elim
+    (λ e. subst (Below bound) (sym e) (all n (keep-in (λ (n : Nested). n .shell .outer) ns n (a .1) .0)))
+    (λ i.
+    let b = map-in (λ (n : Nested). n .shell .faces) (keep _ ns) shell i in
+    subst (Below bound) (sym (b .2)) (all (b .0) (keep-in _ ns (b .0) (b .1) .0)))
+    (List·Memᴰ·cases-cons (subst (λ l. shell ∈ l) (a .2) k))
+
+-- A BODY
+
+-- every number of a body has four bytes
+pub record LowBody (b : Body) : Type 0 where
+  pub totals : Small (b .totals)
+  pub vertices : Below 4294967296 (b .vertices)
+  pub edges : (e : Edge) → e ∈ b .edges → Low (e .curve) × Low (e .start) × Low (e .end)
+  pub surfaces : (f : BodyFace) → f ∈ b .faces → Low (f .surface)
+  pub items : (f : BodyFace) → f ∈ b .faces → (xs : List Item) → xs ∈ f .loops → (x : Item) → x ∈ xs → Low (x .edge)
+  pub points : (f : BodyFace) → f ∈ b .faces → Below 4294967296 (f .points)
+  pub lumps : (lump : List (List ℕ)) → lump ∈ b .lumps → (shell : List ℕ) → shell ∈ lump → Below 4294967296 shell
+
+meet-few : (met : List ℕ) (v : ℕ) → length (meet met v) ≤ suc (length met)
+meet-few met v = ⊎-elim (λ t. rw t (omega arith)) (λ t. rw t (omega (arith, length-append met (v ∷ [])))) (both-ways (eqb v unset || has v met))
+
+met-few : (es : List EdgeData) (met : List ℕ) → length (foldl (λ met (e : EdgeData). meet (meet met (e .start)) (e .end)) met es) ≤ length met + 2 * length es
+met-few [] met = omega arith
+met-few (e ∷ es) met =
+    omega (arith, met-few es (meet (meet met (e .start)) (e .end)), meet-few (meet met (e .start)) (e .end), meet-few met (e .start))
+
+vertex-low : (met : List ℕ) (v : ℕ) → length met < 4294967296 → Low (vertexOf met v)
+vertex-low met v h = ⊎-elim (λ t. rw t (omega arith)) (λ t. rw t (omega (arith, position-most (eqb v) met))) (both-ways (eqb v unset))
+
+module _ (fs : List Face) (actives : List ℕ) (ls : List FaceLoop) (ks : List KeptVertexLoop) where
+  faces-are : (k : ℕ) (members : List ℕ) (f : BodyFace) → f ∈ bodyFaces fs actives ls ks k members → (n : ℕ) × (m : ℕ) × (f ≡ bodyFace fs actives ls ks n m)
+  unfolding bodyFaces
+  faces-are k [] f i = absurd (List·Memᴰ·not-nil i)
+  faces-are k (m ∷ members) f i =
+      let later = faces-are (suc k) members f in
+      ⊎-elim (λ e. (k, m, e)) later (List·Memᴰ·cases-cons i)
+
+  face-surface : ((g : Face) → g ∈ fs → Low (g .surface)) → (n m : ℕ) → Low (bodyFace fs actives ls ks n m .surface)
+  unfolding bodyFace
+  face-surface all n m = at-has (λ (g : Face). Low (g .surface)) fs m _ (omega arith) all
+
+  face-items : length actives < 4294967296 → (n m : ℕ) → (xs : List Item) → xs ∈ bodyFace fs actives ls ks n m .loops → (x : Item) → x ∈ xs → Low (x .edge)
+  unfolding bodyFace
+  face-items h n m xs i x k =
+      let a = map-in (λ (l : FaceLoop). map (renumbered actives) (l .items)) (keep (λ (l : FaceLoop). eqb (l .face) n) ls) xs i in
+      let b = map-in (renumbered actives) (a .0 .items) x (subst (λ l. x ∈ l) (a .2) k) in
+      let y : Item = b .0 in
+      subst (λ (z : Item). Low (z .edge)) (sym (b .2)) (omega (arith, position-most (eqb (y .edge)) actives))
+
+  face-points : ((k : KeptVertexLoop) → k ∈ ks → Low (k .point)) → (n m : ℕ) → Below 4294967296 (bodyFace fs actives ls ks n m .points)
+  unfolding bodyFace
+  face-points all n m x i =
+      let a = map-in (λ (k : KeptVertexLoop). k .point) (keep (λ (k : KeptVertexLoop). eqb (k .face) n) ks) x i in
+      subst Low (sym (a .2)) (all (a .0) (keep-in (λ (k : KeptVertexLoop). eqb (k .face) n) ks (a .0) (a .1) .0))
+
+-- a body of narrow parts
+solid-low : (totals : Totals) (fs : List Face) (starts : List ℕ) (es : List EdgeData) (ls : List FaceLoop) (members : List ℕ) (ks : List KeptVertexLoop) (lumps : List (List (List ℕ)))
+    → Small totals → ((g : Face) → g ∈ fs → Low (g .surface)) → Below 4294967296 starts → CurvesLow es → length es < 1000000 → ((k : KeptVertexLoop) → k ∈ ks → Low (k .point))
+    → ((lump : List (List ℕ)) → lump ∈ lumps → (shell : List ℕ) → shell ∈ lump → Below 4294967296 shell)
+    → LowBody (solidBody totals fs starts es ls members ks lumps)
+unfolding solidBody
+solid-low totals fs starts es ls members ks lumps S surfaces points curves few kept shell =
+    let met : List ℕ = metFans (stillActive es) in
+    let live : length (stillActive es) ≤ length es = keep-length (λ (e : EdgeData). e .active) es in
+    let most : length met < 4294967296 = omega (arith, met-few (stillActive es) []) in
+    let actives : List ℕ = activeEdges es in
+    let count : length actives < 4294967296 = omega (arith, positions-length (λ (e : EdgeData). e .active) 0 es) in
+    record {
+      totals = S;
+      vertices = λ x m. let a = map-in (fanPoint starts) met x m in subst Low (sym (a .2)) (below-at 4294967296 starts (a .0) (omega arith) points);
+      edges = λ e m.
+          let a = map-in (withVertices met) (stillActive es) e m in
+          let d : EdgeData = a .0 in
+          subst (λ (x : Edge). Low (x .curve) × Low (x .start) × Low (x .end)) (sym (a .2))
+          (curves d (keep-in (λ (e : EdgeData). e .active) es d (a .1) .0), vertex-low met (d .start) most, vertex-low met (d .end) most);
+      surfaces = λ f m. let a = faces-are fs actives ls ks 0 members f m in subst (λ (x : BodyFace). Low (x .surface)) (sym (a .2)) (face-surface fs actives ls ks surfaces (a .0) (a .1));
+      items = λ f m.
+          let a = faces-are fs actives ls ks 0 members f m in
+          subst (λ (y : BodyFace). (xs : List Item) → xs ∈ y .loops → (x : Item) → x ∈ xs → Low (x .edge)) (sym (a .2)) (face-items fs actives ls ks count (a .0) (a .1));
+      points = λ f m. let a = faces-are fs actives ls ks 0 members f m in subst (λ (x : BodyFace). Below 4294967296 (x .points)) (sym (a .2)) (face-points fs actives ls ks kept (a .0) (a .1));
+      lumps = shell;
+    }
+
+-- THE RECORDS
+
+-- kind and fields of a record fit their bytes
+abbrev pub Narrow : Record → Type 0
+Narrow r = (r .kind < 65536) × Below 4294967296 (r .fields)
+
+one-low : (a : ℕ) (l : List ℕ) → Low a → Below 4294967296 l → Below 4294967296 (a ∷ l)
+one-low a l h b x m = ⊎-elim (λ e. subst Low (sym e) h) (b x) (List·Memᴰ·cases-cons m)
+
+none-low : Below 4294967296 []
+none-low x m = absurd (List·Memᴰ·not-nil m)
+
+sense-low : (s : Sense) → Low (senseNumber s)
+sense-low Same = omega arith
+sense-low Reversed = omega arith
+
+kind-low : (t : Bool) → Low (bodyKind t)
+kind-low true = omega arith
+kind-low false = omega arith
+
+face-narrow : (f : BodyFace) → Low (f .surface) → ((xs : List Item) → xs ∈ f .loops → (x : Item) → x ∈ xs → Low (x .edge)) → Below 4294967296 (f .points)
+    → (r : Record) → r ∈ faceRecords f → Narrow r
+unfolding faceRecords
+face-narrow f surface items points r m =
+    ⊎-elim
+    (λ e. subst Narrow (sym e) (omega arith, one-low (f .surface) (senseNumber (f .sense) ∷ []) surface (one-low (senseNumber (f .sense)) [] (sense-low (f .sense)) none-low)))
+    (λ i. ⊎-elim
+    (λ k.
+    let a = map-in loopRecord (f .loops) r k in
+    subst Narrow (sym (a .2)) (
+      omega arith,
+      λ v q.
+          let b = flatMap-in itemFields (a .0) v q in
+          one-low (b .0 .edge) (senseNumber (b .0 .sense) ∷ []) (items (a .0) (a .1) (b .0) (b .1)) (one-low (senseNumber (b .0 .sense)) [] (sense-low (b .0 .sense)) none-low) v (b .2),
+    ))
+    (λ k.
+    let a = map-in vertexLoopRecord (f .points) r k in
+    subst Narrow (sym (a .2)) (omega arith, one-low (a .0) [] (points (a .0) (a .1)) none-low))
+    (List·Memᴰ·append-cases (map loopRecord (f .loops)) i))
+    (List·Memᴰ·cases-cons m)
+
+lump-narrow : (lump : List (List ℕ)) → ((shell : List ℕ) → shell ∈ lump → Below 4294967296 shell) → (r : Record) → r ∈ lumpRecords lump → Narrow r
+unfolding lumpRecords
+lump-narrow lump all r m =
+    ⊎-elim
+    (λ e. subst Narrow (sym e) (omega arith, none-low))
+    (λ i. let a = map-in (λ fs. record { kind = 28; fields = fs }) lump r i in subst Narrow (sym (a .2)) (omega arith, all (a .0) (a .1)))
+    (List·Memᴰ·cases-cons m)
+
+pub records-narrow : (b : Body) → LowBody b → (r : Record) → r ∈ bodyRecords b → Narrow r
+unfolding bodyRecords
+records-narrow b L r m =
+    let S = L .totals in
+    let T : Totals = b .totals in
+    ⊎-elim
+    (λ e. subst Narrow (sym e) (
+      omega arith,
+      one-low (bodyKind (T .solid)) _ (kind-low (T .solid))
+          (one-low (T .uses) _ (omega (arith, S .uses))
+          (one-low (T .removed) _ (omega (arith, S .removed))
+          (one-low (T .passed) _ (omega (arith, S .passed))
+          (one-low (T .joins) _ (omega (arith, S .joins))
+          (one-low (T .rings) [] (omega (arith, S .rings)) none-low))))),
+    ))
+    (λ i. ⊎-elim
+    (λ k. let a = map-in vertexRecord (b .vertices) r k in subst Narrow (sym (a .2)) (omega arith, one-low (a .0) [] (L .vertices (a .0) (a .1)) none-low))
+    (λ j. ⊎-elim
+    (λ k.
+    let a = map-in edgeRecord (b .edges) r k in
+    let e : Edge = a .0 in
+    let h = L .edges e (a .1) in
+    subst Narrow (sym (a .2)) (omega arith, one-low (e .curve) _ (h .0) (one-low (senseNumber (e .sense)) _ (sense-low (e .sense)) (one-low (e .start) _ (h .1) (one-low (e .end) [] (h .2) none-low)))))
+    (λ k. ⊎-elim
+    (λ q. let a = flatMap-in faceRecords (b .faces) r q in face-narrow (a .0) (L .surfaces (a .0) (a .1)) (L .items (a .0) (a .1)) (L .points (a .0) (a .1)) r (a .2))
+    (λ q. let a = flatMap-in lumpRecords (b .lumps) r q in lump-narrow (a .0) (L .lumps (a .0) (a .1)) r (a .2))
+    (List·Memᴰ·append-cases (flatMap faceRecords (b .faces)) k))
+    (List·Memᴰ·append-cases (map edgeRecord (b .edges)) j))
+    (List·Memᴰ·append-cases (map vertexRecord (b .vertices)) i))
+    (List·Memᴰ·cases-cons m)
+
+-- THE WHOLE
+
+-- a solid job's stages up to nesting
+pub solid-steps : (t : Table) (j : Job) (b : Body) → solid (withTable t) j ≡ ok b
+    → (x : Joined) × (ss : List Shell) × (ns : List Nested) × (throughJoining (withTable t) j ≡ ok x) × (shellsOf j (x .fan .walk) ≡ ok ss) × (nested (j .answers) ss ≡ ok ns) × (b ≡ bodyOf j x ns)
+unfolding solid
+solid-steps t j b e =
+    let a = bind-ok (throughJoining (withTable t) j) _ b e in
+    let x : Joined = a .0 in
+    let c = bind-ok (shellsOf j (x .fan .walk)) _ b (a .2) in
+    let d = bind-ok (nested (j .answers) (c .0)) _ b (c .2) in
+    let f = bind-ok (lumpsClear j (x .fan) (d .0)) _ b (d .2) in
+    (x, c .0, d .0, a .1, c .1, d .1, sym (ok-one (f .2)))
+
+-- joining is reached from the walks
+pub joined-walks : (t : Table) (j : Job) (x : Joined) → throughJoining (withTable t) j ≡ ok x → (w : Walked) × (walked (withTable t) j ≡ ok w)
+unfolding throughJoining edged fanned
+joined-walks t j x e =
+    let a = bind-ok (edged (withTable t) j) _ x e in
+    let b = bind-ok (fanned (withTable t) j) _ (a .0) (a .1) in
+    let c = bind-ok (walked (withTable t) j) _ (b .0) (b .1) in
+    (c .0, c .1)
+
+pub faces-few : (job : List ℕ) (j : Job) → loaded job ≡ ok j → length (j .faces) ≤ 256
+faces-few job j l =
+    let r = bind-ok (loading job) _ j l in
+    let c = loading-counted job (r .0) (r .1) in
+    let e : r .0 .job ≡ j = ok-one (r .2) in
+    subst (λ (x : Job). length (x .faces) ≤ 256) e (omega (arith, c .0 .faces, c .1 .faces))
+
+module _ (t : Table) (job : List ℕ) (bytes : Below 256 job) (j : Job) (l : loaded job ≡ ok j) (w : Walked) (q : walked (withTable t) j ≡ ok w) where
+  S : Settled t j w
+  S = walked-settled t j w q
+
+  G : Ground j w
+  G = ground t job j w l S
+
+  L : LowJob j
+  L = loaded-low job j bytes l
+
+  -- joining starts with few edges, of low curves
+  pub start-few : length (unjoined j (fansOf j w) .edges) ≤ 2048
+  unfolding unjoined fansOf
+  start-few =
+      omega (
+        arith,
+        length-map (lowerUses (w .twins) (w .merge .removed)) (edgeData (j .edges) (w .uses) (w .twins) (mergedFaces (w .merge)) (w .successors) (fansOf j w .fans)),
+        keep-length (lowerKept (w .twins) (w .merge .removed)) (below (length (w .twins))),
+        length-below (length (w .twins)),
+        G .twins .size,
+        G .few,
+      )
+
+  pub start-curves : CurvesLow (unjoined j (fansOf j w) .edges)
+  unfolding unjoined fansOf edgeData
+  start-curves e m =
+      let a = map-in (edgeData (j .edges) (w .uses) (w .twins) (mergedFaces (w .merge)) (w .successors) (fansOf j w .fans)) (lowerUses (w .twins) (w .merge .removed)) e m in
+      subst (λ (d : EdgeData). Low (d .curve)) (sym (a .2)) (at-has (λ (d : Edge). Low (d .curve)) (j .edges) (useAt (w .uses) (a .0) .edge) noEdge (omega arith) (L .curves))
+
+  pub names-few : length (fansOf j w .names) ≤ 2048
+  unfolding fansOf
+  names-few =
+      omega (arith, keep-length (namesFan (j .edges) (w .uses) (w .merge .removed) (fansOf j w .fans)) (below (length (w .uses))), length-below (length (w .uses)), G .few)
+
+  pub starts-low : Below 4294967296 (fansOf j w .starts)
+  unfolding fansOf startPoints
+  starts-low x m =
+      let a = map-in (λ u. getD (j .points) _ 0) (w .uses) x m in
+      subst Low (sym (a .2)) (below-at 4294967296 (j .points) _ (omega arith) (L .points))
+
+  pub body-low : (x : Joined) (ss : List Shell) (ns : List Nested) → throughJoining (withTable t) j ≡ ok x → shellsOf j (x .fan .walk) ≡ ok ss → nested (j .answers) ss ≡ ok ns → LowBody (bodyOf j x ns)
+  unfolding bodyOf fansOf
+  body-low x ss ns e f g =
+      let r = through-joined t j w x q e in
+      let s : Joining = r .0 in
+      let grown = joining-grown (j .answers) (fansOf j w .starts) (fansOf j w .names) (length (fansOf j w .names)) (unjoined j (fansOf j w)) s (r .2) in
+      let shells-are : shellsOf j w ≡ ok ss = ap (λ (y : Joined). shellsOf j (y .fan .walk)) (sym (r .1)) ∙ f in
+      let groups : length (w .merge .groups) ≤ 256 =
+      omega (arith, merge-groups-length t (j .answers) (j .faces) (usesOf j) (w .twins) (w .merge) (S .surfaces), faces-few job j l) in
+      let each = nested-few (j .answers) (j .proven) (w .merge .boundaries) (w .merge .groups) ss ns shells-are g in
+      subst (λ (y : Joined). LowBody (bodyOf j y ns)) (sym (r .1))
+      (solid-low (totalsOf w s) (j .faces) (fansOf j w .starts) (s .edges) (s .loops) (lowestMembers (w .merge .groups)) (w .vertexLoops) (lumps ns)
+      (totals-small t job j w l S s (r .2))
+      (L .surfaces)
+      starts-low
+      (grown .curves start-curves)
+      (omega (arith, grown .count, start-few, names-few))
+      (kept-points (j .answers) (j .points) (mergedFaces (w .merge)) (j .loops) (w .vertexLoops) (L .points) (S .vertices))
+      (λ lump m shell k v i. let a = lumps-few (length (w .merge .groups)) ns each lump m shell k v i in omega arith))
+
+-- each number of a body that rebuilding gives for a job of bytes has four bytes
+pub rebuilt-low : (t : Table) (job : List ℕ) (j : Job) (b : Body) → Below 256 job → loaded job ≡ ok j → rebuild (withTable t) j ≡ ok b → LowBody b
+unfolding rebuild
+rebuilt-low t job j b bytes l e =
+    ⊎-elim
+    (λ r. subst LowBody (ok-one (r .1)) (record {
+      totals = record { uses = omega arith; removed = omega arith; passed = omega arith; joins = omega arith; rings = omega arith };
+      vertices = none-low;
+      edges = λ e m. absurd (List·Memᴰ·not-nil m);
+      surfaces = λ f m. absurd (List·Memᴰ·not-nil m);
+      items = λ f m. absurd (List·Memᴰ·not-nil m);
+      points = λ f m. absurd (List·Memᴰ·not-nil m);
+      lumps = λ k m. absurd (List·Memᴰ·not-nil m);
+    }))
+    (λ r.
+    let p = solid-steps t j b (r .1) in
+    let w = joined-walks t j (p .0) (p .3) in
+    subst LowBody (sym (p .6)) (body-low t job bytes j l (w .0) (w .1) (p .0) (p .1) (p .2) (p .3) (p .4) (p .5)))
+    (cond-ok (eqb (length (j .faces)) 0) (ok emptyBody) (solid (withTable t) j) b e)
+
+-- its records have kinds of two bytes and fields of four
+pub rebuilt-narrow : (t : Table) (job : List ℕ) (j : Job) (b : Body) → Below 256 job → loaded job ≡ ok j → rebuild (withTable t) j ≡ ok b → (r : Record) → r ∈ bodyRecords b → Narrow r
+rebuilt-narrow t job j b bytes l e = records-narrow b (rebuilt-low t job j b bytes l e)
