@@ -242,7 +242,7 @@ fn points_in_large(
     requires { ⌜ length (now names) ≤ 2048 ⌝ }
     ensures { λ r. ⌜ clearOf r ≡ pointsClear number (usesIn (now (uses .entry))) (now (starts .entry)) (now (labels .entry)) (now (names .entry)) ⌝ }
 {
-    let mut heads = [0u32; 1024];
+    let mut heads = [0u32; 512];
     let mut nexts = [0u32; 2048];
     points_chained(number, uses, starts, labels, names, &mut heads, &mut nexts)
 }

@@ -1,6 +1,6 @@
 -- What is to do after each stage, where the stage with a number was asked for: its fields if it is this one, else what
--- follows. Numbers: 1 read, 2 pair, 3 merge, 4 vertex-loops, 5 walk, 6 loops, 7 fans, 8 edges, 9 joining, 10 shells,
--- 11 lumps, 12 the body. Each is one of the stages of `rules` (StageLaws).
+-- follows. Numbers: 2 pair, 3 merge, 4 vertex-loops, 5 walk, 6 loops, 7 fans, 8 edges, 9 joining, 10 shells, 11 lumps,
+-- 12 the body. Each is one of the stages of `rules` (StageLaws). The stage `read`, 1, hands nothing on.
 use Prim.Native.Nat.{ℕ}
 use mathlib.Core.List.{List, flatMap}
 use mathlib.Core.Bool.{cond}
@@ -24,7 +24,7 @@ use Rattle.rules.specs.Join.{maximalEdges}
 use Rattle.rules.specs.Shells.{Shell, Nested, nested, lumps}
 use Rattle.rules.specs.Body.{emptyBody, bodyRecords}
 use Rattle.rules.specs.Sew.{Walked, walksOf, Fanned, fansOf, Joined, unjoined, shellsOf, lumpsClear, bodyOf, fitting}
-use Rattle.rules.specs.Stage.{useFields, groupFields, keptFields, keptUses, walkFields, loopFields, fanFields, joiningFields, shellFields, lumpFields, stageBytes}
+use Rattle.rules.specs.Stage.{groupFields, keptFields, keptUses, walkFields, loopFields, fanFields, joiningFields, shellFields, lumpFields, stageBytes}
 
 -- FROM THE WALKS TO THE BODY
 
@@ -85,9 +85,7 @@ afterPairing stage j us room ts =
     cond (eqb stage 2) (stageBytes room ts) later
 
 unfoldable pub afterReading : ℕ → Job → ℕ → List Use → Outcome (List ℕ)
-afterReading stage j room us =
-    let later = pair (j .answers) us (length (j .edges)) >>= afterPairing stage j us room in
-    cond (eqb stage 1) (stageBytes room (flatMap useFields us)) later
+afterReading stage j room us = pair (j .answers) us (length (j .edges)) >>= afterPairing stage j us room
 
 -- the stage with a number, from a job's bytes on
 unfoldable pub staged : ℕ → List ℕ → ℕ → Outcome (List ℕ)

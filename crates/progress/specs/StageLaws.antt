@@ -23,16 +23,16 @@ use Rattle.rules.specs.Walk.{loopsOf}
 use Rattle.rules.specs.Shells.{Nested, nested, lumps}
 use Rattle.rules.specs.Body.{Body, emptyBody, bodyRecords}
 use Rattle.rules.specs.Sew.{Walked, walksOf, walked, Fanned, fansOf, fanned, Joined, unjoined, edged, throughJoining, shellsOf, lumpsClear, bodyOf, solid, rebuild, fitting, sewn}
-use Rattle.rules.specs.Stage.{readStage, pairStage, mergeStage, vertexLoopStage, walkStage, loopStage, fanStage, edgeStage, joiningStage, shellStage, lumpStage, groupFields, keptFields, keptUses, walkFields, loopFields, fanFields, joiningFields, shellFields, lumpFields, stageBytes}
+use Rattle.rules.specs.Stage.{pairStage, mergeStage, vertexLoopStage, walkStage, loopStage, fanStage, edgeStage, joiningStage, shellStage, lumpStage, groupFields, keptFields, keptUses, walkFields, loopFields, fanFields, joiningFields, shellFields, lumpFields, stageBytes}
 use Rattle.progress.specs.Chain.{afterLumps, afterNesting, afterShells, afterJoining, afterEdges, afterFans, afterLoops, afterWalks, afterKeeping, afterMerging, afterPairing, afterReading, staged, sewnBy}
 
 -- THE STAGES UP TO A POINT, AND WHAT IS TO DO AFTER THEM
 
 module _ (j : Job) (stage room : ℕ) where
-  through-walks : eqb stage 1 ≡ false → eqb stage 2 ≡ false → eqb stage 3 ≡ false → afterReading stage j room (usesOf j) ≡ (walked ordinary j >>= afterKeeping stage j room)
+  through-walks : eqb stage 2 ≡ false → eqb stage 3 ≡ false → afterReading stage j room (usesOf j) ≡ (walked ordinary j >>= afterKeeping stage j room)
   unfolding walked afterReading afterPairing afterMerging
-  through-walks a b d =
-      rw a (bind-then (pair (j .answers) (usesOf j) (length (j .edges)))
+  through-walks b d =
+      bind-then (pair (j .answers) (usesOf j) (length (j .edges)))
       (λ ts. mergeFaces fullTable (j .answers) (j .faces) (usesOf j) ts >>= λ m. vertexLoops (j .answers) (j .points) (mergedFaces m) (j .loops) >>= λ ks. ok (walksOf (usesOf j) ts m ks))
       (afterKeeping stage j room)
       (afterPairing stage j (usesOf j) room)
@@ -44,7 +44,7 @@ module _ (j : Job) (stage room : ℕ) where
       (λ ks. ok (walksOf (usesOf j) ts m ks))
       (afterKeeping stage j room)
       (λ ks. afterKeeping stage j room (walksOf (usesOf j) ts m ks))
-      (λ ks. refl))))))
+      (λ ks. refl)))))
 
   through-fans : eqb stage 4 ≡ false → eqb stage 5 ≡ false → eqb stage 6 ≡ false → (walked ordinary j >>= afterKeeping stage j room) ≡ (fanned ordinary j >>= afterFans stage j room)
   unfolding fanned afterKeeping afterWalks afterLoops
@@ -90,10 +90,6 @@ module _ (j : Job) (stage room : ℕ) where
 abbrev byJob : ℕ → ℕ → Job → Outcome (List ℕ)
 byJob stage room j = afterReading stage j room (usesOf j)
 
-pub stage-read : (job : List ℕ) (room : ℕ) → staged 1 job room ≡ readStage job room
-unfolding staged readStage afterReading
-stage-read job room = refl
-
 pub stage-pair : (job : List ℕ) (room : ℕ) → staged 2 job room ≡ pairStage job room
 unfolding staged pairStage afterReading afterPairing
 stage-pair job room =
@@ -113,24 +109,24 @@ stage-merge job room =
 
 module _ (job : List ℕ) (room : ℕ) where
   -- a stage after the walks
-  from-walks : (stage : ℕ) (fields : Walked → Outcome (List ℕ)) → eqb stage 1 ≡ false → eqb stage 2 ≡ false → eqb stage 3 ≡ false → ((j : Job) (w : Walked) → afterKeeping stage j room w ≡ fields w)
+  from-walks : (stage : ℕ) (fields : Walked → Outcome (List ℕ)) → eqb stage 2 ≡ false → eqb stage 3 ≡ false → ((j : Job) (w : Walked) → afterKeeping stage j room w ≡ fields w)
       → staged stage job room ≡ (loaded job >>= λ j. walked ordinary j >>= fields)
   unfolding staged
-  from-walks stage fields a b d e =
+  from-walks stage fields b d e =
       bind-same (loaded job) (byJob stage room) (λ j. walked ordinary j >>= fields)
-      (λ j. through-walks j stage room a b d ∙ bind-same (walked ordinary j) (afterKeeping stage j room) fields (e j))
+      (λ j. through-walks j stage room b d ∙ bind-same (walked ordinary j) (afterKeeping stage j room) fields (e j))
 
   pub stage-vertex-loops : staged 4 job room ≡ vertexLoopStage ordinary job room
   unfolding vertexLoopStage afterKeeping
-  stage-vertex-loops = from-walks 4 (λ w. stageBytes room (flatMap keptFields (w .vertexLoops))) refl refl refl (λ j w. refl)
+  stage-vertex-loops = from-walks 4 (λ w. stageBytes room (flatMap keptFields (w .vertexLoops))) refl refl (λ j w. refl)
 
   pub stage-walk : staged 5 job room ≡ walkStage ordinary job room
   unfolding walkStage afterKeeping afterWalks
-  stage-walk = from-walks 5 (λ w. stageBytes room (flatMap (walkFields w) (keptUses (w .merge .removed)))) refl refl refl (λ j w. refl)
+  stage-walk = from-walks 5 (λ w. stageBytes room (flatMap (walkFields w) (keptUses (w .merge .removed)))) refl refl (λ j w. refl)
 
   pub stage-loops : staged 6 job room ≡ loopStage ordinary job room
   unfolding loopStage afterKeeping afterWalks
-  stage-loops = from-walks 6 (λ w. stageBytes room (flatMap (loopFields w) (loopsOf (w .circuits)))) refl refl refl (λ j w. refl)
+  stage-loops = from-walks 6 (λ w. stageBytes room (flatMap (loopFields w) (loopsOf (w .circuits)))) refl refl (λ j w. refl)
 
   -- the fields of the fans of a job
   abbrev fansOut : Job → Fanned → Outcome (List ℕ)
@@ -140,27 +136,27 @@ module _ (job : List ℕ) (room : ℕ) where
   unfolding staged fanStage afterFans
   stage-fans =
       bind-same (loaded job) (byJob 7 room) (λ j. fanned ordinary j >>= fansOut j)
-      (λ j. through-walks j 7 room refl refl refl ∙ through-fans j 7 room refl refl refl ∙ bind-same (fanned ordinary j) (afterFans 7 j room) (fansOut j) (λ f. refl))
+      (λ j. through-walks j 7 room refl refl ∙ through-fans j 7 room refl refl refl ∙ bind-same (fanned ordinary j) (afterFans 7 j room) (fansOut j) (λ f. refl))
 
   pub stage-edges : staged 8 job room ≡ edgeStage ordinary job room
   unfolding staged edgeStage afterEdges
   stage-edges =
       bind-same (loaded job) (byJob 8 room) (λ j. edged ordinary j >>= λ x. stageBytes room (joiningFields (x .joining)))
-      (λ j. through-walks j 8 room refl refl refl ∙ through-fans j 8 room refl refl refl ∙ through-edges j 8 room refl
+      (λ j. through-walks j 8 room refl refl ∙ through-fans j 8 room refl refl refl ∙ through-edges j 8 room refl
       ∙ bind-same (edged ordinary j) (afterEdges 8 j room) (λ x. stageBytes room (joiningFields (x .joining))) (λ x. refl))
 
   -- a stage after joining
-  from-joining : (stage : ℕ) (fields : Job → Joined → Outcome (List ℕ)) → eqb stage 1 ≡ false → eqb stage 2 ≡ false → eqb stage 3 ≡ false → eqb stage 4 ≡ false → eqb stage 5 ≡ false → eqb stage 6 ≡ false
+  from-joining : (stage : ℕ) (fields : Job → Joined → Outcome (List ℕ)) → eqb stage 2 ≡ false → eqb stage 3 ≡ false → eqb stage 4 ≡ false → eqb stage 5 ≡ false → eqb stage 6 ≡ false
       → eqb stage 7 ≡ false → eqb stage 8 ≡ false → ((j : Job) (x : Joined) → afterJoining stage j room x ≡ fields j x) → (j : Job) → byJob stage room j ≡ (throughJoining ordinary j >>= fields j)
-  from-joining stage fields a b d e f g h i same j =
-      through-walks j stage room a b d ∙ through-fans j stage room e f g ∙ through-edges j stage room h ∙ through-join j stage room i
+  from-joining stage fields b d e f g h i same j =
+      through-walks j stage room b d ∙ through-fans j stage room e f g ∙ through-edges j stage room h ∙ through-join j stage room i
       ∙ bind-same (throughJoining ordinary j) (afterJoining stage j room) (fields j) (same j)
 
   pub stage-joining : staged 9 job room ≡ joiningStage ordinary job room
   unfolding staged joiningStage afterJoining
   stage-joining =
       bind-same (loaded job) (byJob 9 room) (λ j. throughJoining ordinary j >>= λ x. stageBytes room (joiningFields (x .joining)))
-      (from-joining 9 (λ j x. stageBytes room (joiningFields (x .joining))) refl refl refl refl refl refl refl refl (λ j x. refl))
+      (from-joining 9 (λ j x. stageBytes room (joiningFields (x .joining))) refl refl refl refl refl refl refl (λ j x. refl))
 
   abbrev shellsOut : Job → Joined → Outcome (List ℕ)
   shellsOut j x = shellsOf j (x .fan .walk) >>= λ ss. stageBytes room (flatMap shellFields ss)
@@ -169,7 +165,7 @@ module _ (job : List ℕ) (room : ℕ) where
   unfolding staged shellStage afterJoining afterShells
   stage-shells =
       bind-same (loaded job) (byJob 10 room) (λ j. throughJoining ordinary j >>= shellsOut j)
-      (from-joining 10 shellsOut refl refl refl refl refl refl refl refl
+      (from-joining 10 shellsOut refl refl refl refl refl refl refl
       (λ j x. bind-same (shellsOf j (x .fan .walk)) (afterShells 10 j x room) (λ ss. stageBytes room (flatMap shellFields ss)) (λ ss. refl)))
 
   abbrev nestedOut : Job → Joined → (List Nested → Outcome (List ℕ)) → Outcome (List ℕ)
@@ -179,7 +175,7 @@ module _ (job : List ℕ) (room : ℕ) where
   unfolding staged lumpStage afterJoining afterShells afterNesting
   stage-lumps =
       bind-same (loaded job) (byJob 11 room) (λ j. throughJoining ordinary j >>= λ x. nestedOut j x (λ ns. stageBytes room (lumpFields 0 (lumps ns))))
-      (from-joining 11 (λ j x. nestedOut j x (λ ns. stageBytes room (lumpFields 0 (lumps ns)))) refl refl refl refl refl refl refl refl
+      (from-joining 11 (λ j x. nestedOut j x (λ ns. stageBytes room (lumpFields 0 (lumps ns)))) refl refl refl refl refl refl refl
       (λ j x. bind-same (shellsOf j (x .fan .walk)) (afterShells 11 j x room) (λ ss. nested (j .answers) ss >>= λ ns. stageBytes room (lumpFields 0 (lumps ns)))
       (λ ss. bind-same (nested (j .answers) ss) (afterNesting 11 j x room) (λ ns. stageBytes room (lumpFields 0 (lumps ns))) (λ ns. refl))))
 
@@ -188,7 +184,7 @@ module _ (job : List ℕ) (room : ℕ) where
   solid-fits : (j : Job) → byJob 12 room j ≡ (solid ordinary j >>= λ b. fitting room (framedAll (bodyRecords b)))
   unfolding solid afterJoining afterShells afterNesting afterLumps
   solid-fits j =
-      from-joining 12 (λ j x. nestedOut j x (λ ns. lumpsClear j (x .fan) ns >>= λ _. fitting room (framedAll (bodyRecords (bodyOf j x ns))))) refl refl refl refl refl refl refl refl (λ j x. refl) j
+      from-joining 12 (λ j x. nestedOut j x (λ ns. lumpsClear j (x .fan) ns >>= λ _. fitting room (framedAll (bodyRecords (bodyOf j x ns))))) refl refl refl refl refl refl refl (λ j x. refl) j
       ∙ bind-then (throughJoining ordinary j)
       (λ x. shellsOf j (x .fan .walk) >>= λ ss. nested (j .answers) ss >>= λ ns. lumpsClear j (x .fan) ns >>= λ _. ok (bodyOf j x ns))
       whole

@@ -1,8 +1,6 @@
 // What the stages hand on to each other, and the numbers by which a stage is asked for.
 
-// The stages in their order; the last gives the body.
-pub const READ: usize = 1;
-
+// The stages in their order, from the one after `read` on; the last gives the body.
 pub const PAIR: usize = 2;
 
 pub const MERGE: usize = 3;

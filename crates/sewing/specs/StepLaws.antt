@@ -30,7 +30,7 @@ use Rattle.rules.specs.Walk.{successors, passedCounts, circuits, loopsOf}
 use Rattle.rules.specs.Frame.{framedAll}
 use Rattle.rules.specs.Body.{emptyBody, bodyRecords}
 use Rattle.rules.specs.Sew.{Walked, walksOf, fitting, Ends}
-use Rattle.rules.specs.Stage.{useFields, stageBytes}
+use Rattle.rules.specs.Stage.{useFields, stageBytes, readStage}
 use Rattle.theorems.specs.Ground.{ground}
 use Rattle.theorems.specs.Circuits.{Permuted}
 use Rattle.theorems.specs.Successors.{length-successors}
@@ -105,6 +105,18 @@ pub load-on : (bytes ix : List ℕ) (c : Counts) (stage room : ℕ) → Opened b
 unfolding staged
 load-on bytes ix c stage room O = sym (bind-on (λ j. afterReading stage j room (usesOf j)) (opened-loaded bytes ix c O))
 
+-- the stage `read`
+pub read-refused : (bytes ix : List ℕ) (r : Loaded) (room n p : ℕ) → LoadedAs bytes ix r → r ≡ Stopped n p → readStage bytes room ≡ refuse n p
+unfolding readStage
+read-refused bytes ix r room n p L e =
+    let stop : loading bytes ≡ refuse n p = subst (LoadedAs bytes ix) e L in
+    bind-stop (λ j. stageBytes room (flatMap useFields (usesOf j))) (bind-stop (λ s. ok (s .job)) stop)
+
+pub read-written : (bytes ix : List ℕ) (c : Counts) (us : List Use) (room : ℕ) → ReadIn bytes ix c us → readStage bytes room ≡ stageBytes room (flatMap useFields us)
+unfolding readStage
+read-written bytes ix c us room R =
+    bind-on (λ j. stageBytes room (flatMap useFields (usesOf j))) (opened-loaded bytes ix c (R .opened)) ∙ ap (λ l. stageBytes room (flatMap useFields l)) (sym (R .uses))
+
 -- sewing a loaded job
 abbrev sewnFrom : ℕ → Job → Outcome (List ℕ)
 sewnFrom room j = cond (eqb (length (j .faces)) 0) (fitting room (framedAll (bodyRecords emptyBody))) (afterReading 12 j room (usesOf j))
@@ -161,20 +173,12 @@ pair-ready bytes ix c us firsts nexts kept size C h = (
   opened-limited bytes ix c (C .read .opened) .edges,
 )
 
-pub reading-asked : (stage : ℕ) (j : Job) (room : ℕ) (us : List Use) → stage ≡ 1 → afterReading stage j room us ≡ stageBytes room (flatMap useFields us)
-unfolding afterReading
-reading-asked stage j room us e = rw (eq-eqb stage 1 e)
-
-reading-on : (stage : ℕ) (j : Job) (room : ℕ) (us : List Use) → (stage ≡ 1 → ⊥) → afterReading stage j room us ≡ (pair (j .answers) us (length (j .edges)) >>= afterPairing stage j us room)
-unfolding afterReading
-reading-on stage j room us n = rw (ne-eqb stage 1 n)
-
 -- pairing over the job's lists
-module _ (bytes ix : List ℕ) (c : Counts) (us : List Use) (R : ReadIn bytes ix c us) (stage room : ℕ) (other : stage ≡ 1 → ⊥) where
+module _ (bytes ix : List ℕ) (c : Counts) (us : List Use) (R : ReadIn bytes ix c us) (stage room : ℕ) where
   pairing-follows : afterReading stage (jobIn bytes ix c) room us ≡ (pair (answersIn bytes ix c) us (c .edges) >>= afterPairing stage (jobIn bytes ix c) us room)
-  unfolding jobIn
+  unfolding jobIn afterReading
   pairing-follows =
-      reading-on stage (jobIn bytes ix c) room us other ∙ ap (λ k. pair (answersIn bytes ix c) us k >>= afterPairing stage (jobIn bytes ix c) us room) (sym (opened-edges bytes ix c (R .opened)))
+      ap (λ k. pair (answersIn bytes ix c) us k >>= afterPairing stage (jobIn bytes ix c) us room) (sym (opened-edges bytes ix c (R .opened)))
 
   module _ (refusal place : ℕ) (twins : List ℕ) (e : twinsOf (length us) refusal place twins ≡ pair (answersIn bytes ix c) us (c .edges)) where
     pub pairs-refused : (refusal ≡ 0 → ⊥) → afterReading stage (jobIn bytes ix c) room us ≡ refuse refusal place

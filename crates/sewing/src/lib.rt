@@ -21,7 +21,6 @@ use progress::LOOPS;
 use progress::LUMPS;
 use progress::MERGE;
 use progress::PAIR;
-use progress::READ;
 use progress::SHELLS;
 use progress::VERTEX_LOOPS;
 use progress::WALK;
@@ -369,7 +368,7 @@ fn pair_in_small_table(
     kept: &mut [u32],
     out: &mut [u8],
 ) -> Ending
-    requires { ⌜ Chained (now job) (now index) c (usesIn (now uses)) (now firsts) (now nexts) (now kept) × (c .uses ≤ 64) × (stage ≡ 1 → ⊥) ⌝ }
+    requires { ⌜ Chained (now job) (now index) c (usesIn (now uses)) (now firsts) (now nexts) (now kept) × (c .uses ≤ 64) ⌝ }
     ensures { λ r. ⌜ Ends (afterReading stage (jobIn (now (job .entry)) (now (index .entry)) c) (length (now (out .entry))) (usesIn (now (uses .entry)))) (now (out .entry)) (now (out .exit)) r ⌝ }
 {
     let p = pair_small(job, index, c, uses, firsts, nexts);
@@ -392,7 +391,7 @@ fn pair_in_large_table(
     kept: &mut [u32],
     out: &mut [u8],
 ) -> Ending
-    requires { ⌜ Chained (now job) (now index) c (usesIn (now uses)) (now firsts) (now nexts) (now kept) × (c .uses ≤ 2048) × (stage ≡ 1 → ⊥) ⌝ }
+    requires { ⌜ Chained (now job) (now index) c (usesIn (now uses)) (now firsts) (now nexts) (now kept) × (c .uses ≤ 2048) ⌝ }
     ensures { λ r. ⌜ Ends (afterReading stage (jobIn (now (job .entry)) (now (index .entry)) c) (length (now (out .entry))) (usesIn (now (uses .entry)))) (now (out .entry)) (now (out .exit)) r ⌝ }
 {
     let p = pair(job, index, c, uses, firsts, nexts);
@@ -418,9 +417,6 @@ fn on_read(
     requires { ⌜ Read (now job) (now index) c (usesIn (now uses)) × Blank c (now firsts) (now nexts) (now kept) ⌝ }
     ensures { λ r. ⌜ Ends (afterReading stage (jobIn (now (job .entry)) (now (index .entry)) c) (length (now (out .entry))) (usesIn (now (uses .entry)))) (now (out .entry)) (now (out .exit)) r ⌝ }
 {
-    if stage == READ {
-        return write_read(uses, out);
-    }
     link(uses, firsts, nexts);
     if c.uses <= 64 {
         return pair_in_small_table(stage, job, index, c, uses, firsts, nexts, kept, out);
@@ -526,11 +522,27 @@ fn run(stage: usize, job: &[u8], out: &mut [u8]) -> Ending
     }
 }
 
-// The stage `read`.
+// The uses of a loaded job, read and written.
+fn write_loaded(job: &[u8], index: &[u32], c: Counts, out: &mut [u8]) -> Ending
+    requires { ⌜ Opened (now job) (now index) c ⌝ }
+    ensures { λ r. ⌜ Ends (readStage (now (job .entry)) (length (now (out .entry)))) (now (out .entry)) (now (out .exit)) r ⌝ }
+{
+    let mut uses = [0u32; 8192];
+    read(job, index, c, &mut uses[..4 * c.uses]);
+    write_read(&uses[..4 * c.uses], out)
+}
+
+// The stage `read`. It hands nothing on, and goes a way of its own, so that the records that it makes of the uses take no
+// stack of sewing.
 pub fn read_stage(job: &[u8], out: &mut [u8]) -> Ending
     ensures { λ r. ⌜ Ends (readStage (now (job .entry)) (length (now (out .entry)))) (now (out .entry)) (now (out .exit)) r ⌝ }
 {
-    run(READ, job, out)
+    let mut index = [0u32; 7424];
+    let r = load(job, &mut index);
+    match r {
+        Loaded::Refused(n, p) => Ending::Refused(n, p),
+        Loaded::Done(c) => write_loaded(job, &index, c, out),
+    }
 }
 
 // The stage `pair`.

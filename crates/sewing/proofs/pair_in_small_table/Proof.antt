@@ -20,7 +20,7 @@ pair-small-requires c κs = let a = c .before .before .before .before .before .b
 -- src/lib.rt:361:1
 returns : tie.Need-returns
 returns c = let a = c .before .before .before .before .before .before .before .before .before .before .args in
-    ends-refused _ (a .out .now) _ _ (pairs-refused (a .job .now) (a .index .now) (a .c) (usesIn (a .uses .now)) (c .before .before .before .before .before .before .before .before .before .before .pre .0 .read) (a .stage) (length (a .out .now)) (c .before .before .before .before .before .before .before .before .before .before .pre .2) (c .before .before .pair-small .result .refusal) (c .before .before .pair-small .result .place) (c .before .before .pair-small .result .twins) (c .before .before .pair-small .ensures .0) (c .if1 .taken))
+    ends-refused _ (a .out .now) _ _ (pairs-refused (a .job .now) (a .index .now) (a .c) (usesIn (a .uses .now)) (c .before .before .before .before .before .before .before .before .before .before .pre .0 .read) (a .stage) (length (a .out .now)) (c .before .before .pair-small .result .refusal) (c .before .before .pair-small .result .place) (c .before .before .pair-small .result .twins) (c .before .before .pair-small .ensures .0) (c .if1 .taken))
 
 -- src/lib.rt:361:1
 array-share-prefix-twins : tie.Need-array-share-prefix-twins
@@ -33,7 +33,7 @@ slice-aggregate-on-paired c = sym (length-take-le (c .before .before .before .be
 -- src/lib.rt:361:1
 on-paired-requires : tie.Need-on-paired-requires
 on-paired-requires c κs = let a = c .before .before .before .before .before .before .before .before .before .before .before .before .before .before .args in
-    (pairs-made (a .job .now) (a .index .now) (a .c) (usesIn (a .uses .now)) (c .before .before .before .before .before .before .before .before .before .before .before .before .before .before .pre .0 .read) (a .stage) (length (a .out .now)) (c .before .before .before .before .before .before .before .before .before .before .before .before .before .before .pre .2) (c .before .before .before .before .before .before .pair-small .result .refusal) (c .before .before .before .before .before .before .pair-small .result .place) (c .before .before .before .before .before .before .pair-small .result .twins) (c .before .before .before .before .before .before .pair-small .ensures .0) (c .before .before .before .before .if1 .left), c .before .before .before .before .before .before .before .before .before .before .before .before .before .before .pre .0 .kept-size)
+    (pairs-made (a .job .now) (a .index .now) (a .c) (usesIn (a .uses .now)) (c .before .before .before .before .before .before .before .before .before .before .before .before .before .before .pre .0 .read) (a .stage) (length (a .out .now)) (c .before .before .before .before .before .before .pair-small .result .refusal) (c .before .before .before .before .before .before .pair-small .result .place) (c .before .before .before .before .before .before .pair-small .result .twins) (c .before .before .before .before .before .before .pair-small .ensures .0) (c .before .before .before .before .if1 .left), c .before .before .before .before .before .before .before .before .before .before .before .before .before .before .pre .0 .kept-size)
 
 -- src/lib.rt:361:1
 same-length : tie.Need-same-length
@@ -46,7 +46,7 @@ same-length-2 c = search needs
 -- src/lib.rt:361:1
 returns-2 : tie.Need-returns-2
 returns-2 c = let a = c .before .before .before .before .before .before .before .before .before .before .before .before .before .before .before .before .before .before .before .args in
-    ends-as _ _ (a .out .now) (c .before .before .before .before .on-paired .last .1 .1 .1 .1 .1 .1 .1 .0) (c .before .before .before .before .on-paired .result) (sym (pairs-on (a .job .now) (a .index .now) (a .c) (usesIn (a .uses .now)) (c .before .before .before .before .before .before .before .before .before .before .before .before .before .before .before .before .before .before .before .pre .0 .read) (a .stage) (length (a .out .now)) (c .before .before .before .before .before .before .before .before .before .before .before .before .before .before .before .before .before .before .before .pre .2) (take (a .c .uses) (c .before .before .before .before .before .before .before .before .before .before .before .pair-small .result .twins)) (pairs-made (a .job .now) (a .index .now) (a .c) (usesIn (a .uses .now)) (c .before .before .before .before .before .before .before .before .before .before .before .before .before .before .before .before .before .before .before .pre .0 .read) (a .stage) (length (a .out .now)) (c .before .before .before .before .before .before .before .before .before .before .before .before .before .before .before .before .before .before .before .pre .2) (c .before .before .before .before .before .before .before .before .before .before .before .pair-small .result .refusal) (c .before .before .before .before .before .before .before .before .before .before .before .pair-small .result .place) (c .before .before .before .before .before .before .before .before .before .before .before .pair-small .result .twins) (c .before .before .before .before .before .before .before .before .before .before .before .pair-small .ensures .0) (c .before .before .before .before .before .before .before .before .before .if1 .left)))) (c .before .before .before .before .on-paired .ensures)
+    ends-as _ _ (a .out .now) (c .before .before .before .before .on-paired .last .1 .1 .1 .1 .1 .1 .1 .0) (c .before .before .before .before .on-paired .result) (sym (pairs-on (a .job .now) (a .index .now) (a .c) (usesIn (a .uses .now)) (c .before .before .before .before .before .before .before .before .before .before .before .before .before .before .before .before .before .before .before .pre .0 .read) (a .stage) (length (a .out .now)) (take (a .c .uses) (c .before .before .before .before .before .before .before .before .before .before .before .pair-small .result .twins)) (pairs-made (a .job .now) (a .index .now) (a .c) (usesIn (a .uses .now)) (c .before .before .before .before .before .before .before .before .before .before .before .before .before .before .before .before .before .before .before .pre .0 .read) (a .stage) (length (a .out .now)) (c .before .before .before .before .before .before .before .before .before .before .before .pair-small .result .refusal) (c .before .before .before .before .before .before .before .before .before .before .before .pair-small .result .place) (c .before .before .before .before .before .before .before .before .before .before .before .pair-small .result .twins) (c .before .before .before .before .before .before .before .before .before .before .before .pair-small .ensures .0) (c .before .before .before .before .before .before .before .before .before .if1 .left)))) (c .before .before .before .before .on-paired .ensures)
 
 pub pair-in-small-table-spec : {M : Type 1} → statement M
 pair-in-small-table-spec =
