@@ -7,6 +7,7 @@ pub mod Job
 pub mod FieldLaws
 pub mod FrameLaws
 pub mod Questions
+pub mod QuestionLaws
 pub mod Kinds
 pub mod Load
 pub mod Read
