@@ -23,7 +23,7 @@ use Rattle.rules.specs.VertexLoops.{vertexLoops}
 use Rattle.rules.specs.Walk.{turn, meets, passing, successor, Circuit, closes, circuitUses, loopsOf}
 use Rattle.rules.specs.Fans.{fanPoint}
 use Rattle.rules.specs.Edges.{FaceLoop}
-use Rattle.rules.specs.Join.{Joining, endsAt, cornersLessEdges, itemEnd, placeIn, Tried, unchanged, changed, atCorner, sweep}
+use Rattle.rules.specs.Join.{Joining, endsAt, cornersLessEdges, itemEnd, isPlace, placeIn, Tried, unchanged, changed, atCorner, sweep}
 use Rattle.rules.specs.Body.{bodyKind}
 use Rattle.rules.specs.Sew.{Walked, walksOf, Fanned, fansOf, unjoined, throughJoining, sewn}
 use Rattle.rules.specs.Stage.{keptUses}
@@ -146,9 +146,13 @@ joinsOf cs = length (keep (λ c. not (isRing c)) cs)
 
 -- LOOP PLACES
 
--- the loop places at corner v of all loops: an item ending there, with its next item
+-- Joining, the term "loop place" at corner v: an item ending there, with its next item
+abbrev pub isLoopPlace : List EdgeData → ℕ → Neighbours Item → Bool
+isLoopPlace es v p = eqb (itemEnd es (p .here)) v
+
+-- the loop places at corner v of all loops
 abbrev pub placesAt : List EdgeData → ℕ → List FaceLoop → List (Neighbours Item)
-placesAt es v ls = flatMap (λ l. keep (λ p. eqb (itemEnd es (p .here)) v) (neighbours (l .items))) ls
+placesAt es v ls = flatMap (λ l. keep (isLoopPlace es v) (neighbours (l .items))) ls
 
 -- the loops in which the join of edges a and b at corner v finds a place
 abbrev pub foundIn : List EdgeData → ℕ → ℕ → ℕ → List FaceLoop → List FaceLoop
@@ -163,6 +167,9 @@ pub record TwoPlaces (c : Change) : Type 0 where
   pub places : length (placesAt (c .before .edges) (c .corner) (c .before .loops)) ≡ 2
   pub found : length (foundIn (c .before .edges) (c .corner) (getD (endsOf c) 0 0) (getD (endsOf c) 1 0) (c .before .loops)) ≡ 2
   pub replaced : length (itemsWith (length (c .before .edges)) (c .after .loops)) ≡ 2
+  -- of any item of a loop and its next, the test that finds the places of the join says just whether they are a loop place
+  pub agrees : (l : FaceLoop) → l ∈ c .before .loops → (p : Neighbours Item) → p ∈ neighbours (l .items)
+      → isPlace (c .before .edges) (c .corner) (getD (endsOf c) 0 0) (getD (endsOf c) 1 0) p ≡ isLoopPlace (c .before .edges) (c .corner) p
 
 -- each join finds exactly two loop places
 abbrev pub EachJoin : List Change → Type 0

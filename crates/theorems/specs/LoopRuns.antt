@@ -18,16 +18,16 @@ use Rattle.rules.specs.declared.EdgeData.{EdgeData}
 use Rattle.rules.specs.Sense.{reverse}
 use Rattle.rules.specs.Job.{Answer}
 use Rattle.rules.specs.Edges.{FaceLoop}
-use Rattle.rules.specs.Join.{Joining, edgeDataAt, itemEnd, placeIn, replacedIn, replacedAll, joinedEdge, joinEdges, joinAt, ringAt}
+use Rattle.rules.specs.Join.{Joining, edgeDataAt, isPlace, placeIn, replacedIn, replacedAll, joinedEdge, joinEdges, joinAt, ringAt}
 use Rattle.rules.specs.Sew.{Fanned}
-use Rattle.theorems.specs.Demand3.{Change, Run, isRing, foundIn, itemsWith, TwoPlaces, EachJoin}
+use Rattle.theorems.specs.Demand3.{Change, Run, endsOf, isRing, isLoopPlace, foundIn, itemsWith, TwoPlaces, EachJoin}
 use Rattle.theorems.specs.Linked.{isItem, itemTimes, LoopsSound}
 use Rattle.theorems.specs.Ends.{oneAt, ends-active, TwoEdges, two-edges, one-edge}
 use Rattle.theorems.specs.Changes.{AsRing, AsJoin, ring-is}
 use Rattle.theorems.specs.ChangeRuns.{Steps, run-steps}
-use Rattle.theorems.specs.Trails.{both-items, edgeTimes, edge-times, Closed, loop-sound}
+use Rattle.theorems.specs.Trails.{both-items, edgeTimes, edge-times, Closed, LoopSound, loop-sound}
 use Rattle.theorems.specs.RingLoops.{ring-keeps}
-use Rattle.theorems.specs.Places.{inItem, outItem, timesOf, places-count}
+use Rattle.theorems.specs.Places.{inItem, outItem, timesOf, place-agrees, places-count}
 use Rattle.theorems.specs.EdgesAfter.{new-edge, actives-after}
 use Rattle.theorems.specs.JoinLoops.{joinedItems, newItem, LoopJoined, loop-joined, lost, gained}
 
@@ -162,14 +162,14 @@ two-in-all es v a b k ls s f each =
 pub join-places : (c : Change) → AsJoin (c .before) (c .corner) (c .after) → SoundLoops (c .before) → TwoPlaces c
 join-places c r sound =
     record {
-      places = flatMap-length (λ (l : FaceLoop). keep (λ p. eqb (itemEnd es (p .here)) v) (neighbours (l .items))) ls
-          ∙ two-in-all es v a b k ls sound (λ l. length (keep (λ p. eqb (itemEnd es (p .here)) v) (neighbours (l .items))))
-          (λ l m. places-count es v a b k (l .items) (loop-sound es (itemsOf ls) sound (l .items) (in-map (λ x. x .items) m)));
-      found = ap₂ (λ x y. length (foundIn es v x y ls)) (ap (λ l. getD l 0 0) (r .ends)) (ap (λ l. getD l 1 0) (r .ends))
+      places = flatMap-length (λ (l : FaceLoop). keep (isLoopPlace es v) (neighbours (l .items))) ls
+          ∙ two-in-all es v a b k ls sound (λ l. length (keep (isLoopPlace es v) (neighbours (l .items)))) (λ l m. places-count es v a b k (l .items) (one l m));
+      found = by-ends (λ x y. length (foundIn es v x y ls))
           ∙ keep-sum (λ (l : FaceLoop). not (eqb (placeIn es v a b (l .items)) (length (l .items)))) ls
           ∙ two-in-all es v a b k ls sound (λ l. cond (not (eqb (placeIn es v a b (l .items)) (length (l .items)))) 1 0)
           (λ l m. each es v a b k (itemsOf ls) sound (l .items) (in-map (λ x. x .items) m) .places);
       replaced = replaced;
+      agrees = λ l m p i. by-ends (λ x y. isPlace es v x y p) ∙ place-agrees es v a b k (l .items) (one l m) p i;
     }
   where
     es : List EdgeData
@@ -189,6 +189,14 @@ join-places c r sound =
 
     k : TwoEdges es v a b
     k = two-edges es v a b (r .ends) (r .lower)
+
+    -- what is said of the ends at the corner is said of the two edges
+    by-ends : {A : Type 0} (f : ℕ → ℕ → A) → f (getD (endsOf c) 0 0) (getD (endsOf c) 1 0) ≡ f a b
+    by-ends f = ap₂ f (ap (λ l. getD l 0 0) (r .ends)) (ap (λ l. getD l 1 0) (r .ends))
+
+    -- each loop is sound
+    one : (l : FaceLoop) → l ∈ ls → LoopSound es (l .items)
+    one l m = loop-sound es (itemsOf ls) sound (l .items) (in-map (λ x. x .items) m)
 
     replaced : length (itemsWith (length (c .before .edges)) (c .after .loops)) ≡ 2
     replaced =

@@ -11,7 +11,7 @@ use lib.Dec.{eqb}
 use borrow.Author.Tests.{eqb-true, eq-eqb, ne-eqb}
 use Rattle.lists.specs.Lists.{_∈_, keep, Neighbours, neighbours}
 use Rattle.lists.specs.Tests.{both-ways, or-cases, or-first, or-second, and-both, both-and, equal-or-not}
-use Rattle.lists.specs.Members.{position-le, position-hit}
+use Rattle.lists.specs.Members.{keep-same, position-le, position-hit}
 use Rattle.lists.specs.Sums.{sum-same, sum-both, keep-sum}
 use Rattle.lists.specs.Cyclic.{length-neighbours}
 use Rattle.lists.specs.KeepCounts.{keep-cons, keep-counts, counted-one, position-fails}
@@ -196,32 +196,53 @@ module _ (es : List EdgeData) (v a b : ℕ) (k : TwoEdges es v a b) where
   next-here : (l : List Item) → LoopSound es l → (q : Neighbours Item) → q ∈ neighbours l → itemEnd es (q .here) ≡ v → (q .next ≡ outItem es v a) ⊎ (q .next ≡ outItem es v b)
   next-here l s q m e = starts-here (q .next) (s .actives (q .next) (neighbour-next l q m)) (closed-next es l (s .closed) q m ∙ e)
 
+  -- an item that ends at the corner is with its next item a place of the join
+  ends-place : (l : List Item) → LoopSound es l → (q : Neighbours Item) → q ∈ neighbours l → itemEnd es (q .here) ≡ v → isPlace es v a b q ≡ true
+  ends-place l s q m e =
+      let both : (c : ℕ) → q .here ≡ inItem es v c → q .next ≡ outItem es v c → ⊥ =
+      (λ c p n. not-both l s c (Memᴰ·cast (sym p) (neighbour-here l q m)) (Memᴰ·cast (sym n) (neighbour-next l q m))) in
+      ⊎-elim
+      (λ p. ⊎-elim (λ n. absurd (both a p n)) (λ n. pair-first q p n) (next-here l s q m e))
+      (λ p. ⊎-elim (λ n. pair-second q p n) (λ n. absurd (both b p n)) (next-here l s q m e))
+      (ends-here (q .here) (s .actives (q .here) (neighbour-here l q m)) e)
+
+  place-ends : (q : Neighbours Item) → isPlace es v a b q ≡ true → itemEnd es (q .here) ≡ v
+  place-ends q t =
+      ⊎-elim (λ w. ap (itemEnd es) (w .0) ∙ in-ends es v a (k .first-once)) (λ w. ap (itemEnd es) (w .0) ∙ in-ends es v b (k .second-once)) (place-pair q t)
+
+  -- the test that finds a place of the join holds of exactly the items that end at the corner
+  pub place-agrees : (l : List Item) → LoopSound es l → (q : Neighbours Item) → q ∈ neighbours l → isPlace es v a b q ≡ eqb (itemEnd es (q .here)) v
+  place-agrees l s q m =
+      ⊎-elim
+      (λ w. ends-place l s q m (w .0) ∙ sym (w .1))
+      (λ w. ⊎-elim (λ t. absurd (w .0 (place-ends q t))) (λ t. t ∙ sym (w .1)) (both-ways (isPlace es v a b q)))
+      (equal-or-not (itemEnd es (q .here)) v)
+
+  -- so the places it finds in a loop are the items that end at the corner, each with its next
+  pub places-agree : (l : List Item) → LoopSound es l → keep (isPlace es v a b) (neighbours l) ≡ keep (λ q. eqb (itemEnd es (q .here)) v) (neighbours l)
+  places-agree l s = keep-same (isPlace es v a b) (λ q. eqb (itemEnd es (q .here)) v) (neighbours l) (place-agrees l s)
+
   missed : (l : List Item) → LoopSound es l → placeIn es v a b l ≡ length l → Missed es v a b l
   missed l s e =
       record {
         outside = e;
-        no-first = absent (inItem es v a) (λ q m p.
-            ⊎-elim (λ n. not-both l s a (Memᴰ·cast (sym p) (neighbour-here l q m)) (Memᴰ·cast (sym n) (neighbour-next l q m)))
-            (λ n. true≢false (sym (pair-first q p n) ∙ fails q m))
-            (next-here l s q m (ap (itemEnd es) p ∙ in-ends es v a (k .first-once))));
-        no-second = absent (inItem es v b) (λ q m p.
-            ⊎-elim (λ n. true≢false (sym (pair-second q p n) ∙ fails q m))
-            (λ n. not-both l s b (Memᴰ·cast (sym p) (neighbour-here l q m)) (Memᴰ·cast (sym n) (neighbour-next l q m)))
-            (next-here l s q m (ap (itemEnd es) p ∙ in-ends es v b (k .second-once))));
+        no-first = absent (inItem es v a) (in-ends es v a (k .first-once));
+        no-second = absent (inItem es v b) (in-ends es v b (k .second-once));
       }
     where
       fails : (q : Neighbours Item) → q ∈ neighbours l → isPlace es v a b q ≡ false
       fails = position-fails (isPlace es v a b) (neighbours l) (e ∙ sym (length-neighbours l))
 
-      absent : (x : Item) → ((q : Neighbours Item) → q ∈ neighbours l → q .here ≡ x → ⊥) → timesOf x l ≡ 0
-      absent x never = go (timesOf x l) refl
+      absent : (x : Item) → itemEnd es x ≡ v → timesOf x l ≡ 0
+      absent x end = go (timesOf x l) refl
         where
           go : (n : ℕ) → timesOf x l ≡ n → timesOf x l ≡ 0
           go zero h = h
           go (suc n) h =
               let r = counted-one (isItem (x .edge) (x .sense)) l (omega arith) in
               let w = in-neighbours l (r .0) (r .1) in
-              absurd (never (w .0) (w .1) (sym (w .2) ∙ item-is (x .edge) (x .sense) (r .0) (r .2)))
+              let here : w .0 .here ≡ x = sym (w .2) ∙ item-is (x .edge) (x .sense) (r .0) (r .2) in
+              absurd (true≢false (sym (ends-place l s (w .0) (w .1) (ap (itemEnd es) here ∙ end)) ∙ fails (w .0) (w .1)))
 
   -- a loop has the place where the first edge leads, or the one where the second does, or none
   pub place-cases : (l : List Item) → LoopSound es l
