@@ -26,11 +26,12 @@ use Rattle.theorems.specs.Demand3.{holdsKept, reached, passedSum, WalksH
 use Rattle.theorems.specs.Loading.{no-face-no-use}
 use Rattle.theorems.specs.ChangeRuns.{runs-to-end, run-few, run-counts}
 use Rattle.theorems.specs.Balance.{run-balance}
+use Rattle.theorems.specs.RingCounts.{run-rings}
 use Rattle.theorems.specs.LoopRuns.{run-places}
 use Rattle.theorems.specs.Ground.{Ground, ground, settled-walked, settled-uses}
 use Rattle.theorems.specs.Fanning.{FansHold, fans-hold}
 use Rattle.theorems.specs.Edging.{EdgesHold, edges-hold}
-use Rattle.theorems.specs.Starting.{starts-sound}
+use Rattle.theorems.specs.Starting.{starts-at-fans, starts-sound}
 use Rattle.theorems.specs.Reporting.{Small, Begins, read-back, sewn-body, rebuild-cases, first-record, body-totals, through-joined, none-joined, passed-total}
 
 -- the sum of the passed counts is at most the number of uses
@@ -112,6 +113,7 @@ module _ (t : Table) (job : List ℕ) (j : Job) (w : Walked) (l : loaded job ≡
         joined = e;
         run = R .run;
         balance = run-balance (j .answers) fan start ending (R .changes) (fan-facts .0) names-below (R .run);
+        rings = run-rings (j .answers) fan start ending (R .changes) names-below (starts-at-fans j w G F E) (R .run);
         places = run-places (j .answers) fan start ending (R .changes) (starts-sound j w G F E) (R .run) .0;
         reports = reports;
       }

@@ -16,7 +16,6 @@ use Rattle.lists.specs.KeepCounts.{keep-fall}
 use Rattle.rules.specs.declared.EdgeData.{EdgeData}
 use Rattle.rules.specs.Job.{unset}
 use Rattle.rules.specs.Join.{Joining, noEdgeData, edgeDataAt, endsAt, isCorner, corners, activeEdges, twoEnds, farEnd, joinedEdge, retired, ringOf, joinEdges, joinAt, ringAt}
-use Rattle.theorems.specs.Linked.{EndsAreFans}
 use Rattle.theorems.specs.Ends.{activeOne, oneAt, one-at-same, one-at-other, endsOne, active-ends, idle-ends, ends-active, one-end, two-ends, ends-sum, TwoEdges, OneEdge, two-edges, one-edge}
 use Rattle.theorems.specs.Changes.{AsRing, AsJoin, Made}
 
@@ -52,23 +51,35 @@ ring-ends e x h = go (e .active) refl
 
 -- ALL EDGES
 
--- a join takes two ends away at its corner, and moves none
-join-ends : (es : List EdgeData) (v a b : ℕ) → TwoEdges es v a b → (x : ℕ) → sumOf (endsOne x) (joinEdges v a b es) + (oneAt v x + oneAt v x) ≡ sumOf (endsOne x) es
+-- a sum over the edges after a join: two are retired, and the new one comes
+pub join-sum : (f : EdgeData → ℕ) (es : List EdgeData) (v a b : ℕ) → TwoEdges es v a b
+    → sumOf f (joinEdges v a b es) + (f (edgeDataAt es a) + f (edgeDataAt es b))
+    ≡ sumOf f es + (f (retired (edgeDataAt es a)) + f (retired (edgeDataAt es b))) + f (joinedEdge v (edgeDataAt es a) (edgeDataAt es b))
 unfolding joinEdges
-join-ends es v a b k x =
+join-sum f es v a b k =
     let p : EdgeData = edgeDataAt es a in
     let q : EdgeData = edgeDataAt es b in
     let once : List EdgeData = set es a (retired p) in
     let ia : a < length es = omega (arith, k .lower, k .inside) in
     let ib : b < length once = rw (length-set es a (retired p)) (k .inside) in
     let same : edgeDataAt once b ≡ q = getD-set-other es a b (retired p) noEdgeData (λ (z : b ≡ a). omega (arith, k .lower)) in
-    let z = ap (endsOne x) same in
+    let z = ap f same in
     omega (
       arith,
-      sum-append (endsOne x) (set once b (retired q)) (joinedEdge v p q ∷ []),
-      sum-one (endsOne x) (joinedEdge v p q),
-      sum-set (endsOne x) es a (retired p) noEdgeData ia,
-      sum-set (endsOne x) once b (retired q) noEdgeData ib,
+      sum-append f (set once b (retired q)) (joinedEdge v p q ∷ []),
+      sum-one f (joinedEdge v p q),
+      sum-set f es a (retired p) noEdgeData ia,
+      sum-set f once b (retired q) noEdgeData ib,
+    )
+
+-- a join takes two ends away at its corner, and moves none
+join-ends : (es : List EdgeData) (v a b : ℕ) → TwoEdges es v a b → (x : ℕ) → sumOf (endsOne x) (joinEdges v a b es) + (oneAt v x + oneAt v x) ≡ sumOf (endsOne x) es
+join-ends es v a b k x =
+    let p : EdgeData = edgeDataAt es a in
+    let q : EdgeData = edgeDataAt es b in
+    omega (
+      arith,
+      join-sum (endsOne x) es v a b k,
       idle-ends (retired p) x refl,
       idle-ends (retired q) x refl,
       far-ends p v x (k .first-once),
@@ -113,10 +124,6 @@ module _ {s t : Joining} {v : ℕ} where
   pub ends-elsewhere : Made s v t → (x : ℕ) → x < unset → (x ≡ v → ⊥) → length (endsAt (t .edges) x) ≡ length (endsAt (s .edges) x)
   ends-elsewhere m x h n = let a = ends-fall m x h in omega (arith, one-at-other v x (λ e. n (sym e)))
 
-  -- the active edge ends stay at fans
-  pub fans-kept : Made s v t → (names : List ℕ) → EndsAreFans (s .edges) names → EndsAreFans (t .edges) names
-  fans-kept m names f x h k = f x h (let a = ends-fall m x h in omega arith)
-
   module _ (m : Made s v t) (names : List ℕ) (nodup : Nodup names) (fans : (x : ℕ) → x ∈ names → x < unset) (at : v ∈ names) where
     -- one corner less
     pub corners-fall : length (corners (s .edges) names) ≡ suc (length (corners (t .edges) names))
@@ -143,28 +150,13 @@ module _ {s t : Joining} {v : ℕ} where
 
   -- a join takes two active edges and makes one
   pub join-edges : AsJoin s v t → length (activeEdges (s .edges)) ≡ suc (length (activeEdges (t .edges)))
-  unfolding joinAt joinEdges joinedEdge
+  unfolding joinAt joinedEdge
   join-edges r =
       let es : List EdgeData = s .edges in
       let a : ℕ = r .first in
       let b : ℕ = r .second in
       let k = two-edges es v a b (r .ends) (r .lower) in
-      let p : EdgeData = edgeDataAt es a in
-      let q : EdgeData = edgeDataAt es b in
-      let once : List EdgeData = set es a (retired p) in
-      let ia : a < length es = omega (arith, k .lower, k .inside) in
-      let ib : b < length once = rw (length-set es a (retired p)) (k .inside) in
-      let same : edgeDataAt once b ≡ q = getD-set-other es a b (retired p) noEdgeData (λ (z : b ≡ a). omega (arith, k .lower)) in
-      let z = ap activeOne same in
-      let pa = ap (λ c. cond {A = ℕ} c 1 0) (ends-active p v (omega (arith, k .first-once))) in
-      let qa = ap (λ c. cond {A = ℕ} c 1 0) (ends-active q v (omega (arith, k .second-once))) in
+      let pa = ap (λ c. cond {A = ℕ} c 1 0) (ends-active (edgeDataAt es a) v (omega (arith, k .first-once))) in
+      let qa = ap (λ c. cond {A = ℕ} c 1 0) (ends-active (edgeDataAt es b) v (omega (arith, k .second-once))) in
       let e = ap (λ (j : Joining). sumOf activeOne (j .edges)) (r .after) in
-      omega (
-        arith,
-        active-sum (t .edges),
-        active-sum es,
-        sum-append activeOne (set once b (retired q)) (joinedEdge v p q ∷ []),
-        sum-one activeOne (joinedEdge v p q),
-        sum-set activeOne es a (retired p) noEdgeData ia,
-        sum-set activeOne once b (retired q) noEdgeData ib,
-      )
+      omega (arith, active-sum (t .edges), active-sum es, join-sum activeOne es v a b k)

@@ -12,7 +12,7 @@ use Rattle.rules.specs.declared.Item.{Item}
 use Rattle.rules.specs.declared.EdgeData.{EdgeData}
 use Rattle.rules.specs.Outcome.{Outcome, ok, refuse}
 use Rattle.rules.specs.Fields.{le16, le32}
-use Rattle.rules.specs.Job.{Answer, Job}
+use Rattle.rules.specs.Job.{unset, Answer, Job}
 use Rattle.rules.specs.Load.{loaded}
 use Rattle.rules.specs.Read.{usesOf, faceOfUse, oldSuccessor}
 use Rattle.rules.specs.Groups.{labelOf}
@@ -144,6 +144,14 @@ ringsOf cs = length (keep isRing cs)
 abbrev pub joinsOf : List Change → ℕ
 joinsOf cs = length (keep (λ c. not (isRing c)) cs)
 
+-- an active edge is a ring: 4,294,967,295 in both ends
+abbrev pub isActiveRing : EdgeData → Bool
+isActiveRing e = e .active && (eqb (e .start) unset && eqb (e .end) unset)
+
+-- the active edges that are rings
+abbrev pub activeRings : List EdgeData → List EdgeData
+activeRings es = keep isActiveRing es
+
 -- LOOP PLACES
 
 -- Joining, the term "loop place" at corner v: an item ending there, with its next item
@@ -220,6 +228,8 @@ pub record JoiningHolds (t : Table) (j : Job) (w : Walked) (bytes : List ℕ) : 
   pub balance :
       cornersLessEdges (unjoined j (fansOf j w) .edges) (fansOf j w .names)
       ≡ cornersLessEdges (ending .edges) (fansOf j w .names) +ℤ pos (ringsOf changes)
+  -- where joining ends there are more active rings than where it starts, by the number of edges turned into rings
+  pub rings : length (activeRings (ending .edges)) ≡ length (activeRings (unjoined j (fansOf j w) .edges)) + ringsOf changes
   pub places : EachJoin changes
   pub reports : Reports j w changes bytes
 

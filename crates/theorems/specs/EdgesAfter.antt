@@ -27,10 +27,10 @@ fans-same d e Same p = (p .0, p .1)
 fans-same d e Reversed p = (p .1, p .0)
 
 module _ (es : List EdgeData) (v a b : ℕ) (k : TwoEdges es v a b) where
-  first-in : a < length es
+  pub first-in : a < length es
   first-in = omega (arith, k .lower, k .inside)
 
-  apart-edges : a ≡ b → ⊥
+  pub apart-edges : a ≡ b → ⊥
   apart-edges e = omega (arith, k .lower)
 
   abbrev stored : List EdgeData

@@ -21,6 +21,7 @@ pub mod Trails
 pub mod RingLoops
 pub mod Places
 pub mod EdgesAfter
+pub mod RingCounts
 pub mod JoinLoops
 pub mod LoopRuns
 pub mod Ground

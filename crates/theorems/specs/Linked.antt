@@ -1,6 +1,7 @@
 -- What one stage hands to the theorems of the next: twins, links of the walks, the loops of joining.
 use Prim.Native.Nat.{ℕ, _<_, _≤_}
 use mathlib.Core.Path.{_≡_}
+use mathlib.Core.Logic.{_⊎_}
 use mathlib.Core.List.{List, [], _∷_}
 use mathlib.Core.Bool.{Bool, true, false, _&&_, cond}
 use lib.ListN.{length}
@@ -16,7 +17,7 @@ use Rattle.rules.specs.Read.{useAt, faceOfUse, oldSuccessor}
 use Rattle.rules.specs.Groups.{labelOf}
 use Rattle.rules.specs.Pair.{twinOf}
 use Rattle.rules.specs.Merge.{isRemoved}
-use Rattle.rules.specs.Join.{edgeDataAt, endsAt, itemStart, itemEnd}
+use Rattle.rules.specs.Join.{edgeDataAt, itemStart, itemEnd}
 
 -- pairing that refuses nothing: each use has a twin, another use of its edge in the other sense, whose twin it is
 pub record Twins (us : List Use) (ts : List ℕ) : Type 0 where
@@ -40,9 +41,17 @@ pub record Linked (us : List Use) (ts : List ℕ) (rm : List Bool) (groups : Lis
 
 -- JOINING
 
--- the active edge ends stand at fans of a list
+-- an edge has no ends
+abbrev pub NoEnds : EdgeData → Type 0
+NoEnds e = (e .start ≡ unset) × (e .end ≡ unset)
+
+-- an edge has no ends, or starts and ends at fans of a list
+abbrev pub RingOrFans : List ℕ → EdgeData → Type 0
+RingOrFans names e = NoEnds e ⊎ ((e .start ∈ names) × (e .end ∈ names))
+
+-- each edge is such
 abbrev pub EndsAreFans : List EdgeData → List ℕ → Type 0
-EndsAreFans es names = (v : ℕ) → v < unset → 1 ≤ length (endsAt es v) → v ∈ names
+EndsAreFans es names = (e : ℕ) → RingOrFans names (edgeDataAt es e)
 
 -- the items lead from x to y
 abbrev pub Trail : List EdgeData → ℕ → List Item → ℕ → Type 0

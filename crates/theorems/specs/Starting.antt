@@ -1,16 +1,17 @@
 -- Where joining starts: the edges' ends stand at fans, the loops lead back to their starts, and each edge stands once in either sense, never twice in one loop.
-use Prim.Native.Nat.{ℕ, zero, suc, _<_, _≤_}
+use Prim.Native.Nat.{ℕ, zero, suc, _≤_}
+use native.Mathlib.Decide.{decLt}
 use native.Mathlib.Omega.{arith}
 use mathlib.Core.Path.{_≡_, refl, sym, ap, _∙_, subst}
 use mathlib.Core.Logic.{_⊎_, inl, inr, ⊎-elim}
-use mathlib.Core.Bool.{Bool, true, false, _&&_, cond}
-use mathlib.Core.List.{List, [], _∷_, map, List·Memᴰ·head, List·Memᴰ·tail}
+use mathlib.Core.Bool.{true, false, cond}
+use mathlib.Core.List.{List, [], _∷_, map}
 use lib.ListN.{length, List·getD-eq-default}
 use lib.Dec.{eqb, ltb}
 use borrow.Author.Tests.{eqb-true, eq-eqb, ltb-true, ltb-false}
 use Rattle.lists.specs.Lists.{_∈_, Nodup, times, keep, sumOf, iterate, orbit}
 use Rattle.lists.specs.Tests.{both-ways, and-both, both-and, equal-or-not}
-use Rattle.lists.specs.Membership.{in-or-out, times-out, once-nodup}
+use Rattle.lists.specs.Membership.{in-or-out, getD-in, times-out, once-nodup}
 use Rattle.lists.specs.Members.{map-in, keep-in, keep-nodup, keep-same}
 use Rattle.lists.specs.Sums.{sum-map, sum-same, sum-zero}
 use Rattle.lists.specs.Orbits.{orbit-in}
@@ -26,54 +27,47 @@ use Rattle.rules.specs.Groups.{labelOf}
 use Rattle.rules.specs.Merge.{mergedFaces}
 use Rattle.rules.specs.Walk.{Circuit, circuitUses, loopsOf}
 use Rattle.rules.specs.Edges.{ownStart, ownEnd, FaceLoop, faceLoop, faceLoops}
-use Rattle.rules.specs.Join.{noEdgeData, edgeDataAt, oneIf, endsFrom}
+use Rattle.rules.specs.Join.{noEdgeData, edgeDataAt}
 use Rattle.rules.specs.Sew.{Walked, fansOf, unjoined}
-use Rattle.theorems.specs.Linked.{EndsAreFans, Trail, isItem, itemTimes, LoopsSound}
+use Rattle.theorems.specs.Linked.{RingOrFans, EndsAreFans, Trail, isItem, itemTimes, LoopsSound}
 use Rattle.theorems.specs.Demand3.{KeptUse, Closes}
 use Rattle.rules.specs.SenseLaws.{tested-sense, sense-tested}
 use Rattle.theorems.specs.Ground.{onRing, Ground}
-use Rattle.theorems.specs.Fanning.{twin, succ, kept-ended, succ-kept, fanLabels, fanList, FansHold}
+use Rattle.theorems.specs.Fanning.{twin, succ, kept-ended, ring-twin, succ-kept, twin-kept, fanLabels, fanList, FansHold}
 use Rattle.theorems.specs.Edging.{firstEdges, item, fanAt, EdgesHold}
 
 -- ENDS
 
--- where an active edge ends or starts there is such an edge
-ends-some : (i : ℕ) (es : List EdgeData) (v : ℕ) → 1 ≤ length (endsFrom i es v) → (e : EdgeData) × (e ∈ es) × ((e .start ≡ v) ⊎ (e .end ≡ v))
-unfolding endsFrom
-ends-some i [] v h = absurd (omega arith)
-ends-some i (e ∷ es) v h = go (e .active) (eqb (e .start) v) (eqb (e .end) v) refl refl h (λ q. ends-some (suc i) es v q)
-  where
-    later : (d : EdgeData) × (d ∈ es) × ((d .start ≡ v) ⊎ (d .end ≡ v)) → (d : EdgeData) × (d ∈ (e ∷ es)) × ((d .start ≡ v) ⊎ (d .end ≡ v))
-    later r = (r .0, List·Memᴰ·tail (r .1), r .2)
-
-    go : (a s t : Bool) → eqb (e .start) v ≡ s → eqb (e .end) v ≡ t → 1 ≤ length (oneIf (a && s) i (oneIf (a && t) i (endsFrom (suc i) es v)))
-        → (1 ≤ length (endsFrom (suc i) es v) → (d : EdgeData) × (d ∈ es) × ((d .start ≡ v) ⊎ (d .end ≡ v)))
-        → (d : EdgeData) × (d ∈ (e ∷ es)) × ((d .start ≡ v) ⊎ (d .end ≡ v))
-    go a true t p q k ih = (e, List·Memᴰ·head refl, inl (eqb-true (e .start) v p))
-    go a false true p q k ih = (e, List·Memᴰ·head refl, inr (eqb-true (e .end) v q))
-    go true false false p q k ih = later (ih k)
-    go false false false p q k ih = later (ih k)
-
-own-either : (s : Sense) (x y v : ℕ) → (ownStart s x y ≡ v) ⊎ (ownEnd s x y ≡ v) → (x ≡ v) ⊎ (y ≡ v)
-own-either Same x y v r = r
-own-either Reversed x y v r = ⊎-elim (λ e. inr e) (λ e. inl e) r
+-- what holds of both ends along a use holds of the edge's own start and end
+own-both : (P : ℕ → Type 0) (s : Sense) (x y : ℕ) → P x → P y → P (ownStart s x y) × P (ownEnd s x y)
+own-both P Same x y p q = (p, q)
+own-both P Reversed x y p q = (q, p)
 
 module _ (j : Job) (w : Walked) (G : Ground j w) (F : FansHold j w) (E : EdgesHold j w) where
-  -- a kept use's fan, where it is one, is among the names
-  fan-named : (h v : ℕ) → KeptUse w h → v < unset → fanAt j w h ≡ v → v ∈ fanList j w
-  fan-named h v k lt e =
-      ⊎-elim
-      (λ r. absurd (let z : Path ℕ (fanAt j w h) unset = ap (λ t. cond t unset (labelOf (fanLabels j w) h)) r in omega (arith, z, e, lt)))
-      (λ r. subst (λ x. x ∈ fanList j w) (sym (ap (λ t. cond t unset (labelOf (fanLabels j w) h)) r) ∙ e) (F .named h (kept-ended j w h k r)))
-      (both-ways (onRing j w h))
+  -- a kept use and its twin have no fans, or both have one that is named
+  fans-named : (h : ℕ) → KeptUse w h → ((fanAt j w h ≡ unset) × (fanAt j w (twin w h) ≡ unset)) ⊎ ((fanAt j w h ∈ fanList j w) × (fanAt j w (twin w h) ∈ fanList j w))
+  fans-named h k =
+      let t : onRing j w (twin w h) ≡ onRing j w h = ring-twin j w G h (k .0) in
+      ⊎-elim (λ r. inl (none h r, none (twin w h) (t ∙ r))) (λ r. inr (some h k r, some (twin w h) (twin-kept j w G h k) (t ∙ r))) (both-ways (onRing j w h))
+    where
+      none : (u : ℕ) → onRing j w u ≡ true → fanAt j w u ≡ unset
+      none u r = ap (λ c. cond c unset (labelOf (fanLabels j w) u)) r
 
+      some : (u : ℕ) → KeptUse w u → onRing j w u ≡ false → fanAt j w u ∈ fanList j w
+      some u ku r = subst (λ x. x ∈ fanList j w) (sym (ap (λ c. cond c unset (labelOf (fanLabels j w) u)) r)) (F .named u (kept-ended j w u ku r))
+
+  -- each edge has no ends or two fans
   pub ends-are-fans : EndsAreFans (firstEdges j w) (fanList j w)
-  ends-are-fans v lt d =
-      let r = ends-some 0 (firstEdges j w) v d in
-      let q = E .fans (r .0) (r .1) in
-      let h : ℕ = q .0 in
-      ⊎-elim (fan-named h v (q .1) lt) (fan-named (twin w h) v (G .twins .below h (q .1 .0), G .linked .removedTwin h (q .1 .0) ∙ q .1 .1) lt)
-      (own-either (item w h .sense) (fanAt j w h) (fanAt j w (twin w h)) v (⊎-elim (λ e. inl (sym (q .2) ∙ e)) (λ e. inr (sym (q .3) ∙ e)) (r .2)))
+  ends-are-fans i =
+      elim (decLt i (length (firstEdges j w))) [
+        | yes lt ↦
+            let q = E .fans (edgeDataAt (firstEdges j w) i) (getD-in (firstEdges j w) i noEdgeData lt) in
+            let h : ℕ = q .0 in
+            let own : (P : ℕ → Type 0) → P (fanAt j w h) → P (fanAt j w (twin w h)) → P (edgeDataAt (firstEdges j w) i .start) × P (edgeDataAt (firstEdges j w) i .end) =
+            (λ P a b. let r = own-both P (item w h .sense) (fanAt j w h) (fanAt j w (twin w h)) a b in (subst P (sym (q .2)) (r .0), subst P (sym (q .3)) (r .1))) in
+            ⊎-elim (λ r. inl (own (λ x. x ≡ unset) (r .0) (r .1))) (λ r. inr (own (λ x. x ∈ fanList j w) (r .0) (r .1))) (fans-named h (q .1))
+        | no ge ↦ subst (RingOrFans (fanList j w)) (sym (List·getD-eq-default (firstEdges j w) noEdgeData {n = i} (omega arith))) (inl (refl, refl))
+      ]
 
   -- LOOPS
 
