@@ -58,7 +58,7 @@ use Rattle.fields.proofs.put.Met as put-thm
 use Rattle.groups.specs.declared.Groups.{Groups}
 use Rattle.groups.specs.Parents.{Ordered, Stands, Rooted}
 use Rattle.groups.specs.ParentLaws.{Labelling, labelling-none, labelling-step, labelling-end}
-use Rattle.groups.proofs.Again.{LentAgain, lends-again, comes-back}
+use Rattle.fields.proofs.Again.{LentAgain, lends-again, comes-back}
 use Rattle.groups.proofs.Groups as T
 use Rattle.groups.proofs.Groups.Laws as T′
 use Rattle.groups.proofs.root as root

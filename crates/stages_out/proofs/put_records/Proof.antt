@@ -65,7 +65,7 @@ use Rattle.uses.proofs.use_at.Symbol.{name as #uses·use-at}
 use Rattle.uses.proofs.use_at.Met as use-at-thm
 use Rattle.stages_out.specs.RowLaws.{useRow}
 use Rattle.stages_out.specs.Writing.{Rowed, rowed-start, rowed-step}
-use Rattle.stages_out.proofs.Again.{LentAgain, lends-again, comes-back}
+use Rattle.fields.proofs.Again.{LentAgain, lends-again, comes-back}
 use Rattle.stages_out.proofs.put_use as put
 use Rattle.stages_out.proofs.put_use.Symbol as put-def
 use Rattle.stages_out.proofs.put_use.Symbol.{name as #stages-out·put-use}
