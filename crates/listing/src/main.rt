@@ -1,4 +1,5 @@
-// Reads a job from standard input, sews it, and prints a line for each record of the body, or the refusal.
+// Sews the job of the file that its word names, or of standard input, and prints a line for each record of the body, or
+// the refusal.
 use programs::Input;
 
 // One byte more than a job may have: a longer job is refused by its length.
@@ -8,16 +9,17 @@ const JOB: usize = 65537;
 const PAGE: usize = 196608;
 
 fn main() {
+    let usage: &[u8] =
+        b"listing [FILE]: lists the body of a job; without FILE the job is read from standard input\n";
     let mut job = [0u8; JOB];
-    let input = programs::read_to_end(libc::STDIN_FILENO, &mut job);
+    let input = programs::read_job(b"listing", usage, 1, &mut job);
     let Input::Bytes(n) = input else {
-        os::fail(b"standard input");
         return;
     };
     let mut out = io::large_buffer();
     let mut page = [0u8; PAGE];
     let length = listed::list(lines::front(&job, n), &mut out, &mut page);
     if !io::write_all(libc::STDOUT_FILENO, lines::front(&page, length)) {
-        os::fail(b"standard output");
+        programs::fail(b"listing", b"standard output");
     }
 }

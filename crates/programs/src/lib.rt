@@ -1,4 +1,4 @@
-// What the programs share: reading an input to its end, and an operation by its number.
+// What the programs share: reading an input to its end, an operation by its number, and the words of a command line.
 use rules::Ending;
 ghost use lib.ListN.{length};
 ghost use Rattle.rules.specs.Sew.{Ends};
@@ -45,4 +45,91 @@ pub fn operate(number: usize, job: &[u8], out: &mut [u8]) -> Ending
         11 => sewing::lump_stage(job, out),
         _ => sewing::sew(job, out),
     }
+}
+
+// WORDS OF THE COMMAND LINE
+
+// Says on standard error why a call failed, after the program's name.
+pub fn fail(program: &[u8], what: &[u8]) {
+    io::write_all(libc::STDERR_FILENO, program);
+    io::write_all(libc::STDERR_FILENO, b": ");
+    os::fail(what);
+}
+
+// Says on standard error what words a program takes.
+pub fn explain(usage: &[u8]) {
+    io::write_all(libc::STDERR_FILENO, usage);
+}
+
+// Reads the file that word i names, or standard input if there is no such word. What is wrong is told, with the words
+// that the program takes, and the input has then failed.
+pub fn read_job(program: &[u8], usage: &[u8], i: usize, buffer: &mut [u8]) -> Input {
+    if os::arg_count() <= i {
+        return read_told(program, libc::STDIN_FILENO, b"standard input", buffer);
+    }
+    read_file(program, usage, i, buffer)
+}
+
+// Reads the file that word i names, which must be the last word. What is wrong is told as by `read_job`.
+pub fn read_file(program: &[u8], usage: &[u8], i: usize, buffer: &mut [u8]) -> Input {
+    if !is_last(i) {
+        explain(usage);
+        return Input::Failed;
+    }
+    let mut path = io::buffer();
+    let length = os::arg(i, &mut path);
+    // A word that is longer than any path is not cut, since its front may name another file.
+    if os::errno() != 0 {
+        fail(program, b"FILE");
+        explain(usage);
+        return Input::Failed;
+    }
+    if !is_name(&path[..length]) {
+        explain(usage);
+        return Input::Failed;
+    }
+    read_named(program, usage, &path[..length], buffer)
+}
+
+// Whether word i is there and none comes after it.
+fn is_last(i: usize) -> bool {
+    let count = os::arg_count();
+    if count <= i {
+        return false;
+    }
+    count - i == 1
+}
+
+// Whether a word can name a file: one that begins with `-` would be an option, and there are none.
+fn is_name(word: &[u8]) -> bool {
+    if word.len() == 0 {
+        return false;
+    }
+    word[0] != b'-'
+}
+
+fn read_named(program: &[u8], usage: &[u8], name: &[u8], buffer: &mut [u8]) -> Input {
+    let fd = os::open_read(name);
+    if fd < 0 {
+        fail(program, name);
+        explain(usage);
+        return Input::Failed;
+    }
+    let input = read_told(program, fd, name, buffer);
+    libc::close(fd);
+    let Input::Bytes(n) = input else {
+        explain(usage);
+        return Input::Failed;
+    };
+    Input::Bytes(n)
+}
+
+// Reads an open file to its end, and says why where it cannot.
+fn read_told(program: &[u8], fd: i32, name: &[u8], buffer: &mut [u8]) -> Input {
+    let input = read_to_end(fd, buffer);
+    let Input::Bytes(n) = input else {
+        fail(program, name);
+        return Input::Failed;
+    };
+    Input::Bytes(n)
 }
