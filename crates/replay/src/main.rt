@@ -1,5 +1,6 @@
-// Replays the packed vectors of the file that its argument names: every answer is worked out anew and held against the
-// packed one. Prints a line for each difference, and at the end how many answers there were.
+// Replays the packed vectors of the file that its word names: every answer is worked out anew and held against the
+// packed one. Prints a line for each difference, and at the end how many answers there were, or why the file cannot be
+// used.
 use fields::put_word;
 use fields::word;
 use load::Stretched;
@@ -10,8 +11,8 @@ ghost use Prim.Native.Nat.{_+_, _<_, _≤_, _^_};
 ghost use lib.ListN.{length};
 ghost use Rattle.replay.specs.Counted.{Counted};
 
-// A packed file has fewer bytes.
-const FILE: usize = 2000000;
+// One byte more than a packed file may have: a longer file is told by its length.
+const FILE: usize = 2000001;
 
 // What is lent to a stage, which needs less, and for sewing with no room of its own.
 const OUT: usize = 131072;
@@ -36,12 +37,14 @@ struct Packed {
     next: usize,
 }
 
-// The place that is reached, and how many jobs, answers and differences there were before it.
+// The place that is reached, how many jobs, answers and differences there were before it, and whether each of these jobs
+// has all its answers.
 struct Tally {
     at: usize,
     jobs: usize,
     answers: usize,
     differences: usize,
+    whole: bool,
 }
 
 // A refusal has no output.
@@ -300,6 +303,38 @@ fn report(vector: usize, operation: usize, expected: Answer, answer: Answer) {
     io::write_all(libc::STDOUT_FILENO, b"\n");
 }
 
+// The end of the last line. Where standard output does not take it, that is told.
+fn say_last(text: &[u8]) {
+    if !io::write_all(libc::STDOUT_FILENO, text) {
+        programs::fail(b"replay", b"standard output");
+    }
+}
+
+// Says why the file is not usable; gives false.
+fn unusable(why: &[u8]) -> bool {
+    io::write_all(libc::STDOUT_FILENO, b"not usable: ");
+    io::write_all(libc::STDOUT_FILENO, why);
+    say_last(b"\n");
+    false
+}
+
+// Whether the vectors fill the file and have answers. If not, that is told.
+fn is_usable(bytes: &[u8], t: Tally) -> bool {
+    if !t.whole {
+        return unusable(b"a vector has fewer answers than it says");
+    }
+    if t.jobs < word(bytes, 0) {
+        return unusable(b"the file has fewer vectors than its first field says");
+    }
+    if t.answers == 0 {
+        return unusable(b"the file has no answers");
+    }
+    if t.at != bytes.len() {
+        return unusable(b"the file does not end with its last vector");
+    }
+    true
+}
+
 // The closing line.
 fn close(t: Tally) {
     if t.differences == 0 {
@@ -309,17 +344,16 @@ fn close(t: Tally) {
         say(b" differences in ", t.answers);
     }
     say(b" answers of ", t.jobs);
-    io::write_all(libc::STDOUT_FILENO, b" jobs\n");
+    say_last(b" jobs\n");
 }
 
 // THE VECTORS
 
 // One answer of a job.
-fn run_answer(bytes: &[u8], job: &[u8], vector: usize, t: Tally, out: &mut [u8]) -> Tally
-    requires { ⌜ Counted t × (t .at < 4294967296) × (length (now job) < 4294967296) × (length (now out) < 4294967296) ⌝ }
-    ensures { λ r. ⌜ Counted r ⌝ }
+fn run_answer(bytes: &[u8], job: &[u8], vector: usize, p: Packed, t: Tally, out: &mut [u8]) -> Tally
+    requires { ⌜ Counted t × (t .at < p .next) × (p .next < 4294967296) × (length (now job) < 4294967296) × (length (now out) < 4294967296) ⌝ }
+    ensures { λ r. ⌜ Counted r × (r .at ≡ p .next) ⌝ }
 {
-    let p = packed_at(bytes, t.at);
     let expected = p.answer;
     let answer = found(bytes, job, p, out);
     if is_same(expected, answer) {
@@ -328,6 +362,7 @@ fn run_answer(bytes: &[u8], job: &[u8], vector: usize, t: Tally, out: &mut [u8])
             jobs: t.jobs,
             answers: t.answers + 1,
             differences: t.differences,
+            whole: t.whole,
         };
     }
     report(vector, p.operation, expected, answer);
@@ -336,10 +371,11 @@ fn run_answer(bytes: &[u8], job: &[u8], vector: usize, t: Tally, out: &mut [u8])
         jobs: t.jobs,
         answers: t.answers + 1,
         differences: t.differences + 1,
+        whole: t.whole,
     }
 }
 
-// So many answers of a job, up to the end of the file.
+// So many answers of a job, up to the first that is not in the file.
 fn run_answers(
     bytes: &[u8],
     job: &[u8],
@@ -348,39 +384,55 @@ fn run_answers(
     first: Tally,
     out: &mut [u8],
 ) -> Tally
-    requires { ⌜ Counted first × (length (now bytes) < 4294967296) × (length (now job) < 4294967296) × (length (now out) < 4294967296) ⌝ }
-    ensures { λ r. ⌜ Counted r ⌝ }
+    requires { ⌜ Counted first × (first .at ≤ length (now bytes)) × (length (now bytes) < 4294967296) × (length (now job) < 4294967296) × (length (now out) < 4294967296) ⌝ }
+    ensures { λ r. ⌜ Counted r × (r .at ≤ length (now (bytes .entry))) ⌝ }
 {
     let mut t = first;
     let mut i: usize = 0;
     while i < count {
-        if bytes.len() <= t.at {
-            return t;
+        let p = packed_at(bytes, t.at);
+        if bytes.len() < p.next {
+            return Tally {
+                at: t.at,
+                jobs: t.jobs,
+                answers: t.answers,
+                differences: t.differences,
+                whole: false,
+            };
         }
-        t = run_answer(bytes, job, vector, t, out);
+        t = run_answer(bytes, job, vector, p, t, out);
         i += 1;
     }
     t
 }
 
+// The place after a vector's job and the number of its answers.
+fn answers_at(bytes: &[u8], at: usize) -> usize
+    requires { ⌜ at < 4294967296 ⌝ }
+    ensures { λ r. ⌜ (at + 8 ≤ r) × (r < at + 2 ^ 33) ⌝ }
+{
+    at + 8 + word(bytes, at)
+}
+
 // One vector: a job with its answers.
-fn run_vector(bytes: &[u8], t: Tally, out: &mut [u8]) -> Tally
-    requires { ⌜ Counted t × (t .at < 4294967296) × (length (now bytes) < 4294967296) × (length (now out) < 4294967296) ⌝ }
-    ensures { λ r. ⌜ Counted r ⌝ }
+fn run_vector(bytes: &[u8], t: Tally, start: usize, out: &mut [u8]) -> Tally
+    requires { ⌜ Counted t × (t .at + 8 ≤ start) × (start ≤ length (now bytes)) × (length (now bytes) < 4294967296) × (length (now out) < 4294967296) ⌝ }
+    ensures { λ r. ⌜ Counted r × (r .at ≤ length (now (bytes .entry))) ⌝ }
 {
     let size = word(bytes, t.at);
     let job = part(bytes, t.at + 4, size);
-    let count = word(bytes, t.at + 4 + size);
+    let count = word(bytes, start - 4);
     let first = Tally {
-        at: t.at + 8 + size,
+        at: start,
         jobs: t.jobs + 1,
         answers: t.answers,
         differences: t.differences,
+        whole: t.whole,
     };
     run_answers(bytes, job, t.jobs, count, first, out)
 }
 
-// All vectors, up to the end of the file.
+// All vectors, up to the first that is not in the file.
 fn run_vectors(bytes: &[u8], out: &mut [u8]) -> Tally
     requires { ⌜ (length (now bytes) < 4294967296) × (length (now out) < 4294967296) ⌝ }
 {
@@ -390,56 +442,54 @@ fn run_vectors(bytes: &[u8], out: &mut [u8]) -> Tally
         jobs: 0,
         answers: 0,
         differences: 0,
+        whole: true,
     };
     let mut i: usize = 0;
     while i < count {
-        if bytes.len() <= t.at {
+        let start = answers_at(bytes, t.at);
+        if bytes.len() < start {
             return t;
         }
-        t = run_vector(bytes, t, out);
+        t = run_vector(bytes, t, start, out);
+        if !t.whole {
+            return t;
+        }
         i += 1;
     }
     t
 }
 
 fn blank() -> [u8; FILE]
-    ensures { λ r. ⌜ 2000000 ≡ length r ⌝ }
+    ensures { λ r. ⌜ 2000001 ≡ length r ⌝ }
 {
     [0; FILE]
 }
 
-// Replays the vectors of an open file.
-fn replay(fd: i32, path: &[u8]) {
-    let mut file = blank();
-    let input = programs::read_to_end(fd, &mut file);
-    let Input::Bytes(n) = input else {
-        os::fail(path);
+// Replays the vectors of a file's bytes.
+fn replay(bytes: &[u8])
+    requires { ⌜ length (now bytes) < 4294967296 ⌝ }
+{
+    if bytes.len() == FILE {
+        let _told = unusable(b"the file has more than 2,000,000 bytes");
         return;
-    };
-    let mut out = [0u8; OUT];
-    let bytes = part(&file, 0, n);
-    let t = run_vectors(bytes, &mut out);
-    if t.at != bytes.len() {
-        io::write_all(
-            libc::STDOUT_FILENO,
-            b"the file does not end with its last vector\n",
-        );
     }
-    close(t);
+    let mut out = [0u8; OUT];
+    let t = run_vectors(bytes, &mut out);
+    if is_usable(bytes, t) {
+        close(t);
+    }
 }
 
 fn main() {
-    let mut path = io::buffer();
-    let length = os::arg(1, &mut path);
-    if os::errno() != 0 {
-        os::fail(b"the file of packed vectors");
+    let mut file = blank();
+    let input = programs::read_file(
+        b"replay",
+        b"replay FILE: holds the answers packed in FILE against the answers that its jobs have now\n",
+        1,
+        &mut file,
+    );
+    let Input::Bytes(n) = input else {
         return;
-    }
-    let fd = os::open_read(&path[..length]);
-    if fd < 0 {
-        os::fail(&path[..length]);
-        return;
-    }
-    replay(fd, &path[..length]);
-    libc::close(fd);
+    };
+    replay(part(&file, 0, n));
 }

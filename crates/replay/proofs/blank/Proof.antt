@@ -8,7 +8,7 @@ use Rattle.replay.proofs.blank.Lts as lts
 
 -- src/main.rt:398:1
 returns : tie.Need-returns
-returns c = sym (length-replicate {0} {A = ℕ} 2000000 0)
+returns c = sym (length-replicate {0} {A = ℕ} 2000001 0)
 
 pub blank-spec : {M : Type 1} → statement M
 blank-spec = tie.close (tie.spec returns)
