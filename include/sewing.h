@@ -31,6 +31,7 @@ enum {
     ZAXCLOVER_VERTICES = 1024,
     ZAXCLOVER_LOOPS = 1024, /* of both sorts together */
     ZAXCLOVER_ANSWERS = 2048,
+    ZAXCLOVER_LISTING = 196608, /* the text of zaxclover_list is not longer */
     ZAXCLOVER_STACK = 524288 /* a call takes less */
 };
 
@@ -131,10 +132,22 @@ size_t zaxclover_loop(const uint8_t *job, size_t job_length, size_t n, size_t *s
 /*
  * THE LISTING
  *
- * The text of an answer of zaxclover_sew, by the number that it returned, the value that it left and the output: a line
- * for each record of the body, or the line of the refusal. Returns the length of the text, which has no ending zero. As
- * much of it as there is room for stands at the start of `page`. A body's text takes at most three characters a byte.
- * The output must be as sewing left it: of other bytes the text may be billions of characters long, and take its time.
+ * A line for each record of the body, or the line of the refusal. Both functions return the length of the text, which has
+ * no ending zero; as much of it as there is room for stands at the start of `page`, and the later bytes are as before. A
+ * null page of length 0 asks for the length alone.
+ */
+
+/*
+ * The listing of a job, as the program `listing` prints it: the job is sewn into 65,536 bytes of the function's own, so
+ * that a longer body is refused with 40. The text has at most ZAXCLOVER_LISTING characters.
+ */
+size_t zaxclover_list(const uint8_t *job, size_t job_length, uint8_t *page, size_t page_length);
+
+/*
+ * The listing of an answer of zaxclover_sew, by the number that it returned, the value that it left and the output: for
+ * bodies of any length, or where the body is wanted too. With an output of 65,536 bytes it is that of zaxclover_list. A
+ * body's text takes at most three characters a byte. The output must be as sewing left it: of other bytes the text may be
+ * billions of characters long, and take its time.
  */
 size_t zaxclover_listing(size_t number, size_t value, const uint8_t *out, size_t out_length, uint8_t *page, size_t page_length);
 

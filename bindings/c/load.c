@@ -1,7 +1,8 @@
 /*
- * A load on the boundary: makes up jobs and runs sewing, a stage and a loop request on each, under the compiler's
- * memory checker. Each operation runs twice: on heap copies with guard bytes after job and output, and on copies that
- * end where an inaccessible page begins. Both must answer alike, write what the answer says and not a byte more.
+ * A load on the boundary: makes up jobs and runs sewing, a stage, a loop request and the listing on each, under the
+ * compiler's memory checker. Each operation runs twice: on heap copies with guard bytes after job and output, and on
+ * copies that end where an inaccessible page begins. Both must answer alike, write what the answer says and not a byte
+ * more.
  *
  * usage: load VECTORS JOBS SEED [FIRST]
  *
@@ -205,6 +206,47 @@ static size_t request_loop(uint64_t *state)
     return number;
 }
 
+/* THE LISTING OF A JOB */
+
+enum { BODY = 65536 };
+
+/* The text that is due, of sewing's answer in 65,536 bytes. */
+static uint8_t *due_listing(size_t *length)
+{
+    uint8_t *out = on_heap(BODY);
+    uint8_t *due = on_heap(ZAXCLOVER_LISTING);
+    size_t value;
+    size_t number = zaxclover_sew(job.bytes, job.length, out, BODY, &value);
+    *length = zaxclover_listing(number, value, out, BODY, due, ZAXCLOVER_LISTING);
+    hold(*length > 0 && *length <= ZAXCLOVER_LISTING, "a listing longer than it may be");
+    free(out);
+    return due;
+}
+
+static void list_job(uint64_t *state)
+{
+    doing = "list";
+    size_t length;
+    uint8_t *due = due_listing(&length);
+    size_t room = some_room(state, length);
+    size_t shown = room < length ? room : length;
+    uint8_t *copy = on_heap(job.length);
+    memcpy(copy, job.bytes, job.length);
+    uint8_t *page = on_heap(room);
+    hold(zaxclover_list(copy, job.length, page, room) == length, "another length than that of the listing");
+    hold(memcmp(page, due, shown) == 0, "another listing than that of sewing's answer");
+    hold(is_marked(page + shown, room - shown + GUARD), "a byte written after the text");
+    hold(memcmp(copy, job.bytes, job.length) == 0 && is_marked(copy + job.length, GUARD), "the job is changed");
+    uint8_t *end = out_end - room;
+    memset(end - GUARD, MARK, room + GUARD);
+    hold(zaxclover_list(job_end - job.length, job.length, end, room) == length, "another length the second time");
+    hold(is_marked(end - GUARD, GUARD), "a byte written before the page");
+    hold(memcmp(page, end, room) == 0, "another listing the second time");
+    free(due);
+    free(copy);
+    free(page);
+}
+
 /* THE RUN */
 
 static uint64_t sewn[HIGHEST], staged[HIGHEST], requested[HIGHEST];
@@ -224,6 +266,7 @@ static void run_job(const struct seeds *seeds)
     count(sewn, run_operation(&operations[0], &state).number);
     count(staged, run_operation(&operations[1 + number_of_job % (OPERATIONS - 1)], &state).number);
     count(requested, request_loop(&state));
+    list_job(&state);
 }
 
 static void print_counts(const char *name, const uint64_t *counts)

@@ -1,9 +1,10 @@
 /*
  * Tests of the interface at its edges: null pointers with length 0, outputs exactly full and one byte short, guard
- * bytes after job, output and page.
+ * bytes after job, output and page; and the listing of every stored job.
  *
- * usage: test FILE.job      (part P9)
+ * usage: test FILE.job VECTORS      (part P9, and the file of packed vectors)
  */
+#include "jobs.h"
 #include "operations.h"
 
 #include <stdio.h>
@@ -52,6 +53,7 @@ static void test_null(void)
     size_t value = 77;
     size_t number = zaxclover_loop(NULL, 0, 0, &start, &value);
     expect(number == ZAXCLOVER_WRONG_RECORD && value == 0 && start == 0, "loop", "an empty job at a null pointer");
+    expect(zaxclover_list(NULL, 0, NULL, 0) == strlen("refused 3 0\n"), "list", "an empty job at a null pointer");
     expect(zaxclover_listing(0, 0, NULL, 0, NULL, 0) == 0, "listing", "no body on no page");
     expect(zaxclover_listing(3, 0, NULL, 0, NULL, 0) == strlen("refused 3 0\n"), "listing", "a refusal on no page");
 }
@@ -136,11 +138,46 @@ static void test_listing(const uint8_t *job, size_t length)
     }
 }
 
+/* The listing of a job on a page of so many bytes. */
+static void test_page(const uint8_t *job, size_t length, const uint8_t *due, size_t due_length, size_t room)
+{
+    uint8_t *page = marked(room);
+    size_t shown = room < due_length ? room : due_length;
+    expect(zaxclover_list(job, length, page, room) == due_length, "list", "the length");
+    expect(memcmp(page, due, shown) == 0, "list", "as much as there is room for");
+    expect(is_marked(page, shown, room + GUARD), "list", "later bytes stay");
+    free(page);
+}
+
+/* The listing of a job is that of sewing's answer in 65,536 bytes. */
+static void test_list(const uint8_t *job, size_t length)
+{
+    static uint8_t out[65536];
+    static uint8_t due[ZAXCLOVER_LISTING];
+    size_t value;
+    size_t number = zaxclover_sew(job, length, out, sizeof out, &value);
+    size_t needed = zaxclover_listing(number, value, out, sizeof out, due, sizeof due);
+    expect(needed > 0 && needed <= sizeof due, "list", "the limit of the text");
+    expect(zaxclover_list(job, length, NULL, 0) == needed, "list", "no page at a null pointer");
+    size_t rooms[] = {0, 1, needed / 2, needed - 1, needed, needed + 1, sizeof due};
+    for (size_t i = 0; i < sizeof rooms / sizeof rooms[0]; i++)
+        test_page(job, length, due, needed, rooms[i]);
+}
+
+/* P1 to P9 and every other stored job. */
+static void test_stored(const struct seeds *seeds)
+{
+    expect(seeds->count >= 9, "list", "stored jobs");
+    for (size_t i = 0; i < seeds->count; i++)
+        test_list(seeds->at[i], seeds->length[i]);
+}
+
 int main(int count, char **words)
 {
-    FILE *file = count == 2 ? fopen(words[1], "rb") : NULL;
-    if (file == NULL) {
-        fprintf(stderr, "usage: test FILE.job, a file that can be read\n");
+    static struct seeds seeds;
+    FILE *file = count == 3 ? fopen(words[1], "rb") : NULL;
+    if (file == NULL || !read_seeds(words[2], &seeds)) {
+        fprintf(stderr, "usage: test FILE.job VECTORS, files that can be read\n");
         return 2;
     }
     uint8_t bytes[4096];
@@ -153,6 +190,8 @@ int main(int count, char **words)
     test_refused();
     test_loops(job, length);
     test_listing(job, length);
+    test_list(job, length);
+    test_stored(&seeds);
     expect(memcmp(job, bytes, length) == 0 && is_marked(job, length, length + GUARD), "job", "left as it was");
     free(job);
     printf("%d tests, %d failures\n", tests, failures);

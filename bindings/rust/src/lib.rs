@@ -6,6 +6,7 @@
 //! let mut out = [0u8; 64];
 //! assert_eq!(zaxclover::sew(&job, &mut out), Ok(30));
 //! assert_eq!(zaxclover::listing(&job).unwrap(), "body 0 0 0 0 0 0\n");
+//! assert_eq!(zaxclover::list(&job[..5]), "refused 2 0\n");
 //! ```
 //!
 //! The library may assume that the output shares no byte with the job. Rust's borrows see to it:
@@ -34,6 +35,9 @@ pub const STACK: usize = 512 * 1024;
 
 /// No job of more bytes loads.
 pub const LONGEST_JOB: usize = 65_536;
+
+/// The text of [`list`] is not longer.
+pub const LONGEST_LISTING: usize = 196_608;
 
 /// The single stages. What each writes is in `docs/STAGES.md`.
 #[derive(Clone, Copy, Debug, PartialEq, Eq, Hash)]
@@ -118,7 +122,19 @@ pub fn body(job: &[u8]) -> Result<Vec<u8>, Refusal> {
     Ok(out)
 }
 
-/// The listing of a job's body: a line for each record, its name and then its fields in decimal.
+/// The listing of a job, as the program `listing` prints it: the body's lines, or the line `refused NUMBER PLACE`. The job
+/// is sewn into 65,536 bytes, so that a longer body is refused with 40; [`listing`] has it.
+pub fn list(job: &[u8]) -> String {
+    let mut page = vec![0; LONGEST_LISTING];
+    // SAFETY: the job is readable and the page writable for their lengths. The page is new, so that it shares no byte
+    // with the job.
+    let length =
+        unsafe { raw::zaxclover_list(job.as_ptr(), job.len(), page.as_mut_ptr(), page.len()) };
+    String::from_utf8(page[..length].to_vec()).expect("a listing is ASCII")
+}
+
+/// The listing of a job's body, however long: a line for each record, its name and then its fields in decimal. A refusal
+/// is an error, not a line.
 pub fn listing(job: &[u8]) -> Result<String, Refusal> {
     let body = body(job)?;
     // An empty page stores nothing and tells the length.

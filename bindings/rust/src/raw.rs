@@ -95,6 +95,12 @@ unsafe extern "C" {
         start: *mut usize,
         value: *mut usize,
     ) -> usize;
+    pub fn zaxclover_list(
+        job: *const u8,
+        job_length: usize,
+        page: *mut u8,
+        page_length: usize,
+    ) -> usize;
     pub fn zaxclover_listing(
         number: usize,
         value: usize,

@@ -1,7 +1,7 @@
 //! Parts P1 to P9 of document 01, and the edges of the interface.
 use std::fs;
 use std::path::Path;
-use zaxclover::{Refusal, Stage, body, listing, loop_payload, sew, stage};
+use zaxclover::{Refusal, Stage, body, list, listing, loop_payload, sew, stage};
 
 const KINDS: [&str; 13] = [
     "head",
@@ -73,6 +73,17 @@ fn parts_list_as_document_01_prints_them() {
         let (job, expected) = part(&format!("P{n}.txt"));
         assert_eq!(shown(&job), expected, "P{n}");
     }
+}
+
+#[test]
+fn a_part_lists_as_the_program_prints_it() {
+    for n in 1..=9 {
+        let (job, expected) = part(&format!("P{n}.txt"));
+        assert_eq!(list(&job), expected, "P{n}");
+        assert_eq!(list(&job), shown(&job), "P{n}");
+    }
+    assert_eq!(list(&[]), "refused 3 0\n");
+    assert_eq!(list(&[0; 65_537]), "refused 1 65536\n");
 }
 
 #[test]
@@ -237,7 +248,10 @@ fn the_header_has_the_same_words() {
 #[test]
 fn a_call_fits_its_stack() {
     let (job, expected) = part("P9.txt");
-    let small = std::thread::Builder::new().stack_size(zaxclover::STACK + 64 * 1024);
-    let text = small.spawn(move || listing(&job)).unwrap().join().unwrap();
-    assert_eq!(text.as_deref(), Ok(expected.as_str()));
+    for list_it in [shown, list as fn(&[u8]) -> String] {
+        let small = std::thread::Builder::new().stack_size(zaxclover::STACK + 64 * 1024);
+        let job = job.clone();
+        let text = small.spawn(move || list_it(&job)).unwrap().join();
+        assert_eq!(text.unwrap(), expected);
+    }
 }

@@ -9,6 +9,7 @@ ghost use Rattle.rules.specs.Rules.{ordinary, fullTable};
 ghost use Rattle.rules.specs.Sew.{sewn};
 ghost use Rattle.rules.specs.Stage.{readStage, pairStage, mergeStage, vertexLoopStage, walkStage, loopStage, fanStage, edgeStage, joiningStage, shellStage, lumpStage};
 ghost use Rattle.theorems.specs.Demand3.{Demand3};
+ghost use Rattle.lines.specs.Listed.{Lists};
 ghost use Rattle.sewing.specs.Steps.{Promised};
 ghost use Rattle.sewing_c.specs.Told.{endNumber, endValue, endingOf, Tells, ListsAnswer, Inside, TellsLoop};
 
@@ -200,4 +201,14 @@ pub extern "C" fn zaxclover_listing(
     let body = lines::front(out, BODY);
     let ending = ending_of(number, value);
     lines::put_listing(page, body, ending)
+}
+
+// The listing of a job, sewn into 65,536 bytes. Gives the length of the text, which is at most 196,608; what the page has
+// no room for is not stored.
+#[no_mangle]
+pub extern "C" fn zaxclover_list(job: &[u8], page: &mut [u8]) -> usize
+    ensures { λ r. ⌜ Lists (now (job .entry)) (now (page .entry)) (now (page .exit)) r ⌝ }
+{
+    let mut out = [0u8; 65536];
+    listed::list(job, &mut out, page)
 }

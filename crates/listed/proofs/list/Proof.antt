@@ -22,10 +22,16 @@ same-length c = search needs
 -- src/lib.rt:6:1
 returns : tie.Need-returns
 returns c =
-    let a = c .before .before .before .before .before .before .before .before .before .before .args in
-    let sew = c .before .before .before .before .before .before .sew in
-    let put = c .before .before .put-listing in
-    lists (a .job .now) (a .out .now) (sew .last .1 .0) (a .page .now) (put .last .0) (put .result) (sew .result) (bytes-below (a .job .now) (λ i. c .before .before .before .before .before .before .before .before .before .shared-slice-known .given i .fits)) (let h = c .before .before .before .before .before .before .before .sew-arg .given in h .0 .1) (sew .ensures .0) (put .ensures)
+    let start : tie.Start = search in
+    let known : tie.After-shared-slice-known = search in
+    let lent : tie.After-sew-arg = search in
+    let sewn : tie.After-sew = search in
+    let listed : tie.After-put-listing = search in
+    let a = start .args in
+    let sew = sewn .sew in
+    let put = listed .put-listing in
+    let bytes = bytes-below (a .job .now) (λ i. known .shared-slice-known .given i .fits) in
+    lists (a .job .now) (a .out .now) (sew .last .1 .0) (a .page .now) (put .last .0) (put .result) (sew .result) bytes (lent .sew-arg .given .0 .1) (sew .ensures .0) (put .ensures)
 
 pub list-spec : {M : Type 1} → statement M
 list-spec = tie.close (tie.spec sew-requires put-listing-requires same-length returns)
