@@ -61,8 +61,8 @@ pub fn explain(usage: &[u8]) {
     io::write_all(libc::STDERR_FILENO, usage);
 }
 
-// Reads the file that word i names, or standard input if there is no such word. What is wrong is told, with the words
-// that the program takes, and the input has then failed.
+// Reads the file that word i names, or standard input if there is no such word. What is wrong is told on standard error,
+// with the words that the program takes where it lies in these.
 pub fn read_job(program: &[u8], usage: &[u8], i: usize, buffer: &mut [u8]) -> Input {
     if os::arg_count() <= i {
         return read_told(program, libc::STDIN_FILENO, b"standard input", buffer);
@@ -78,7 +78,7 @@ pub fn read_file(program: &[u8], usage: &[u8], i: usize, buffer: &mut [u8]) -> I
     }
     let mut path = io::buffer();
     let length = os::arg(i, &mut path);
-    // A word that is longer than any path is not cut, since its front may name another file.
+    // A word that is longer than any path: its front, which is in the buffer, may name another file.
     if os::errno() != 0 {
         fail(program, b"FILE");
         explain(usage);
@@ -108,6 +108,7 @@ fn is_name(word: &[u8]) -> bool {
     word[0] != b'-'
 }
 
+// Opens and reads the file of a name; where it cannot, the words are told after the reason.
 fn read_named(program: &[u8], usage: &[u8], name: &[u8], buffer: &mut [u8]) -> Input {
     let fd = os::open_read(name);
     if fd < 0 {
@@ -124,7 +125,7 @@ fn read_named(program: &[u8], usage: &[u8], name: &[u8], buffer: &mut [u8]) -> I
     Input::Bytes(n)
 }
 
-// Reads an open file to its end, and says why where it cannot.
+// Reads an open file to its end. Where it cannot, the reason is told at once, before another call changes it.
 fn read_told(program: &[u8], fd: i32, name: &[u8], buffer: &mut [u8]) -> Input {
     let input = read_to_end(fd, buffer);
     let Input::Bytes(n) = input else {
