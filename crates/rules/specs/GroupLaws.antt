@@ -4,13 +4,14 @@ use mathlib.Core.Logic.{_⊎_, inl, inr, ⊎-elim, _↔_}
 use mathlib.Core.List.{List}
 use Prim.Native.Nat.{ℕ, _≤_, _<_, min, max}
 use native.Mathlib.Omega.{arith}
-use lib.ListN.{length, getD, length-map}
-use borrow.Author.Tests.{eqb-true, eq-eqb}
+use lib.ListN.{length, getD, length-map, List·getD-eq-default}
+use lib.Dec.{eqb, ltb}
+use borrow.Author.Tests.{eqb-true, eq-eqb, ltb-true, ltb-false}
 use Rattle.lists.specs.Lists.{below, _∈_, Nodup, indexOf}
-use Rattle.lists.specs.Tests.{equal-or-not}
+use Rattle.lists.specs.Tests.{both-ways, equal-or-not}
 use Rattle.lists.specs.Membership.{getD-in}
 use Rattle.lists.specs.Runs.{in-below, below-in, below-nodup, length-below, getD-below}
-use Rattle.lists.specs.Members.{in-keep, keep-in, keep-nodup, getD-map, indexOf-in, indexOf-at}
+use Rattle.lists.specs.Members.{in-keep, keep-in, keep-nodup, keep-length, position-le, getD-map, indexOf-in, indexOf-at}
 use Rattle.rules.specs.Groups.{alone, labelOf, moved, joined, isLowest, lowestMembers, groupNumbers}
 
 -- no label lies above its number, and a label is its own label
@@ -21,6 +22,14 @@ pub record Lowest (g : List ℕ) : Type 0 where
 -- the label of a number is a number of the groups
 pub label-below : {g : List ℕ} → Lowest g → (i : ℕ) → i < length g → labelOf g i < length g
 label-below l i h = let low = l .low i h in omega arith
+
+-- no label, nor what stands for none, lies above the number of members
+pub label-within : {g : List ℕ} → Lowest g → (i : ℕ) → labelOf g i ≤ length g
+label-within {g} l i =
+    ⊎-elim
+    (λ t. let lt = label-below l i (ltb-true i (length g) t) in omega arith)
+    (λ t. let e = List·getD-eq-default g 0 (ltb-false i (length g) t) in omega arith)
+    (both-ways (ltb i (length g)))
 
 -- the label of a group is its least member
 pub label-least : {g : List ℕ} → Lowest g → (i k : ℕ) → k < length g → labelOf g i ≡ labelOf g k → labelOf g i ≤ k
@@ -168,6 +177,19 @@ length-groupNumbers g = length-map g _
 pub groupNumbers-at : (g : List ℕ) (i : ℕ) → i < length g → getD (groupNumbers g) i 0 ≡ indexOf (labelOf g i) (lowestMembers g)
 unfolding groupNumbers
 groupNumbers-at g i h = getD-map _ g i 0 0 h
+
+-- no group number, nor what stands for none, lies above the number of members
+pub groupNumbers-within : (g : List ℕ) (i : ℕ) → getD (groupNumbers g) i 0 ≤ length g
+groupNumbers-within g i =
+    ⊎-elim
+    (λ t.
+    let e = groupNumbers-at g i (ltb-true i (length g) t) in
+    omega (arith, e, position-le (eqb (labelOf g i)) (lowestMembers g), keep-length (isLowest g) (below (length g)), length-below (length g)))
+    (λ t.
+    let le : length (groupNumbers g) ≤ i = omega (arith, ltb-false i (length g) t, length-groupNumbers g) in
+    let e = List·getD-eq-default (groupNumbers g) 0 le in
+    omega arith)
+    (both-ways (ltb i (length g)))
 
 module _ {g : List ℕ} (l : Lowest g) where
   -- each number's group is one of the groups

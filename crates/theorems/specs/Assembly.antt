@@ -27,7 +27,7 @@ use Rattle.theorems.specs.Loading.{no-face-no-use}
 use Rattle.theorems.specs.ChangeRuns.{runs-to-end, run-few, run-counts}
 use Rattle.theorems.specs.Balance.{run-balance}
 use Rattle.theorems.specs.RingCounts.{run-rings}
-use Rattle.theorems.specs.LoopRuns.{run-places}
+use Rattle.theorems.specs.LoopRuns.{SoundLoops, run-places}
 use Rattle.theorems.specs.Ground.{Ground, ground, settled-walked, settled-uses}
 use Rattle.theorems.specs.Fanning.{FansHold, fans-hold}
 use Rattle.theorems.specs.Edging.{EdgesHold, edges-hold}
@@ -42,7 +42,7 @@ passed-few w W =
     omega (arith, a, keep-length (λ h. isRemoved (w .merge .removed) h && holdsKept w h) (below (length (w .uses))), length-below (length (w .uses)))
 
 -- the start of joining counts nothing
-no-counts : (j : Job) (f : Fanned) → (unjoined j f .joins ≡ 0) × (unjoined j f .rings ≡ 0)
+pub no-counts : (j : Job) (f : Fanned) → (unjoined j f .joins ≡ 0) × (unjoined j f .rings ≡ 0)
 unfolding unjoined
 no-counts j f = (refl, refl)
 
@@ -117,6 +117,12 @@ module _ (t : Table) (job : List ℕ) (j : Job) (w : Walked) (l : loaded job ≡
         places = run-places (j .answers) fan start ending (R .changes) (starts-sound j w G F E) (R .run) .0;
         reports = reports;
       }
+
+  -- the loops are sound where joining ends
+  pub joining-sound : (ending : Joining) → maximalEdges (j .answers) (fan .starts) (fan .names) (length (fan .names)) start ≡ ok ending → SoundLoops ending
+  joining-sound ending e =
+      let R : Ran ending = ran ending e in
+      run-places (j .answers) fan start ending (R .changes) (starts-sound j w G F (edges-hold j w G F)) (R .run) .1
 
   -- the number of removed uses, counted by the list or by the uses
   removed-count : length (keep (λ gone. gone) (w .merge .removed)) ≡ length (keep (isRemoved (w .merge .removed)) (below (length (w .uses))))

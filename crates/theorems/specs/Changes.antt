@@ -3,7 +3,7 @@ use mathlib.Core.Path.{_≡_, refl, sym, ap, _∙_, subst}
 use mathlib.Core.Logic.{_⊎_, inl, inr, ⊎-elim}
 use mathlib.Core.Bool.{Bool, true, false, cond}
 use mathlib.Core.List.{List, [], _∷_, List·Memᴰ·head, List·Memᴰ·tail}
-use Prim.Native.Nat.{ℕ, _≤_, _<_}
+use Prim.Native.Nat.{ℕ, zero, suc, _≤_, _<_}
 use native.Mathlib.Omega.{arith}
 use lib.ListN.{length, getD}
 use lib.Dec.{eqb}
@@ -13,7 +13,7 @@ use Rattle.rules.specs.Outcome.{Outcome, ok, refuse, _>>=_}
 use Rattle.rules.specs.OutcomeLaws.{refuse-ok, ok-one, bind-ok, cond-ok}
 use Rattle.rules.specs.Job.{Answer}
 use Rattle.rules.specs.Fans.{fanPoint}
-use Rattle.rules.specs.Join.{Joining, edgeDataAt, endsAt, joinAt, ringAt, notSingular, mayJoin, Tried, unchanged, changed, changedIf, atCorner, orElse, sweep}
+use Rattle.rules.specs.Join.{Joining, edgeDataAt, endsAt, joinAt, ringAt, notSingular, mayJoin, Tried, unchanged, changed, changedIf, atCorner, orElse, sweep, afterSweep, maximalEdges}
 use Rattle.theorems.specs.Demand3.{Change, cornerIf, changedCorner, isRing}
 use Rattle.theorems.specs.Ends.{ends-ascend}
 
@@ -114,3 +114,17 @@ ring-is c r = ap (λ l. eqb (getD l 0 0) (getD l 1 0)) (r .ends) ∙ eq-eqb (r .
 
 pub join-is : (c : Change) → AsJoin (c .before) (c .corner) (c .after) → isRing c ≡ false
 join-is c r = ap (λ l. eqb (getD l 0 0) (getD l 1 0)) (r .ends) ∙ ne-eqb (r .first) (r .second) (λ (e : r .first ≡ r .second). omega (arith, r .lower))
+
+-- what every change keeps, joining keeps
+pub joining-keeps : (answers : List Answer) (starts names : List ℕ) (P : Joining → Type 0) → ((s t : Joining) (v : ℕ) → Made s v t → P s → P t)
+    → (most : ℕ) (s t : Joining) → maximalEdges answers starts names most s ≡ ok t → P s → P t
+unfolding maximalEdges
+joining-keeps answers starts names P keeps zero s t e h = subst P (ok-one e) h
+joining-keeps answers starts names P keeps (suc most) s t e h =
+    let r = bind-ok (sweep answers starts s names) (λ u. afterSweep u s (maximalEdges answers starts names most)) t e in
+    go (r .0) (r .1) (r .2) (λ u. joining-keeps answers starts names P keeps most u t)
+  where
+    go : (u : Tried) → sweep answers starts s names ≡ ok u → afterSweep u s (maximalEdges answers starts names most) ≡ ok t
+        → ((x : Joining) → maximalEdges answers starts names most x ≡ ok t → P x → P t) → P t
+    go unchanged q z later = subst P (ok-one z) h
+    go (changed x) q z later = let m = sweep-made answers starts s x names q in later x z (keeps s x (m .0) (m .3) h)

@@ -151,11 +151,12 @@ module _ (j : Job) (w : Walked) (G : Ground j w) where
   succ-below : (h : ℕ) → h < length (w .uses) → keptWithEnds (j .edges) (w .uses) (w .merge .removed) h ≡ true → succ w h < length (w .uses)
   succ-below h lt t = ended-succ j w G h (lt, t) .0
 
-  lowest : Lowest (fanLabels j w)
-  lowest = fans-lowest (j .edges) (w .uses) (w .twins) (w .merge .removed) (w .successors) succ-below (G .twins .below)
+  -- a fan's label is its lowest use; each use has one
+  pub fan-lowest : Lowest (fanLabels j w)
+  fan-lowest = fans-lowest (j .edges) (w .uses) (w .twins) (w .merge .removed) (w .successors) succ-below (G .twins .below)
 
-  size : length (fanLabels j w) ≡ length (w .uses)
-  size = fans-length (j .edges) (w .uses) (w .twins) (w .merge .removed) (w .successors)
+  pub fan-size : length (fanLabels j w) ≡ length (w .uses)
+  fan-size = fans-length (j .edges) (w .uses) (w .twins) (w .merge .removed) (w .successors)
 
   -- new successor and twin of a kept use with ends have one mark, so all uses of a fan have
   corner-mark : (h : ℕ) → h < length (w .uses) → keptWithEnds (j .edges) (w .uses) (w .merge .removed) h ≡ true → mark (succ w h) ≡ mark (twin w h)
@@ -166,11 +167,11 @@ module _ (j : Job) (w : Walked) (G : Ground j w) where
   -- the use that names a fan has ends, and starts where the fan's uses start
   name-ended : (h : ℕ) → EndedUse j w h → EndedUse j w (labelOf (fanLabels j w) h) × (startOf j w (labelOf (fanLabels j w) h) ≡ startOf j w h)
   name-ended h e =
-      let lt : h < length (fanLabels j w) = omega (arith, e .0, size) in
-      let below : labelOf (fanLabels j w) h < length (w .uses) = omega (arith, lowest .low h lt, e .0) in
+      let lt : h < length (fanLabels j w) = omega (arith, e .0, fan-size) in
+      let below : labelOf (fanLabels j w) h < length (w .uses) = omega (arith, fan-lowest .low h lt, e .0) in
       ended-mark (labelOf (fanLabels j w) h) (startOf j w h) below
       (fans-within (j .edges) (w .uses) (w .twins) (w .merge .removed) (w .successors) succ-below (G .twins .below) (value-equivalence mark) corner-mark
-      (labelOf (fanLabels j w) h) h below (e .0) (lowest .stands h lt)
+      (labelOf (fanLabels j w) h) h below (e .0) (fan-lowest .stands h lt)
       ∙ mark-ended h e)
 
   point-is : (h : ℕ) → h < length (w .uses) → fanPoint (fanStarts j w) h ≡ getD (j .points) (startOf j w h) 0
@@ -183,7 +184,7 @@ module _ (j : Job) (w : Walked) (G : Ground j w) where
     named = λ h e.
         let l = name-ended h e .0 in
         in-keep (namesFan (j .edges) (w .uses) (w .merge .removed) (fanLabels j w)) (in-below (length (w .uses)) (labelOf (fanLabels j w) h) (l .0))
-        (both-and _ _ (l .1) (eq-eqb _ _ (lowest .stands h (omega (arith, e .0, size)))));
+        (both-and _ _ (l .1) (eq-eqb _ _ (fan-lowest .stands h (omega (arith, e .0, fan-size)))));
     nodup = keep-nodup (namesFan (j .edges) (w .uses) (w .merge .removed) (fanLabels j w)) (below (length (w .uses))) (below-nodup (length (w .uses)));
     ended = λ v m.
         let r = keep-in (namesFan (j .edges) (w .uses) (w .merge .removed) (fanLabels j w)) (below (length (w .uses))) v m in

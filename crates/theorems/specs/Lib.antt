@@ -34,4 +34,5 @@ pub mod Figures
 pub mod Touching
 pub mod Reached
 pub mod Narrow
+pub mod Shapes
 pub mod Requests

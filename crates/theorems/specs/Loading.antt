@@ -11,6 +11,7 @@ use lib.Dec.{ltb}
 use borrow.Author.Tests.{ltb-true, ltb-false, not-true}
 use Rattle.lists.specs.Tests.{both-ways, and-both}
 use Rattle.lists.specs.Sums.{sum-nil}
+use Rattle.rules.specs.declared.Counts.{Counts}
 use Rattle.rules.specs.Outcome.{ok}
 use Rattle.rules.specs.OutcomeLaws.{ok-one, bind-ok, need-ok, through-keeps}
 use Rattle.rules.specs.Frame.{Frame, frames}
@@ -77,6 +78,13 @@ loading-fit job s e =
 -- the counts of a loaded job are the lengths of its lists, within the limits
 pub loading-counted : (job : List ℕ) (s : Loading) → loading job ≡ ok s → Counted (s .counts) (s .job) × Limited (s .counts)
 loading-counted job s e = let F = loading-fit job s e in (F .counted, F .limited)
+
+-- a loaded job is within the limits
+pub loaded-limits : (job : List ℕ) (j : Job) → loaded job ≡ ok j → (c : Counts) × Counted c j × Limited c
+loaded-limits job j e =
+    let r = bind-ok (loading job) _ j e in
+    let F = loading-counted job (r .0) (r .1) in
+    (r .0 .counts, subst (Counted (r .0 .counts)) (ok-one (r .2)) (F .0), F .1)
 
 -- a loaded job is sound
 pub loaded-sound : (job : List ℕ) (j : Job) → loaded job ≡ ok j → Sound j

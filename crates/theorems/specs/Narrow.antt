@@ -1,15 +1,15 @@
 -- Every number in a body of a job of bytes is below 4,294,967,296, so that its four bytes hold it.
-use Prim.Native.Nat.{ℕ, zero, suc, _+_, _*_, _/_, _≤_, _<_}
+use Prim.Native.Nat.{ℕ, zero, suc, _+_, _*_, _/_, _≤_, _<_, min, max}
 use native.Mathlib.Omega.{arith}
 use mathlib.Core.Path.{_≡_, refl, sym, ap, _∙_, subst}
-use mathlib.Core.Logic.{_⊎_, inl, inr, ⊎-elim}
+use mathlib.Core.Logic.{inl, inr, ⊎-elim}
 use mathlib.Core.List.{List, [], _∷_, _++_, map, flatMap, foldl, List·Memᴰ·head, List·Memᴰ·tail, List·Memᴰ·not-nil, List·Memᴰ·cases-cons, List·Memᴰ·append-cases}
 use mathlib.Core.Bool.{Bool, true, false, _||_, cond}
 use lib.ListN.{length, getD, set, drop, length-append, length-map, length-set}
 use lib.Dec.{eqb}
-use Rattle.lists.specs.Lists.{_∈_, below, keep, positions, position, indexOf, has}
+use Rattle.lists.specs.Lists.{_∈_, below, keep, has}
 use Rattle.lists.specs.Tests.{both-ways}
-use Rattle.lists.specs.Members.{keep-in, keep-length, map-in, flatMap-in, positions-in, positions-length}
+use Rattle.lists.specs.Members.{keep-in, keep-length, map-in, flatMap-in, positions-in, positions-length, position-le}
 use Rattle.lists.specs.Runs.{length-below}
 use Rattle.rules.specs.declared.Edge.{Edge}
 use Rattle.rules.specs.declared.Face.{Face}
@@ -18,33 +18,39 @@ use Rattle.rules.specs.declared.Sense.{Sense}
 use Rattle.rules.specs.declared.Sense.the-variants.{Same, Reversed}
 use Rattle.rules.specs.declared.EdgeData.{EdgeData}
 use Rattle.rules.specs.declared.KeptVertexLoop.{KeptVertexLoop}
-use Rattle.rules.specs.Outcome.{Outcome, ok, refuse, _>>=_, need, throughout, forEach}
-use Rattle.rules.specs.OutcomeLaws.{ok-one, bind-ok, need-ok, cond-ok, through-keeps, each-ok}
+use Rattle.rules.specs.Outcome.{Outcome, ok, _>>=_, forEach}
+use Rattle.rules.specs.OutcomeLaws.{ok-one, bind-ok, need-ok, cond-ok, through-keeps, each-ok, each-length}
 use Rattle.rules.specs.Sense.{senseNumber}
 use Rattle.rules.specs.Fields.{le32, fieldsIn, field}
 use Rattle.rules.specs.Frame.{Frame, Record, wholeRecord, frameAt, taking, framesFrom, frames}
-use Rattle.rules.specs.Job.{unset, Answer, Content, ofItems, atVertex, Loop, Job, edgeAt, noEdge, faceAt}
+use Rattle.rules.specs.Job.{unset, Answer, Content, ofItems, atVertex, Loop, Job, noEdge, ring}
 use Rattle.rules.specs.Kinds.{kindOf, numberOf}
 use Rattle.rules.specs.Load.{Loading, loadRecord, nothingLoaded, loading, loaded, extended, alsoIf, edgeOf, faceOf}
-use Rattle.rules.specs.Read.{usesOf, useAt, edgeOfUse}
+use Rattle.rules.specs.Read.{usesOf, useAt, faceOfUse, edgeOfUse}
 use Rattle.rules.specs.Questions.{askYes}
-use Rattle.rules.specs.Groups.{isLowest, lowestMembers}
-use Rattle.rules.specs.Rules.{Table, fullTable}
-use Rattle.rules.specs.Merge.{mergedFaces}
+use Rattle.rules.specs.Groups.{labelOf, isLowest, lowestMembers}
+use Rattle.rules.specs.GroupLaws.{label-within, groupNumbers-within}
+use Rattle.rules.specs.Pair.{twinOf}
+use Rattle.rules.specs.Rules.{Table}
+use Rattle.rules.specs.Merge.{mergedFaces, mergedFaceOf}
 use Rattle.rules.specs.VertexLoops.{alreadyThere, keepUnlessThere, contentStep, vertexLoopStep, vertexLoops}
-use Rattle.rules.specs.Fans.{namesFan, fanNames, startPoints, fanPoint}
-use Rattle.rules.specs.Edges.{edgeData, edgesOf, lowerKept, lowerUses, FaceLoop}
-use Rattle.rules.specs.Join.{Joining, noEdgeData, edgeDataAt, activeEdges, farEnd, joinedEdge, retired, ringOf, joinEdges, joinAt, ringAt, Tried, unchanged, changed, sweep, afterSweep, maximalEdges}
-use Rattle.rules.specs.Shells.{Shell, shellFaces, allShellFaces, orientShell, shells, enclosingShell, orRefuse, none, outers, Nested, nest, nested, voidsOf, lumpOf, lumps, lowestFace}
-use Rattle.rules.specs.Body.{Totals, BodyFace, Body, emptyBody, meet, metFans, vertexOf, withVertices, renumbered, loopsIn, pointsIn, bodyFace, bodyFaces, stillActive, solidBody, bodyKind, totalsRecord, vertexRecord, edgeRecord, itemFields, loopRecord, vertexLoopRecord, faceRecords, lumpRecords, bodyRecords}
-use Rattle.rules.specs.Sew.{Walked, walked, Fanned, fansOf, fanned, unjoined, Joined, edged, throughJoining, shellsOf, lumpsClear, totalsOf, bodyOf, solid, rebuild}
+use Rattle.rules.specs.Fans.{namesFan, startPoints, fanPoint}
+use Rattle.rules.specs.Edges.{fanOrNone, ownStart, ownEnd, edgeData, lowerKept, lowerUses, FaceLoop}
+use Rattle.rules.specs.Walk.{successor}
+use Rattle.rules.specs.Join.{Joining, noEdgeData, edgeDataAt, activeEdges, farEnd, joinedEdge, retired, ringOf, joinEdges, joinAt, ringAt, maximalEdges}
+use Rattle.rules.specs.Shells.{Shell, shellFaces, allShellFaces, orientShell, shells, enclosingShell, orRefuse, none, outers, Nested, nest, nested, lumpOf, lumps, lowestFace}
+use Rattle.rules.specs.Body.{Totals, BodyFace, Body, emptyBody, meet, metFans, vertexOf, withVertices, renumbered, bodyFace, bodyFaces, stillActive, solidBody, bodyKind, vertexRecord, edgeRecord}
+use Rattle.rules.specs.Body.{itemFields, loopRecord, vertexLoopRecord, faceRecords, lumpRecords, bodyRecords}
+use Rattle.rules.specs.Sew.{Walked, walked, fansOf, fanned, unjoined, Joined, edged, throughJoining, shellsOf, lumpsClear, totalsOf, bodyOf, solid, rebuild}
 use Rattle.theorems.specs.Demand3.{withTable, Settled}
-use Rattle.theorems.specs.Loading.{record-taken, loaded-sound, loading-counted}
+use Rattle.theorems.specs.Loading.{record-taken, loaded-limits}
 use Rattle.theorems.specs.Merging.{merge-groups-length}
-use Rattle.theorems.specs.Changes.{Made, sweep-made}
-use Rattle.theorems.specs.Ground.{Ground, ground, walked-settled, settled-uses}
-use Rattle.theorems.specs.Reporting.{Small, body-totals, through-joined}
-use Rattle.theorems.specs.Assembly.{totals-small}
+use Rattle.theorems.specs.Changes.{Made, joining-keeps}
+use Rattle.theorems.specs.Ground.{Ground, ground, walked-settled}
+use Rattle.theorems.specs.Reporting.{Small, through-joined}
+use Rattle.theorems.specs.Assembly.{no-counts, totals-small}
+use Rattle.theorems.specs.Fanning.{fanLabels, fan-lowest, fan-size}
+use Rattle.theorems.specs.Edging.{lowers, edgeFor}
 
 -- each number is below a bound
 abbrev pub Below : ℕ → List ℕ → Type 0
@@ -81,12 +87,20 @@ below-drop n zero l b = b
 below-drop n (suc k) [] b = b
 below-drop n (suc k) (x ∷ l) b = below-drop n k l (λ y m. b y (List·Memᴰ·tail m))
 
-pub position-most : {A : Type 0} (p : A → Bool) (l : List A) → position p l ≤ length l
-unfolding position
-position-most p [] = omega arith
-position-most p (x ∷ l) =
-    let later = position-most p l in
-    ⊎-elim (λ t. rw t (omega arith)) (λ t. rw t (omega arith)) (both-ways (p x))
+-- lists of low numbers, one after the other
+pub one-low : (a : ℕ) (l : List ℕ) → Low a → Below 4294967296 l → Below 4294967296 (a ∷ l)
+one-low a l h b x m = ⊎-elim (λ e. subst Low (sym e) h) (b x) (List·Memᴰ·cases-cons m)
+
+pub none-low : Below 4294967296 []
+none-low x m = absurd (List·Memᴰ·not-nil m)
+
+pub sense-low : (s : Sense) → Low (senseNumber s)
+sense-low Same = omega arith
+sense-low Reversed = omega arith
+
+pub kind-low : (t : Bool) → Low (bodyKind t)
+kind-low true = omega arith
+kind-low false = omega arith
 
 -- THE FIELDS OF A JOB
 
@@ -144,80 +158,116 @@ loaded-low job j b l =
 
 -- VERTEX LOOPS
 
-step-points : (answers : List Answer) (points : List ℕ) (face : ℕ) (c : Content) (ks ks′ : List KeptVertexLoop) → Below 4294967296 points
-    → ((k : KeptVertexLoop) → k ∈ ks → Low (k .point)) → contentStep answers points face c ks ≡ ok ks′ → (k : KeptVertexLoop) → k ∈ ks′ → Low (k .point)
+-- what holds of every vertex loop that may be kept holds of those kept
+step-has : (answers : List Answer) (points : List ℕ) (face : ℕ) (c : Content) (P : KeptVertexLoop → Type 0) (ks ks′ : List KeptVertexLoop)
+    → ((v : ℕ) → P (record { face = face; point = getD points v 0 })) → ((k : KeptVertexLoop) → k ∈ ks → P k)
+    → contentStep answers points face c ks ≡ ok ks′ → (k : KeptVertexLoop) → k ∈ ks′ → P k
 unfolding keepUnlessThere
-step-points answers points face (ofItems xs) ks ks′ b all e = subst (λ (l : List KeptVertexLoop). (k : KeptVertexLoop) → k ∈ l → Low (k .point)) (ok-one e) all
-step-points answers points face (atVertex v) ks ks′ b all e =
+step-has answers points face (ofItems xs) P ks ks′ new all e = subst (λ (l : List KeptVertexLoop). (k : KeptVertexLoop) → k ∈ l → P k) (ok-one e) all
+step-has answers points face (atVertex v) P ks ks′ new all e =
     let r = bind-ok (alreadyThere answers face (getD points v 0) ks) _ ks′ e in
     go (r .0) (ok-one (r .2))
   where
-    new : KeptVertexLoop
-    new = record { face = face; point = getD points v 0 }
+    last : KeptVertexLoop
+    last = record { face = face; point = getD points v 0 }
 
-    go : (t : Bool) → cond t ks (ks ++ (new ∷ [])) ≡ ks′ → (k : KeptVertexLoop) → k ∈ ks′ → Low (k .point)
-    go true q = subst (λ (l : List KeptVertexLoop). (k : KeptVertexLoop) → k ∈ l → Low (k .point)) q all
-    go false q =
-        subst (λ (l : List KeptVertexLoop). (k : KeptVertexLoop) → k ∈ l → Low (k .point)) q
-        (snoc-has (λ (k : KeptVertexLoop). Low (k .point)) ks new (below-at 4294967296 points v (omega arith) b) all)
+    go : (t : Bool) → cond t ks (ks ++ (last ∷ [])) ≡ ks′ → (k : KeptVertexLoop) → k ∈ ks′ → P k
+    go true q = subst (λ (l : List KeptVertexLoop). (k : KeptVertexLoop) → k ∈ l → P k) q all
+    go false q = subst (λ (l : List KeptVertexLoop). (k : KeptVertexLoop) → k ∈ l → P k) q (snoc-has P ks last (new v) all)
+
+pub kept-has : (answers : List Answer) (points numbers : List ℕ) (loops : List Loop) (P : KeptVertexLoop → Type 0) (ks : List KeptVertexLoop)
+    → ((f v : ℕ) → P (record { face = getD numbers f 0; point = getD points v 0 }))
+    → vertexLoops answers points numbers loops ≡ ok ks → (k : KeptVertexLoop) → k ∈ ks → P k
+kept-has answers points numbers loops P ks each e =
+    through-keeps (vertexLoopStep answers points numbers) (λ (l : List KeptVertexLoop). (k : KeptVertexLoop) → k ∈ l → P k) loops [] ks
+    (λ l u v m S q. step-has answers points (getD numbers (l .face) 0) (l .content) P u v (each (l .face)) S q) (λ k m. absurd (List·Memᴰ·not-nil m)) e
 
 pub kept-points : (answers : List Answer) (points numbers : List ℕ) (loops : List Loop) (ks : List KeptVertexLoop) → Below 4294967296 points
     → vertexLoops answers points numbers loops ≡ ok ks → (k : KeptVertexLoop) → k ∈ ks → Low (k .point)
-kept-points answers points numbers loops ks b e =
-    through-keeps (vertexLoopStep answers points numbers) (λ (l : List KeptVertexLoop). (k : KeptVertexLoop) → k ∈ l → Low (k .point)) loops [] ks
-    (λ l u v m S q. step-points answers points (getD numbers (l .face) 0) (l .content) u v b S q) (λ k m. absurd (List·Memᴰ·not-nil m)) e
+kept-points answers points numbers loops ks b =
+    kept-has answers points numbers loops (λ (k : KeptVertexLoop). Low (k .point)) ks (λ f v. below-at 4294967296 points v (omega arith) b)
 
 -- EDGES AND JOINING
 
--- curves of edges have four bytes
-abbrev pub CurvesLow : List EdgeData → Type 0
-CurvesLow es = (e : EdgeData) → e ∈ es → Low (e .curve)
+-- curve, ends and faces of an edge have four bytes; it has two faces
+pub record LowEdge (e : EdgeData) : Type 0 where
+  pub curve : Low (e .curve)
+  pub start : Low (e .start)
+  pub end : Low (e .end)
+  pub two : length (e .faces) ≡ 2
+  pub faces : Below 4294967296 (e .faces)
 
-curve-at : (es : List EdgeData) (i : ℕ) → CurvesLow es → Low (edgeDataAt es i .curve)
-curve-at es i all = at-has (λ (e : EdgeData). Low (e .curve)) es i noEdgeData (omega arith) all
+abbrev pub LowEdges : List EdgeData → Type 0
+LowEdges es = (e : EdgeData) → e ∈ es → LowEdge e
 
--- how joining changes edges: their curves stay low, and there is at most one more
-pub record Grown (s t : Joining) (more : ℕ) : Type 0 where
-  pub count : length (t .edges) ≤ length (s .edges) + more
-  pub curves : CurvesLow (s .edges) → CurvesLow (t .edges)
+-- an edge of low edges, or what stands for none, is low
+edge-low : (es : List EdgeData) (i : ℕ) → LowEdges es → LowEdge (edgeDataAt es i)
+edge-low es i all =
+    at-has LowEdge es i noEdgeData
+    (record { curve = omega arith; start = omega arith; end = omega arith; two = refl; faces = one-low 0 (0 ∷ []) (omega arith) (one-low 0 [] (omega arith) none-low) }) all
 
-made-grown : (s t : Joining) (v : ℕ) → Made s v t → Grown s t 1
-unfolding ringAt joinAt joinEdges joinedEdge
-made-grown s t v (inl r) =
+-- two low ends, either way round
+own-low : (s : Sense) {a b : ℕ} → Low a → Low b → Low (ownStart s a b) × Low (ownEnd s a b)
+own-low Same h k = (h, k)
+own-low Reversed h k = (k, h)
+
+-- an edge that a change makes of low edges is low
+retired-low : (e : EdgeData) → LowEdge e → LowEdge (retired e)
+retired-low e h = record { curve = h .curve; start = h .start; end = h .end; two = h .two; faces = h .faces }
+
+ring-low : (e : EdgeData) → LowEdge e → LowEdge (ringOf e)
+ring-low e h = record { curve = h .curve; start = omega arith; end = omega arith; two = h .two; faces = h .faces }
+
+far-low : (v : ℕ) (e : EdgeData) → LowEdge e → Low (farEnd v e)
+far-low v e h = ⊎-elim (λ t. rw t (h .end)) (λ t. rw t (h .start)) (both-ways (eqb (e .start) v))
+
+joined-low : (v : ℕ) (a b : EdgeData) → LowEdge a → LowEdge b → LowEdge (joinedEdge v a b)
+unfolding joinedEdge
+joined-low v a b h k = record { curve = h .curve; start = far-low v a h; end = far-low v b k; two = h .two; faces = h .faces }
+
+-- a change keeps edges low
+pub made-low : (s t : Joining) (v : ℕ) → Made s v t → LowEdges (s .edges) → LowEdges (t .edges)
+unfolding ringAt joinAt joinEdges
+made-low s t v (inl r) all =
     let es : List EdgeData = s .edges in
-    subst (λ (u : Joining). Grown s u 1) (sym (r .after)) (record {
-      count = omega (arith, length-set es (r .edge) (ringOf (edgeDataAt es (r .edge))));
-      curves = λ all. set-has (λ (e : EdgeData). Low (e .curve)) es (r .edge) (ringOf (edgeDataAt es (r .edge))) (curve-at es (r .edge) all) all;
-    })
-made-grown s t v (inr r) =
+    subst (λ (u : Joining). LowEdges (u .edges)) (sym (r .after))
+    (set-has LowEdge es (r .edge) (ringOf (edgeDataAt es (r .edge))) (ring-low (edgeDataAt es (r .edge)) (edge-low es (r .edge) all)) all)
+made-low s t v (inr r) all =
     let es : List EdgeData = s .edges in
     let a : EdgeData = edgeDataAt es (r .first) in
     let b : EdgeData = edgeDataAt es (r .second) in
     let one : List EdgeData = set es (r .first) (retired a) in
     let two : List EdgeData = set one (r .second) (retired b) in
-    subst (λ (u : Joining). Grown s u 1) (sym (r .after)) (record {
-      count = omega (arith, length-append two (joinedEdge v a b ∷ []), length-set one (r .second) (retired b), length-set es (r .first) (retired a));
-      curves = λ all.
-          snoc-has (λ (e : EdgeData). Low (e .curve)) two (joinedEdge v a b) (curve-at es (r .first) all)
-          (set-has (λ (e : EdgeData). Low (e .curve)) one (r .second) (retired b) (curve-at es (r .second) all)
-          (set-has (λ (e : EdgeData). Low (e .curve)) es (r .first) (retired a) (curve-at es (r .first) all) all));
-    })
+    let low-a : LowEdge a = edge-low es (r .first) all in
+    let low-b : LowEdge b = edge-low es (r .second) all in
+    subst (λ (u : Joining). LowEdges (u .edges)) (sym (r .after))
+    (snoc-has LowEdge two (joinedEdge v a b) (joined-low v a b low-a low-b)
+    (set-has LowEdge one (r .second) (retired b) (retired-low b low-b) (set-has LowEdge es (r .first) (retired a) (retired-low a low-a) all)))
 
-pub joining-grown : (answers : List Answer) (starts names : List ℕ) (most : ℕ) (s t : Joining) → maximalEdges answers starts names most s ≡ ok t → Grown s t most
-unfolding maximalEdges
-joining-grown answers starts names zero s t e = subst (λ (u : Joining). Grown s u zero) (ok-one e) (record { count = omega arith; curves = λ all. all })
-joining-grown answers starts names (suc most) s t e =
-    let r = bind-ok (sweep answers starts s names) (λ u. afterSweep u s (maximalEdges answers starts names most)) t e in
-    go (r .0) (r .1) (r .2) (λ u. joining-grown answers starts names most u t)
-  where
-    go : (u : Tried) → sweep answers starts s names ≡ ok u → afterSweep u s (maximalEdges answers starts names most) ≡ ok t
-        → ((u : Joining) → maximalEdges answers starts names most u ≡ ok t → Grown u t most) → Grown s t (suc most)
-    go unchanged q z later = subst (λ (u : Joining). Grown s u (suc most)) (ok-one z) (record { count = omega arith; curves = λ all. all })
-    go (changed u) q z later =
-        let m = sweep-made answers starts s u names q in
-        let a = made-grown s u (m .0) (m .3) in
-        let b = later u z in
-        record { count = omega (arith, b .count, a .count); curves = λ all. b .curves (a .curves all) }
+-- a change adds an edge where it is a join
+made-count : (s t : Joining) (v n : ℕ) → Made s v t → length (s .edges) ≡ n + s .joins → length (t .edges) ≡ n + t .joins
+unfolding ringAt joinAt joinEdges
+made-count s t v n (inl r) e =
+    let es : List EdgeData = s .edges in
+    subst (λ (u : Joining). length (u .edges) ≡ n + u .joins) (sym (r .after)) (length-set es (r .edge) (ringOf (edgeDataAt es (r .edge))) ∙ e)
+made-count s t v n (inr r) e =
+    let es : List EdgeData = s .edges in
+    let a : EdgeData = edgeDataAt es (r .first) in
+    let b : EdgeData = edgeDataAt es (r .second) in
+    let one : List EdgeData = set es (r .first) (retired a) in
+    let two : List EdgeData = set one (r .second) (retired b) in
+    subst (λ (u : Joining). length (u .edges) ≡ n + u .joins) (sym (r .after))
+    (omega (arith, length-append two (joinedEdge v a b ∷ []), length-set one (r .second) (retired b), length-set es (r .first) (retired a), e))
+
+-- joining adds an edge for each join
+pub joining-count : (answers : List Answer) (starts names : List ℕ) (most n : ℕ) (s t : Joining) → maximalEdges answers starts names most s ≡ ok t
+    → length (s .edges) ≡ n + s .joins → length (t .edges) ≡ n + t .joins
+joining-count answers starts names most n s t e =
+    joining-keeps answers starts names (λ (u : Joining). length (u .edges) ≡ n + u .joins) (λ x y v m. made-count x y v n m) most s t e
+
+-- joining keeps edges low
+pub joining-low : (answers : List Answer) (starts names : List ℕ) (most : ℕ) (s t : Joining) → maximalEdges answers starts names most s ≡ ok t → LowEdges (s .edges) → LowEdges (t .edges)
+joining-low answers starts names most s t e = joining-keeps answers starts names (λ (u : Joining). LowEdges (u .edges)) made-low most s t e
 
 -- SHELLS
 
@@ -244,36 +294,63 @@ nest-shell answers os s n e =
     let q : record { shell = s; home = r .0 } ≡ n = ok-one (r .2) in
     ap (λ (x : Nested). x .shell) (sym q)
 
-shell-faces-few : (boundaries members : List ℕ) (b x : ℕ) → x ∈ shellFaces boundaries members b → x < length members
-shell-faces-few boundaries members b x m =
-    let r = positions-in (λ r. eqb (getD boundaries r 0) b) 0 members 0 x m in
-    omega (arith, r .1)
+-- at most so many faces, each below that number
+abbrev pub FewFaces : ℕ → List ℕ → Type 0
+FewFaces n fs = Below n fs × (length fs ≤ n)
 
--- each shell's faces are merged faces
-nested-few : (answers : List Answer) (proven : ℕ) (boundaries groups : List ℕ) (ss : List Shell) (ns : List Nested) → shells answers proven (allShellFaces boundaries groups) ≡ ok ss
-    → nested answers ss ≡ ok ns → (n : Nested) → n ∈ ns → Below (length groups) (n .shell .faces)
-nested-few answers proven boundaries groups ss ns p q =
+-- a shell's faces are merged faces
+shell-few : (boundaries groups : List ℕ) (b : ℕ) → FewFaces (length groups) (shellFaces boundaries (lowestMembers groups) b)
+shell-few boundaries groups b =
     let members : List ℕ = lowestMembers groups in
-    let few : length members ≤ length groups = omega (arith, keep-length (isLowest groups) (below (length groups)), length-below (length groups)) in
-    let oriented : (s : Shell) → s ∈ ss → Below (length groups) (s .faces) =
-    each-has (orientShell answers proven) (λ (s : Shell). Below (length groups) (s .faces)) (allShellFaces boundaries groups) ss
-    (λ fs s m e. subst (Below (length groups)) (sym (orient-faces answers proven fs s e))
-    (let r = map-in (shellFaces boundaries members) (lowestMembers boundaries) fs m in
-    subst (Below (length groups)) (sym (r .2)) (λ x k. let a = shell-faces-few boundaries members (r .0) x k in omega arith))) p in
-    each-has (nest answers (outers ss)) (λ (n : Nested). Below (length groups) (n .shell .faces)) ss ns
-    (λ s n m e. subst (λ (u : Shell). Below (length groups) (u .faces)) (sym (nest-shell answers (outers ss) s n e)) (oriented s m)) q
+    let test : ℕ → Bool = λ r. eqb (getD boundaries r 0) b in
+    let few : length members ≤ length groups = omega (arith, keep-length (isLowest groups) (below (length groups)), length-below (length groups)) in (
+      λ x m. let r = positions-in test 0 members 0 x m in omega (arith, r .1, few),
+      omega (arith, positions-length test 0 members, keep-length test members, few),
+    )
 
-lumps-few : (bound : ℕ) (ns : List Nested) → ((n : Nested) → n ∈ ns → Below bound (n .shell .faces)) → (lump : List (List ℕ)) → lump ∈ lumps ns → (shell : List ℕ) → shell ∈ lump → Below bound shell
+-- so are those of the shells, of the nested shells, and of the lumps
+pub shells-few : (answers : List Answer) (proven : ℕ) (boundaries groups : List ℕ) (ss : List Shell) → shells answers proven (allShellFaces boundaries groups) ≡ ok ss
+    → (s : Shell) → s ∈ ss → FewFaces (length groups) (s .faces)
+shells-few answers proven boundaries groups ss =
+    each-has (orientShell answers proven) (λ (s : Shell). FewFaces (length groups) (s .faces)) (allShellFaces boundaries groups) ss
+    (λ fs s m e.
+    let r = map-in (shellFaces boundaries (lowestMembers groups)) (lowestMembers boundaries) fs m in
+    subst (FewFaces (length groups)) (sym (orient-faces answers proven fs s e ∙ r .2)) (shell-few boundaries groups (r .0)))
+
+pub nested-few : (answers : List Answer) (bound : ℕ) (ss : List Shell) (ns : List Nested) → ((s : Shell) → s ∈ ss → FewFaces bound (s .faces))
+    → nested answers ss ≡ ok ns → (n : Nested) → n ∈ ns → FewFaces bound (n .shell .faces)
+nested-few answers bound ss ns few =
+    each-has (nest answers (outers ss)) (λ (n : Nested). FewFaces bound (n .shell .faces)) ss ns
+    (λ s n m e. subst (λ (u : Shell). FewFaces bound (u .faces)) (sym (nest-shell answers (outers ss) s n e)) (few s m))
+
+pub lumps-few : (bound : ℕ) (ns : List Nested) → ((n : Nested) → n ∈ ns → FewFaces bound (n .shell .faces))
+    → (lump : List (List ℕ)) → lump ∈ lumps ns → (shell : List ℕ) → shell ∈ lump → FewFaces bound shell
 unfolding lumps
 lumps-few bound ns all lump m shell k =
     let a = map-in (lumpOf ns) (keep (λ (n : Nested). n .shell .outer) ns) lump m in
     let n : Nested = a .0 in
     ⊎-elim
-    (λ e. subst (Below bound) (sym e) (all n (keep-in (λ (n : Nested). n .shell .outer) ns n (a .1) .0)))
+    (λ e. subst (FewFaces bound) (sym e) (all n (keep-in (λ (n : Nested). n .shell .outer) ns n (a .1) .0)))
     (λ i.
     let b = map-in (λ (n : Nested). n .shell .faces) (keep _ ns) shell i in
-    subst (Below bound) (sym (b .2)) (all (b .0) (keep-in _ ns (b .0) (b .1) .0)))
+    subst (FewFaces bound) (sym (b .2)) (all (b .0) (keep-in _ ns (b .0) (b .1) .0)))
     (List·Memᴰ·cases-cons (subst (λ l. shell ∈ l) (a .2) k))
+
+-- there are at most as many lumps as shells, and as many shells as boundaries
+pub lumps-count : (answers : List Answer) (proven : ℕ) (boundaries groups : List ℕ) (ss : List Shell) (ns : List Nested) → shells answers proven (allShellFaces boundaries groups) ≡ ok ss
+    → nested answers ss ≡ ok ns → length (lumps ns) ≤ length boundaries
+unfolding lumps
+lumps-count answers proven boundaries groups ss ns p q =
+    omega (
+      arith,
+      length-map (keep (λ (n : Nested). n .shell .outer) ns) (lumpOf ns),
+      keep-length (λ (n : Nested). n .shell .outer) ns,
+      each-length (nest answers (outers ss)) ss ns q,
+      each-length (orientShell answers proven) (allShellFaces boundaries groups) ss p,
+      length-map (lowestMembers boundaries) (shellFaces boundaries (lowestMembers groups)),
+      keep-length (isLowest boundaries) (below (length boundaries)),
+      length-below (length boundaries),
+    )
 
 -- A BODY
 
@@ -296,7 +373,7 @@ met-few (e ∷ es) met =
     omega (arith, met-few es (meet (meet met (e .start)) (e .end)), meet-few (meet met (e .start)) (e .end), meet-few met (e .start))
 
 vertex-low : (met : List ℕ) (v : ℕ) → length met < 4294967296 → Low (vertexOf met v)
-vertex-low met v h = ⊎-elim (λ t. rw t (omega arith)) (λ t. rw t (omega (arith, position-most (eqb v) met))) (both-ways (eqb v unset))
+vertex-low met v h = ⊎-elim (λ t. rw t (omega arith)) (λ t. rw t (omega (arith, position-le (eqb v) met))) (both-ways (eqb v unset))
 
 module _ (fs : List Face) (actives : List ℕ) (ls : List FaceLoop) (ks : List KeptVertexLoop) where
   faces-are : (k : ℕ) (members : List ℕ) (f : BodyFace) → f ∈ bodyFaces fs actives ls ks k members → (n : ℕ) × (m : ℕ) × (f ≡ bodyFace fs actives ls ks n m)
@@ -316,7 +393,7 @@ module _ (fs : List Face) (actives : List ℕ) (ls : List FaceLoop) (ks : List K
       let a = map-in (λ (l : FaceLoop). map (renumbered actives) (l .items)) (keep (λ (l : FaceLoop). eqb (l .face) n) ls) xs i in
       let b = map-in (renumbered actives) (a .0 .items) x (subst (λ l. x ∈ l) (a .2) k) in
       let y : Item = b .0 in
-      subst (λ (z : Item). Low (z .edge)) (sym (b .2)) (omega (arith, position-most (eqb (y .edge)) actives))
+      subst (λ (z : Item). Low (z .edge)) (sym (b .2)) (omega (arith, position-le (eqb (y .edge)) actives))
 
   face-points : ((k : KeptVertexLoop) → k ∈ ks → Low (k .point)) → (n m : ℕ) → Below 4294967296 (bodyFace fs actives ls ks n m .points)
   unfolding bodyFace
@@ -326,11 +403,11 @@ module _ (fs : List Face) (actives : List ℕ) (ls : List FaceLoop) (ks : List K
 
 -- a body of narrow parts
 solid-low : (totals : Totals) (fs : List Face) (starts : List ℕ) (es : List EdgeData) (ls : List FaceLoop) (members : List ℕ) (ks : List KeptVertexLoop) (lumps : List (List (List ℕ)))
-    → Small totals → ((g : Face) → g ∈ fs → Low (g .surface)) → Below 4294967296 starts → CurvesLow es → length es < 1000000 → ((k : KeptVertexLoop) → k ∈ ks → Low (k .point))
+    → Small totals → ((g : Face) → g ∈ fs → Low (g .surface)) → Below 4294967296 starts → LowEdges es → length es < 1000000 → ((k : KeptVertexLoop) → k ∈ ks → Low (k .point))
     → ((lump : List (List ℕ)) → lump ∈ lumps → (shell : List ℕ) → shell ∈ lump → Below 4294967296 shell)
     → LowBody (solidBody totals fs starts es ls members ks lumps)
 unfolding solidBody
-solid-low totals fs starts es ls members ks lumps S surfaces points curves few kept shell =
+solid-low totals fs starts es ls members ks lumps S surfaces points edges few kept shell =
     let met : List ℕ = metFans (stillActive es) in
     let live : length (stillActive es) ≤ length es = keep-length (λ (e : EdgeData). e .active) es in
     let most : length met < 4294967296 = omega (arith, met-few (stillActive es) []) in
@@ -343,7 +420,7 @@ solid-low totals fs starts es ls members ks lumps S surfaces points curves few k
           let a = map-in (withVertices met) (stillActive es) e m in
           let d : EdgeData = a .0 in
           subst (λ (x : Edge). Low (x .curve) × Low (x .start) × Low (x .end)) (sym (a .2))
-          (curves d (keep-in (λ (e : EdgeData). e .active) es d (a .1) .0), vertex-low met (d .start) most, vertex-low met (d .end) most);
+          (edges d (keep-in (λ (e : EdgeData). e .active) es d (a .1) .0) .curve, vertex-low met (d .start) most, vertex-low met (d .end) most);
       surfaces = λ f m. let a = faces-are fs actives ls ks 0 members f m in subst (λ (x : BodyFace). Low (x .surface)) (sym (a .2)) (face-surface fs actives ls ks surfaces (a .0) (a .1));
       items = λ f m.
           let a = faces-are fs actives ls ks 0 members f m in
@@ -357,20 +434,6 @@ solid-low totals fs starts es ls members ks lumps S surfaces points curves few k
 -- kind and fields of a record fit their bytes
 abbrev pub Narrow : Record → Type 0
 Narrow r = (r .kind < 65536) × Below 4294967296 (r .fields)
-
-one-low : (a : ℕ) (l : List ℕ) → Low a → Below 4294967296 l → Below 4294967296 (a ∷ l)
-one-low a l h b x m = ⊎-elim (λ e. subst Low (sym e) h) (b x) (List·Memᴰ·cases-cons m)
-
-none-low : Below 4294967296 []
-none-low x m = absurd (List·Memᴰ·not-nil m)
-
-sense-low : (s : Sense) → Low (senseNumber s)
-sense-low Same = omega arith
-sense-low Reversed = omega arith
-
-kind-low : (t : Bool) → Low (bodyKind t)
-kind-low true = omega arith
-kind-low false = omega arith
 
 face-narrow : (f : BodyFace) → Low (f .surface) → ((xs : List Item) → xs ∈ f .loops → (x : Item) → x ∈ xs → Low (x .edge)) → Below 4294967296 (f .points)
     → (r : Record) → r ∈ faceRecords f → Narrow r
@@ -423,7 +486,10 @@ records-narrow b L r m =
     let a = map-in edgeRecord (b .edges) r k in
     let e : Edge = a .0 in
     let h = L .edges e (a .1) in
-    subst Narrow (sym (a .2)) (omega arith, one-low (e .curve) _ (h .0) (one-low (senseNumber (e .sense)) _ (sense-low (e .sense)) (one-low (e .start) _ (h .1) (one-low (e .end) [] (h .2) none-low)))))
+    subst Narrow (sym (a .2)) (
+      omega arith,
+      one-low (e .curve) _ (h .0) (one-low (senseNumber (e .sense)) _ (sense-low (e .sense)) (one-low (e .start) _ (h .1) (one-low (e .end) [] (h .2) none-low))),
+    ))
     (λ k. ⊎-elim
     (λ q. let a = flatMap-in faceRecords (b .faces) r q in face-narrow (a .0) (L .surfaces (a .0) (a .1)) (L .items (a .0) (a .1)) (L .points (a .0) (a .1)) r (a .2))
     (λ q. let a = flatMap-in lumpRecords (b .lumps) r q in lump-narrow (a .0) (L .lumps (a .0) (a .1)) r (a .2))
@@ -456,11 +522,7 @@ joined-walks t j x e =
     (c .0, c .1)
 
 pub faces-few : (job : List ℕ) (j : Job) → loaded job ≡ ok j → length (j .faces) ≤ 256
-faces-few job j l =
-    let r = bind-ok (loading job) _ j l in
-    let c = loading-counted job (r .0) (r .1) in
-    let e : r .0 .job ≡ j = ok-one (r .2) in
-    subst (λ (x : Job). length (x .faces) ≤ 256) e (omega (arith, c .0 .faces, c .1 .faces))
+faces-few job j l = let c = loaded-limits job j l in omega (arith, c .1 .faces, c .2 .faces)
 
 module _ (t : Table) (job : List ℕ) (bytes : Below 256 job) (j : Job) (l : loaded job ≡ ok j) (w : Walked) (q : walked (withTable t) j ≡ ok w) where
   S : Settled t j w
@@ -472,7 +534,7 @@ module _ (t : Table) (job : List ℕ) (bytes : Below 256 job) (j : Job) (l : loa
   L : LowJob j
   L = loaded-low job j bytes l
 
-  -- joining starts with few edges, of low curves
+  -- joining starts with few edges
   pub start-few : length (unjoined j (fansOf j w) .edges) ≤ 2048
   unfolding unjoined fansOf
   start-few =
@@ -485,11 +547,39 @@ module _ (t : Table) (job : List ℕ) (bytes : Below 256 job) (j : Job) (l : loa
         G .few,
       )
 
-  pub start-curves : CurvesLow (unjoined j (fansOf j w) .edges)
+  -- the merged groups are few
+  pub groups-few : length (w .merge .groups) ≤ 256
+  groups-few = omega (arith, merge-groups-length t (j .answers) (j .faces) (usesOf j) (w .twins) (w .merge) (S .surfaces), faces-few job j l)
+
+  -- merged faces and fans have four bytes
+  pub number-low : (f : ℕ) → Low (getD (mergedFaces (w .merge)) f 0)
+  number-low f = omega (arith, groupNumbers-within (w .merge .groups) f, groups-few)
+
+  pub label-low : (h : ℕ) → Low (labelOf (fanLabels j w) h)
+  label-low h = omega (arith, label-within (fan-lowest j w G) h, fan-size j w G, G .few)
+
+  fan-low : (e : Edge) (h : ℕ) → Low (fanOrNone e (fanLabels j w) h)
+  fan-low e h = ⊎-elim (λ t. rw t (omega arith)) (λ t. rw t (label-low h)) (both-ways (ring e))
+
+  -- the edges where joining starts are low
+  pub start-low : LowEdges (unjoined j (fansOf j w) .edges)
   unfolding unjoined fansOf edgeData
-  start-curves e m =
-      let a = map-in (edgeData (j .edges) (w .uses) (w .twins) (mergedFaces (w .merge)) (w .successors) (fansOf j w .fans)) (lowerUses (w .twins) (w .merge .removed)) e m in
-      subst (λ (d : EdgeData). Low (d .curve)) (sym (a .2)) (at-has (λ (d : Edge). Low (d .curve)) (j .edges) (useAt (w .uses) (a .0) .edge) noEdge (omega arith) (L .curves))
+  start-low e m =
+      let a = map-in (edgeFor j w) (lowers w) e m in
+      let h : ℕ = a .0 in
+      let d : Edge = edgeOfUse (j .edges) (useAt (w .uses) h) in
+      let s : Sense = useAt (w .uses) h .sense in
+      let x : ℕ = mergedFaceOf (w .uses) (mergedFaces (w .merge)) h in
+      let y : ℕ = mergedFaceOf (w .uses) (mergedFaces (w .merge)) (twinOf (w .twins) h) in
+      let low-x : Low x = number-low (faceOfUse (w .uses) h) in
+      let low-y : Low y = number-low (faceOfUse (w .uses) (twinOf (w .twins) h)) in
+      subst LowEdge (sym (a .2)) (record {
+        curve = at-has (λ (d : Edge). Low (d .curve)) (j .edges) (useAt (w .uses) h .edge) noEdge (omega arith) (L .curves);
+        start = own-low s (fan-low d h) (fan-low d (successor (w .successors) h)) .0;
+        end = own-low s (fan-low d h) (fan-low d (successor (w .successors) h)) .1;
+        two = refl;
+        faces = one-low (min x y) (max x y ∷ []) (omega arith) (one-low (max x y) [] (omega arith) none-low);
+      })
 
   pub names-few : length (fansOf j w .names) ≤ 2048
   unfolding fansOf
@@ -502,25 +592,34 @@ module _ (t : Table) (job : List ℕ) (bytes : Below 256 job) (j : Job) (l : loa
       let a = map-in (λ u. getD (j .points) _ 0) (w .uses) x m in
       subst Low (sym (a .2)) (below-at 4294967296 (j .points) _ (omega arith) (L .points))
 
-  pub body-low : (x : Joined) (ss : List Shell) (ns : List Nested) → throughJoining (withTable t) j ≡ ok x → shellsOf j (x .fan .walk) ≡ ok ss → nested (j .answers) ss ≡ ok ns → LowBody (bodyOf j x ns)
+  -- the edges where joining ends are few and low
+  pub ended-few : (s : Joining) → maximalEdges (j .answers) (fansOf j w .starts) (fansOf j w .names) (length (fansOf j w .names)) (unjoined j (fansOf j w)) ≡ ok s → length (s .edges) ≤ 4096
+  ended-few s e =
+      let n : ℕ = length (unjoined j (fansOf j w) .edges) in
+      let c = joining-count (j .answers) (fansOf j w .starts) (fansOf j w .names) (length (fansOf j w .names)) n (unjoined j (fansOf j w)) s e (omega (arith, no-counts j (fansOf j w) .0)) in
+      omega (arith, c, start-few, totals-small t job j w l S s e .joins)
+
+  pub ended-low : (s : Joining) → maximalEdges (j .answers) (fansOf j w .starts) (fansOf j w .names) (length (fansOf j w .names)) (unjoined j (fansOf j w)) ≡ ok s → LowEdges (s .edges)
+  ended-low s e = joining-low (j .answers) (fansOf j w .starts) (fansOf j w .names) (length (fansOf j w .names)) (unjoined j (fansOf j w)) s e start-low
+
+  pub body-low : (x : Joined) (ss : List Shell) (ns : List Nested) → throughJoining (withTable t) j ≡ ok x → shellsOf j (x .fan .walk) ≡ ok ss → nested (j .answers) ss ≡ ok ns
+      → LowBody (bodyOf j x ns)
   unfolding bodyOf fansOf
   body-low x ss ns e f g =
       let r = through-joined t j w x q e in
       let s : Joining = r .0 in
-      let grown = joining-grown (j .answers) (fansOf j w .starts) (fansOf j w .names) (length (fansOf j w .names)) (unjoined j (fansOf j w)) s (r .2) in
       let shells-are : shellsOf j w ≡ ok ss = ap (λ (y : Joined). shellsOf j (y .fan .walk)) (sym (r .1)) ∙ f in
-      let groups : length (w .merge .groups) ≤ 256 =
-      omega (arith, merge-groups-length t (j .answers) (j .faces) (usesOf j) (w .twins) (w .merge) (S .surfaces), faces-few job j l) in
-      let each = nested-few (j .answers) (j .proven) (w .merge .boundaries) (w .merge .groups) ss ns shells-are g in
+      let n : ℕ = length (w .merge .groups) in
+      let each = nested-few (j .answers) n ss ns (shells-few (j .answers) (j .proven) (w .merge .boundaries) (w .merge .groups) ss shells-are) g in
       subst (λ (y : Joined). LowBody (bodyOf j y ns)) (sym (r .1))
       (solid-low (totalsOf w s) (j .faces) (fansOf j w .starts) (s .edges) (s .loops) (lowestMembers (w .merge .groups)) (w .vertexLoops) (lumps ns)
       (totals-small t job j w l S s (r .2))
       (L .surfaces)
       starts-low
-      (grown .curves start-curves)
-      (omega (arith, grown .count, start-few, names-few))
+      (ended-low s (r .2))
+      (omega (arith, ended-few s (r .2)))
       (kept-points (j .answers) (j .points) (mergedFaces (w .merge)) (j .loops) (w .vertexLoops) (L .points) (S .vertices))
-      (λ lump m shell k v i. let a = lumps-few (length (w .merge .groups)) ns each lump m shell k v i in omega arith))
+      (λ lump m shell k v i. let a = lumps-few n ns each lump m shell k .0 v i in omega (arith, a, groups-few)))
 
 -- each number of a body that rebuilding gives for a job of bytes has four bytes
 pub rebuilt-low : (t : Table) (job : List ℕ) (j : Job) (b : Body) → Below 256 job → loaded job ≡ ok j → rebuild (withTable t) j ≡ ok b → LowBody b

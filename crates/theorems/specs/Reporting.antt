@@ -126,22 +126,35 @@ body-totals j x ns = refl
 
 -- THROUGH JOINING
 
+-- the fans are those of the walks
+pub fanned-walks : (rules : Rules) (j : Job) (f : Fanned) → fanned rules j ≡ ok f → (w : Walked) × (walked rules j ≡ ok w) × (f ≡ fansOf j w)
+unfolding fanned
+fanned-walks rules j f e =
+    let a = bind-ok (walked rules j) _ f e in
+    let w : Walked = a .0 in
+    let b = bind-ok (edgesClear 30 (w .uses) (w .twins) (w .merge .boundaries) (length (j .edges))) _ f (a .2) in
+    (w, a .1, sym (ok-one (b .2)))
+
+-- the edges and loops are those of the fans of the walks
+pub edged-walks : (rules : Rules) (j : Job) (x : Joined) → edged rules j ≡ ok x
+    → (w : Walked) × (walked rules j ≡ ok w) × (x ≡ record { fan = fansOf j w; joining = unjoined j (fansOf j w) })
+unfolding edged
+edged-walks rules j x e =
+    let a = bind-ok (fanned rules j) _ x e in
+    let f : Fanned = a .0 in
+    let b = bind-ok (pointsClear 31 (f .walk .uses) (f .starts) (f .walk .merge .boundaries) (f .names)) _ x (a .2) in
+    let c = fanned-walks rules j f (a .1) in
+    (c .0, c .1, sym (ok-one (b .2)) ∙ ap (λ (z : Fanned). record { fan = z; joining = unjoined j z }) (c .2))
+
 -- with the walks w, edge joining starts from their fans, edges and loops
 pub through-joined : (t : Table) (j : Job) (w : Walked) (x : Joined) → walked (withTable t) j ≡ ok w → throughJoining (withTable t) j ≡ ok x
     → (s : Joining) × (x ≡ record { fan = fansOf j w; joining = s })
     × (maximalEdges (j .answers) (fansOf j w .starts) (fansOf j w .names) (length (fansOf j w .names)) (unjoined j (fansOf j w)) ≡ ok s)
-unfolding throughJoining edged fanned
+unfolding throughJoining
 through-joined t j w x q e =
     let a = bind-ok (edged (withTable t) j) _ x e in
-    let b = bind-ok (fanned (withTable t) j) _ (a .0) (a .1) in
-    let f : Fanned = b .0 in
-    let c = bind-ok (pointsClear 31 (f .walk .uses) (f .starts) (f .walk .merge .boundaries) (f .names)) _ (a .0) (b .2) in
-    let d = bind-ok (walked (withTable t) j) _ f (b .1) in
-    let v : Walked = d .0 in
-    let g = bind-ok (edgesClear 30 (v .uses) (v .twins) (v .merge .boundaries) (length (j .edges))) _ f (d .2) in
-    let fan : f ≡ fansOf j w = sym (ok-one (g .2)) ∙ ap (fansOf j) (ok-one (sym (d .1) ∙ q)) in
-    let y : a .0 ≡ record { fan = fansOf j w; joining = unjoined j (fansOf j w) } = sym (ok-one (c .2)) ∙ ap (λ (z : Fanned). record { fan = z; joining = unjoined j z }) fan in
-    through (a .0) y (a .2)
+    let c = edged-walks (withTable t) j (a .0) (a .1) in
+    through (a .0) (c .2 ∙ ap (λ (v : Walked). record { fan = fansOf j v; joining = unjoined j (fansOf j v) }) (ok-one (sym (c .1) ∙ q))) (a .2)
   where
     through : (y : Joined) → y ≡ record { fan = fansOf j w; joining = unjoined j (fansOf j w) }
         → (maximalEdges (j .answers) (y .fan .starts) (y .fan .names) (length (y .fan .names)) (y .joining) >>= λ s. ok (record { fan = y .fan; joining = s })) ≡ ok x

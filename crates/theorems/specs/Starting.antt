@@ -97,12 +97,13 @@ module _ (j : Job) (w : Walked) (G : Ground j w) (F : FansHold j w) (E : EdgesHo
       let c : Closes w (r .0) = G .walks .unbroken .closes (r .0) (r .1) in
       record { start = c .start; more = c .more; kept = c .kept; runs = r .2 ∙ ap circuitUses (c .runs); back = c .back }
 
-  loop-kept : (hs : List ℕ) → hs ∈ loops → (u : ℕ) → u ∈ hs → KeptUse w u
+  -- the uses of a loop are kept, and none stands in it twice
+  pub loop-kept : (hs : List ℕ) → hs ∈ loops → (u : ℕ) → u ∈ hs → KeptUse w u
   loop-kept hs m u i =
       let R : Round hs = loop-round hs m in
       orbit-kept (suc (R .more)) (R .start) u (R .kept) (subst (λ l. u ∈ l) (R .runs) i)
 
-  loop-nodup : (hs : List ℕ) → hs ∈ loops → Nodup hs
+  pub loop-nodup : (hs : List ℕ) → hs ∈ loops → Nodup hs
   loop-nodup hs m =
       once-nodup hs
       (λ x. ⊎-elim
