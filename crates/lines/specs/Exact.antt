@@ -3,7 +3,7 @@ use Prim.Native.Nat.{ℕ, zero, _+_, _*_, _/_, _<_, _≤_}
 use native.Mathlib.Nat.{not-suc-le-zero, le-of-suc-le-suc}
 use native.Mathlib.Omega.{arith}
 use mathlib.Core.Path.{_≡_, refl, sym, ap, subst, _∙_}
-use mathlib.Core.Logic.{_⊎_, ⊎-elim}
+use mathlib.Core.Logic.{⊎-elim}
 use mathlib.Core.List.{List, [], _∷_, _++_, flatMap, map, append-assoc, List·Memᴰ·head, List·Memᴰ·tail}
 use mathlib.Core.Bool.{Bool, true, false}
 use lib.ListN.{length, getD, take, drop, length-append}
@@ -21,22 +21,20 @@ use Rattle.rules.specs.Job.{Job}
 use Rattle.rules.specs.Load.{loaded}
 use Rattle.rules.specs.Rules.{Rules}
 use Rattle.rules.specs.Body.{Body, bodyRecords}
-use Rattle.rules.specs.Sew.{rebuild, fitting, sewn, written, Ends}
+use Rattle.rules.specs.Sew.{rebuild, fitting, sewn, Ends}
 use Rattle.rules.specs.Listing.{listingOf, sewnRecords, listing}
 use Rattle.fields.specs.Tabled.{length-bytes32}
 use Rattle.fields.specs.Wrote.{Wrote}
 use Rattle.theorems.specs.Reporting.{field-back}
+use Rattle.theorems.specs.Narrow.{Below}
+use Rattle.theorems.specs.Shapes.{Shaped, AllShaped}
 use Rattle.lines.specs.Cut.{cut-put}
 use Rattle.lines.specs.Text.{recordAt, recordSize, recordsIn, recorded, rowLength, rowAt, rowSize, rowsIn}
 use Rattle.lines.specs.LineLaws.{record-some, row-some}
 
 -- FIELDS
 
--- numbers that four bytes hold
-abbrev pub Narrow : List ℕ → Type 0
-Narrow fs = (v : ℕ) → v ∈ fs → v < 4294967296
-
-pub fields-back : (fs more : List ℕ) → Narrow fs → fieldsIn (length fs) (fieldBytes fs ++ more) ≡ fs
+pub fields-back : (fs more : List ℕ) → Below 4294967296 fs → fieldsIn (length fs) (fieldBytes fs ++ more) ≡ fs
 unfolding fieldsIn flatMap
 fields-back [] more h = refl
 fields-back (v ∷ fs) more h =
@@ -52,7 +50,7 @@ fields-back (v ∷ fs) more h =
 pub record Fits (r : Record) : Type 0 where
   pub kind : r .kind < 65536
   pub size : 4 * length (r .fields) < 4294967296
-  pub fields : Narrow (r .fields)
+  pub fields : Below 4294967296 (r .fields)
 
 framed-is : (r : Record) (more : List ℕ) → framed r ++ more ≡ bytes32 (4 * length (r .fields)) ++ (bytes16 (r .kind) ++ (fieldBytes (r .fields) ++ more))
 unfolding framed
@@ -145,13 +143,7 @@ listing-is rules job before after e h n E =
 
 -- ROWS
 
--- a row of `fixed` fields and `counted` more for each that its second field counts
-pub record Shaped (fixed counted : ℕ) (row : List ℕ) : Type 0 where
-  pub shape : length row ≡ fixed + counted * getD row 1 0
-  pub second : (counted ≡ 0) ⊎ (1 < length row)
-  pub fields : Narrow row
-
-second-back : (row more : List ℕ) → Narrow row → 1 < length row → le32 (fieldBytes row ++ more) 4 ≡ getD row 1 0
+second-back : (row more : List ℕ) → Below 4294967296 row → 1 < length row → le32 (fieldBytes row ++ more) 4 ≡ getD row 1 0
 unfolding flatMap
 second-back [] more h lt = absurd (not-suc-le-zero lt)
 second-back (a ∷ []) more h lt = absurd (not-suc-le-zero (le-of-suc-le-suc lt))
@@ -173,7 +165,7 @@ row-length fixed counted row more S =
     (S .second)
 
 -- the rows of a stage are read back from their bytes
-pub rows-back : (fixed counted : ℕ) (rows : List (List ℕ)) → 0 < fixed → ((row : List ℕ) → row ∈ rows → Shaped fixed counted row) → rowsIn fixed counted (flatMap fieldBytes rows) ≡ rows
+pub rows-back : (fixed counted : ℕ) (rows : List (List ℕ)) → 0 < fixed → AllShaped fixed counted rows → rowsIn fixed counted (flatMap fieldBytes rows) ≡ rows
 rows-back fixed counted rows h each =
     cut-put (rowAt fixed counted) (rowSize fixed counted) (row-some fixed counted h) fieldBytes rows
     (λ row m more.

@@ -5,3 +5,5 @@ pub mod LineLaws
 pub mod Exact
 pub mod Room
 pub mod Listed
+pub mod StageBytes
+pub mod StageListed

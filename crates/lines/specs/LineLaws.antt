@@ -19,7 +19,8 @@ use Rattle.rules.specs.FieldLaws.{le16-drop, le32-here, le32-drop, length-field
 use Rattle.rules.specs.Frame.{Record}
 use Rattle.rules.specs.Listing.{decimal, wordOf, fieldText, fieldsText, lineOf, refusedWord, listingOf}
 use Rattle.fields.specs.Wrote.{Wrote, wrote-more}
-use Rattle.lines.specs.Text.{fieldTextIn, plainOf, recordAt, recordSize, recordsIn, recorded, rowText, rowLength, rowAt, rowSize, rowsIn, joiningRows, fixedOf, countedOf, stageRows, stageText}
+use Rattle.rules.specs.Rows.{rowText}
+use Rattle.lines.specs.Text.{fieldTextIn, plainOf, recordAt, recordSize, recordsIn, recorded, rowLength, rowAt, rowSize, rowsIn, joiningRows, fixedOf, countedOf, stageRows, stageText}
 use Rattle.lines.specs.Writing.{wrote-same, decimal-short, fields-short}
 
 -- NAMES

@@ -20,10 +20,12 @@ use Rattle.rules.specs.Body.{Body, bodyRecords}
 use Rattle.rules.specs.Sew.{rebuild, fitting, sewn, Ends}
 use Rattle.rules.specs.Listing.{digitsBefore, decimal, wordOf, fieldText, vertexText, fieldsText, lineOf, refusedWord, listingOf, sewnRecords, listing}
 use Rattle.fields.specs.Wrote.{Wrote}
-use Rattle.lines.specs.Text.{recorded, rowText}
+use Rattle.theorems.specs.Narrow.{Below}
+use Rattle.rules.specs.Rows.{rowText}
+use Rattle.lines.specs.Text.{recorded}
 use Rattle.lines.specs.Writing.{wrote-same, decimal-short}
 use Rattle.lines.specs.LineLaws.{name-short}
-use Rattle.lines.specs.Exact.{Narrow, Fits, AllFit, framed-length, listing-is, shown-whole}
+use Rattle.lines.specs.Exact.{Fits, AllFit, framed-length, listing-is, shown-whole}
 
 -- powers of ten
 unfoldable tens : ℕ → ℕ
@@ -61,7 +63,7 @@ vertex-eleven v h =
     (λ e. omega (arith, ap length (cond-false (eqb v unset) (32 ∷ 45 ∷ []) (fieldText v) e), ten-digits v h))
     (both-ways (eqb v unset))
 
-all-eleven : (text : ℕ → List ℕ) → ((v : ℕ) → v < 4294967296 → length (text v) ≤ 11) → (fs : List ℕ) → Narrow fs → length (flatMap text fs) ≤ 11 * length fs
+all-eleven : (text : ℕ → List ℕ) → ((v : ℕ) → v < 4294967296 → length (text v) ≤ 11) → (fs : List ℕ) → Below 4294967296 fs → length (flatMap text fs) ≤ 11 * length fs
 unfolding flatMap
 all-eleven text short [] h = omega arith
 all-eleven text short (f ∷ fs) h =
@@ -70,7 +72,7 @@ all-eleven text short (f ∷ fs) h =
 -- THE ROWS OF A STAGE
 
 -- a row has at most eleven characters a field, with the blank or the line's end after it
-pub row-eleven : (row : List ℕ) → Narrow row → 0 < length row → length (rowText row) ≤ 11 * length row
+pub row-eleven : (row : List ℕ) → Below 4294967296 row → 0 < length row → length (rowText row) ≤ 11 * length row
 unfolding rowText
 row-eleven [] h lt = absurd (omega arith)
 row-eleven (f ∷ fs) h lt =
@@ -78,7 +80,7 @@ row-eleven (f ∷ fs) h lt =
 
 -- THE LINES OF A BODY
 
-edge-eleven : (fs : List ℕ) → Narrow fs → length (flatMap fieldText (take 2 fs) ++ flatMap vertexText (drop 2 fs)) ≤ 11 * length fs
+edge-eleven : (fs : List ℕ) → Below 4294967296 fs → length (flatMap fieldText (take 2 fs) ++ flatMap vertexText (drop 2 fs)) ≤ 11 * length fs
 unfolding flatMap
 edge-eleven [] h = omega arith
 edge-eleven (a ∷ []) h = omega (arith, length-append (fieldText a ++ []) [], length-append (fieldText a) [], ten-digits a (h a (List·Memᴰ·head refl)))
@@ -86,7 +88,7 @@ edge-eleven (a ∷ b ∷ fs) h =
     let x : List ℕ = fieldText a ++ (fieldText b ++ []) in
     omega (arith, length-append x (flatMap vertexText fs), length-append (fieldText a) (fieldText b ++ []), length-append (fieldText b) [], ten-digits a (h a (List·Memᴰ·head refl)), ten-digits b (h b (List·Memᴰ·tail (List·Memᴰ·head refl))), all-eleven vertexText vertex-eleven fs (λ v m. h v (List·Memᴰ·tail (List·Memᴰ·tail m))))
 
-fields-eleven : (r : Record) → Narrow (r .fields) → length (fieldsText r) ≤ 11 * length (r .fields)
+fields-eleven : (r : Record) → Below 4294967296 (r .fields) → length (fieldsText r) ≤ 11 * length (r .fields)
 unfolding fieldsText
 fields-eleven r h =
     let edge : List ℕ = flatMap fieldText (take 2 (r .fields)) ++ flatMap vertexText (drop 2 (r .fields)) in
@@ -129,7 +131,7 @@ sewn-within rules job room = from-job (loaded job)
     from-job (ok j) = from-body (rebuild rules j)
     from-job (refuse n p) = tt
 
-refusal-short : (number place : ℕ) → length (listingOf (refuse number place)) ≤ 50
+pub refusal-short : (number place : ℕ) → length (listingOf (refuse number place)) ≤ 50
 refusal-short number place =
     let a : List ℕ = fieldText place ++ (10 ∷ []) in
     omega (arith, length-append refusedWord (fieldText number ++ a), length-append (fieldText number) a, length-append (fieldText place) (10 ∷ []), decimal-short number, decimal-short place)

@@ -10,7 +10,8 @@ use Rattle.rules.specs.declared.Ending.the-variants.{Written, Refused}
 use Rattle.rules.specs.Outcome.{Outcome, ok, refuse}
 use Rattle.rules.specs.Fields.{le16, le32, fieldsIn}
 use Rattle.rules.specs.Frame.{Record}
-use Rattle.rules.specs.Listing.{decimal, fieldText, vertexText, listingOf}
+use Rattle.rules.specs.Listing.{fieldText, vertexText, listingOf}
+use Rattle.rules.specs.Rows.{rowText}
 use Rattle.lines.specs.Cut.{cutAll}
 
 -- a field after a blank; where it is a vertex, `-` for none
@@ -39,11 +40,6 @@ recorded out (Written n) = ok (recordsIn (take n out))
 recorded out (Refused number place) = refuse number place
 
 -- THE ROWS OF A STAGE
-
--- a row in decimal, with a blank between two fields
-unfoldable pub rowText : List ℕ → List ℕ
-rowText [] = 10 ∷ []
-rowText (f ∷ fs) = decimal f ++ (flatMap fieldText fs ++ (10 ∷ []))
 
 -- how many fields the row at the front has: `fixed`, and `counted` more for each that its second field counts
 unfoldable pub rowLength : ℕ → ℕ → List ℕ → ℕ

@@ -13,7 +13,8 @@ ghost use Rattle.rules.specs.Outcome.{refuse};
 ghost use Rattle.rules.specs.Fields.{fieldsIn};
 ghost use Rattle.rules.specs.Listing.{decimal, wordOf, lineOf, listingOf};
 ghost use Rattle.fields.specs.Wrote.{Wrote};
-ghost use Rattle.lines.specs.Text.{fieldTextIn, plainOf, recordAt, recordsIn, recorded, rowText, rowsIn, joiningRows, stageRows, stageText, fixedOf, countedOf, stageNumber};
+ghost use Rattle.rules.specs.Rows.{rowText};
+ghost use Rattle.lines.specs.Text.{fieldTextIn, plainOf, recordAt, recordsIn, recorded, rowsIn, joiningRows, stageRows, stageText, fixedOf, countedOf, stageNumber};
 
 // BYTES AND NUMBERS
 

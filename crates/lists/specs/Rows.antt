@@ -5,10 +5,10 @@ use native.Mathlib.Numerals.{add-one}
 use native.Mathlib.Omega.{arith}
 use mathlib.Core.Path.{_≡_, refl, sym, ap, _∙_}
 use mathlib.Core.Logic.{⊎-elim}
-use mathlib.Core.List.{List, [], _∷_, _++_, map, flatMap, append-nil}
+use mathlib.Core.List.{List, [], _∷_, _++_, map, flatMap, append-nil, List·Memᴰ·head, List·Memᴰ·tail}
 use mathlib.Core.Bool.{Bool, cond}
 use lib.ListN.{length, getD, length-append}
-use Rattle.lists.specs.Lists.{below, keep}
+use Rattle.lists.specs.Lists.{_∈_, below, keep}
 use Rattle.lists.specs.Tests.{both-ways, cond-true, cond-false}
 use Rattle.lists.specs.Runs.{below-snoc}
 use Rattle.lists.specs.Members.{flatMap-append, keep-yes, keep-no}
@@ -37,12 +37,23 @@ module _ {A B : Type 0} where
       ap (flatMap f) (table-is (λ i. getD l i d) l (length l) d refl (λ i h. refl)) ∙ flatMap-map f (λ i. getD l i d) (below (length l))
 
   -- rows of one length
-  pub flatMap-even : (f : A → List B) (m : ℕ) (l : List A) → ((x : A) → length (f x) ≡ m) → length (flatMap f l) ≡ m * length l
+  pub flatMap-each : (f : A → List B) (m : ℕ) (l : List A) → ((x : A) → x ∈ l → length (f x) ≡ m) → length (flatMap f l) ≡ m * length l
   unfolding flatMap
-  flatMap-even f m [] each = omega arith
-  flatMap-even f m (x ∷ l) each = length-append (f x) (flatMap f l) ∙ (λ t. each x t + flatMap-even f m l each t) ∙ add-comm m (m * length l) ∙ sym (mul-suc m (length l))
+  flatMap-each f m [] each = omega arith
+  flatMap-each f m (x ∷ l) each =
+      length-append (f x) (flatMap f l) ∙ (λ t. each x (List·Memᴰ·head refl) t + flatMap-each f m l (λ y i. each y (List·Memᴰ·tail i)) t)
+      ∙ add-comm m (m * length l) ∙ sym (mul-suc m (length l))
+
+  pub flatMap-even : (f : A → List B) (m : ℕ) (l : List A) → ((x : A) → length (f x) ≡ m) → length (flatMap f l) ≡ m * length l
+  flatMap-even f m l each = flatMap-each f m l (λ x i. each x)
 
 module _ {B : Type 0} where
+  -- rows of one member each are the members
+  pub flatMap-single : (l : List B) → flatMap (λ x. x ∷ []) l ≡ l
+  unfolding flatMap
+  flatMap-single [] = refl
+  flatMap-single (x ∷ l) = ap (λ r. x ∷ r) (flatMap-single l)
+
   -- one row more
   pub rows-more : (f : ℕ → List B) (i : ℕ) → flatMap f (below (i + 1)) ≡ flatMap f (below i) ++ f i
   unfolding flatMap

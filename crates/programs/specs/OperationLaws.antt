@@ -8,7 +8,7 @@ use Rattle.rules.specs.Outcome.{Outcome}
 use Rattle.rules.specs.Rules.{ordinary}
 use Rattle.rules.specs.Sew.{sewn, Ends}
 use Rattle.rules.specs.Stage.{readStage, pairStage, mergeStage, vertexLoopStage, walkStage, loopStage, fanStage, edgeStage, joiningStage, shellStage, lumpStage}
-use Rattle.programs.specs.Operation.{operation}
+use Rattle.rules.specs.Operation.{operation}
 
 -- the ending of an operation, by its number
 pub ends-by : (k : ℕ) (f : List ℕ → ℕ → Outcome (List ℕ)) (job before after : List ℕ) (e : Ending) → f ≡ operation k → Ends (f job (length before)) before after e → Ends (operation k job (length before)) before after e

@@ -2,7 +2,7 @@
 use rules::Ending;
 ghost use lib.ListN.{length};
 ghost use Rattle.rules.specs.Sew.{Ends};
-ghost use Rattle.programs.specs.Operation.{operation};
+ghost use Rattle.rules.specs.Operation.{operation};
 
 // What became of a reading: a read that failed, or so many bytes at the buffer's start.
 pub enum Input {

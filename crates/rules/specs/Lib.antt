@@ -29,6 +29,7 @@ pub mod Sew
 pub mod Stage
 pub mod Listing
 pub mod Rows
+pub mod Operation
 pub mod Open
 pub mod Tables
 pub mod Parts

@@ -100,23 +100,10 @@ abbrev pub rowsListing : Outcome (List (List ℕ)) → List ℕ
 rowsListing (ok rows) = flatMap rowText rows
 rowsListing (refuse number place) = listingOf (refuse number place)
 
+-- the rows of the stages by their numbers from 1 to 11
+abbrev pub allRows : List (Rules → Job → Outcome (List (List ℕ)))
+allRows = readRows ∷ pairRows ∷ mergeRows ∷ vertexLoopRows ∷ walkRows ∷ loopRows ∷ fanRows ∷ edgeRows ∷ joiningRows ∷ shellRows ∷ lumpRows ∷ []
+
 -- the lines of a stage by its number: 1 read, 2 pair, 3 merge, 4 vertex-loops, 5 walk, 6 loops, 7 fans, 8 edges, 9 joining, 10 shells, 11 lumps; none by any other
 unfoldable pub stageListing : ℕ → Rules → List ℕ → ℕ → List ℕ
-stageListing stage rules job room =
-    getD
-    ([]
-    ∷ map (λ rowsOf. rowsListing (stagedRows rowsOf rules job room))
-    (readRows
-    ∷ pairRows
-    ∷ mergeRows
-    ∷ vertexLoopRows
-    ∷ walkRows
-    ∷ loopRows
-    ∷ fanRows
-    ∷ edgeRows
-    ∷ joiningRows
-    ∷ shellRows
-    ∷ lumpRows
-    ∷ []))
-    stage
-    []
+stageListing stage rules job room = getD ([] ∷ map (λ rowsOf. rowsListing (stagedRows rowsOf rules job room)) allRows) stage []

@@ -2,7 +2,8 @@ use Rattle.rules.specs.Fields.{fieldsIn}
 use Rattle.fields.specs.Wrote.{Wrote}
 use Rattle.lines.specs.LineLaws.{row-some, row-short, row-is, counted-small}
 use Rattle.lines.specs.Cut.{Going, going-start, going-step, going-end}
-use Rattle.lines.specs.Text.{rowAt, rowSize, rowText}
+use Rattle.rules.specs.Rows.{rowText}
+use Rattle.lines.specs.Text.{rowAt, rowSize}
 use lib.ListN.{length, drop}
 use Prim.Native.Nat.{_+_, _*_, _-_, _/_, _<_, _^_}
 use mathlib.Core.Path.{_≡_, refl, ap, subst, _∙_}

@@ -1,5 +1,6 @@
 use mathlib.Core.List.{flatMap}
-use Rattle.lines.specs.Text.{rowText, stageRows}
+use Rattle.rules.specs.Rows.{rowText}
+use Rattle.lines.specs.Text.{stageRows}
 use Rattle.lines.specs.LineLaws.{stage-edges, stage-joining, stage-other}
 use Rattle.lines.specs.Writing.{wrote-same}
 use mathlib.Core.Path.{ap}
