@@ -21,9 +21,8 @@ fn stage_named() -> usize {
 // Runs a stage on a job and prints its lines.
 fn print_stage(stage: usize, job: &[u8]) {
     let mut out = [0u8; OUT];
-    let ending = programs::operate(stage, job, &mut out);
     let mut page = [0u8; PAGE];
-    let length = lines::put_stage(&mut page, stage, &out, ending);
+    let length = programs::list_stage(stage, job, &mut out, &mut page);
     if !io::write_all(libc::STDOUT_FILENO, lines::front(&page, length)) {
         programs::fail(b"stage", b"standard output");
     }
