@@ -211,10 +211,14 @@ rows-eleven (row ∷ rows) some low =
       rows-eleven rows (λ r m. some r (List·Memᴰ·tail m)) (λ r m. low r (List·Memᴰ·tail m)),
     )
 
--- in 131,072 bytes
+-- rows of 131,072 bytes, or a refusal
 held-small : (stage : ℕ) (o : Outcome (List (List ℕ))) → AllHeld stage 131072 o → length (rowsListing o) ≤ 360448
 held-small stage (ok rows) H = omega (arith, rows-eleven rows (H .some) (H .low), H .within)
 held-small stage (refuse n p) H = omega (arith, refusal-short n p)
+
+-- with 131,072 bytes of output the lines of a stage have at most 360,448 characters
+pub stage-small : (stage : ℕ) (job : List ℕ) → 0 < stage → stage ≤ 11 → Below 256 job → length (stageListing stage ordinary job 131072) ≤ 360448
+stage-small stage job h k b = let K = stage-known stage h k job b 131072 in omega (arith, ap length (K .lines), held-small stage (K .rows) (K .held))
 
 -- a page on which a stage's lines were put: the place after the text, which is at most 360,448, and the whole text where the page has room
 pub record StageLists (stage : ℕ) (job page printed : List ℕ) (r : ℕ) : Type 0 where
@@ -229,10 +233,9 @@ lists-stage stage job before after page printed q e h k b n E w =
     let text : List ℕ = stageListing stage ordinary job 131072 in
     let is : stageText stage after e ≡ text = stage-text stage job before after e h k b E ∙ ap (stageListing stage ordinary job) n in
     let put : Wrote page 0 text printed q = wrote-same page printed (stageText stage after e) text 0 q is w in
-    let K = stage-known stage h k job b 131072 in
     record {
       wrote = put;
-      few = omega (arith, put .1, ap length (K .lines), held-small stage (K .rows) (K .held));
+      few = omega (arith, put .1, stage-small stage job h k b);
       whole = λ le. shown-whole page printed text q put (omega (arith, put .1));
     }
 
