@@ -83,7 +83,8 @@ module _ (t : Links) (y x p k start bound : ℕ) (can : Fusable t y) (ep : p ≡
   next-after = omega (arith, next-is, here-can .next-own .from-start)
 
   -- what stands in the tables when the lent parts are back
-  pub fuse-is : (e : ℕ) (codes nexts head spots stretches : List ℕ) → e ≡ getD (t .stretches) (2 * k + 1) 0 → Turned (stretch (t .codes) start bound) (stretch (t .nexts) start bound) (stretch (t .heads) k (k + 1)) start p x codes nexts head
+  pub fuse-is : (e : ℕ) (codes nexts head spots stretches : List ℕ) → e ≡ getD (t .stretches) (2 * k + 1) 0 → Turned (stretch (t .codes) start bound) (stretch (t .nexts) start bound)
+      (stretch (t .heads) k (k + 1)) start p x codes nexts head
       → spots ≡ set (t .spots) x p → stretches ≡ set (t .stretches) (2 * k + 1) (e - 1)
       → linksOf (putMid start (bound - start) (t .codes) codes) (putMid start (bound - start) (t .nexts) nexts) (putMid k ((k + 1) - k) (t .heads) head) (t .owners) spots stretches ≡ fusedAt t y x
   unfolding fusedIn
@@ -94,7 +95,8 @@ module _ (t : Links) (y x p k start bound : ℕ) (can : Fusable t y) (ep : p ≡
       let ec : putMid start (bound - start) (t .codes) codes ≡ set (t .codes) p x =
       part-set (t .codes) codes start bound p x slot-after (omega (arith, here-can .own .to-end)) lent-codes (w .items) in
       let en : putMid start (bound - start) (t .nexts) nexts ≡ set (t .nexts) p (getD (t .nexts) (getD (t .nexts) p 0) 0) =
-      part-set (t .nexts) nexts start bound p (getD (t .nexts) (getD (t .nexts) p 0) 0) slot-after (omega (arith, here-can .own .to-end)) lent-nexts (w .links ∙ ap (set (stretch (t .nexts) start bound) (p - start)) after) in
+      part-set (t .nexts) nexts start bound p (getD (t .nexts) (getD (t .nexts) p 0) 0) slot-after (omega (arith, here-can .own .to-end)) lent-nexts
+      (w .links ∙ ap (set (stretch (t .nexts) start bound) (p - start)) after) in
       let z : 0 ≡ k - k = omega arith in
       let eh : putMid k ((k + 1) - k) (t .heads) head ≡ set (t .heads) k p =
       part-set (t .heads) head k (k + 1) k p (omega arith) (omega arith) lent-head (w .front ∙ ap (λ i. set (stretch (t .heads) k (k + 1)) i p) z) in
@@ -217,7 +219,8 @@ module _ (t : Links) (linked : Linked t) (k : ℕ) (is : IsLoop (t .stretches) k
     unfolding fusedIn ownEnd
     ends-kept j =
         let e : ℕ = getD (t .stretches) (2 * k + 1) 0 - 1 in
-        (λ i. cond (ltb (2 * j + 3) (length-set (t .stretches) (2 * k + 1) e i)) (getD-set-other (t .stretches) (2 * k + 1) (2 * j + 2) e 0 (λ (z : 2 * j + 2 ≡ 2 * k + 1). omega arith) i) (length-set (t .codes) (place .first) item i))
+        (λ i. cond (ltb (2 * j + 3) (length-set (t .stretches) (2 * k + 1) e i)) (getD-set-other (t .stretches) (2 * k + 1) (2 * j + 2) e 0 (λ (z : 2 * j + 2 ≡ 2 * k + 1). omega arith) i)
+        (length-set (t .codes) (place .first) item i))
 
     own-kept : (j s : ℕ) → Own t j s → Own after j s
     own-kept j s w = record { from-start = omega (arith, w .from-start, start-of j); to-end = omega (arith, w .to-end, ends-kept j) }
@@ -328,7 +331,8 @@ module _ (t : Links) (linked : Linked t) (k : ℕ) (is : IsLoop (t .stretches) k
     fused-in = record {
       linked = linked-now;
       own = ap (codesAt (after .codes)) (stands-in after k (place .first ∷ place .others) stands-now)
-          ∙ (λ j. code-now j ∷ map-same (λ s. getD (after .codes) s 0) (λ s. getD (t .codes) s 0) (place .others) (λ s m. code-other s (λ e. distinct .0 (List·Memᴰ·tail (subst (λ z. z ∈ place .others) e m)))) j)
+          ∙ (λ j. code-now j ∷ map-same (λ s. getD (after .codes) s 0) (λ s. getD (t .codes) s 0) (place .others)
+          (λ s m. code-other s (λ e. distinct .0 (List·Memᴰ·tail (subst (λ z. z ∈ place .others) e m)))) j)
           ∙ ap (λ r. item ∷ r) (place .are-others);
       others = λ j q n.
           ap (codesAt (after .codes)) (stands-in after j (slotsAt t j) (stands-other j q n))

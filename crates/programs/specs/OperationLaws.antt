@@ -11,7 +11,8 @@ use Rattle.rules.specs.Stage.{readStage, pairStage, mergeStage, vertexLoopStage
 use Rattle.rules.specs.Operation.{operation}
 
 -- the ending of an operation, by its number
-pub ends-by : (k : ℕ) (f : List ℕ → ℕ → Outcome (List ℕ)) (job before after : List ℕ) (e : Ending) → f ≡ operation k → Ends (f job (length before)) before after e → Ends (operation k job (length before)) before after e
+pub ends-by : (k : ℕ) (f : List ℕ → ℕ → Outcome (List ℕ)) (job before after : List ℕ) (e : Ending) → f ≡ operation k → Ends (f job (length before)) before after e →
+    Ends (operation k job (length before)) before after e
 ends-by k f job before after e q E = subst (λ g. Ends (g job (length before)) before after e) q E
 
 pub is-1 : (k : ℕ) → k ≡ 1 → readStage ≡ operation k
@@ -58,7 +59,8 @@ pub is-11 : (k : ℕ) → k ≡ 11 → lumpStage ordinary ≡ operation k
 unfolding operation
 is-11 k e = sym (ap operation e)
 
-pub is-sewing : (k : ℕ) → (k ≡ 1 → ⊥) → (k ≡ 2 → ⊥) → (k ≡ 3 → ⊥) → (k ≡ 4 → ⊥) → (k ≡ 5 → ⊥) → (k ≡ 6 → ⊥) → (k ≡ 7 → ⊥) → (k ≡ 8 → ⊥) → (k ≡ 9 → ⊥) → (k ≡ 10 → ⊥) → (k ≡ 11 → ⊥) → sewn ordinary ≡ operation k
+pub is-sewing : (k : ℕ) → (k ≡ 1 → ⊥) → (k ≡ 2 → ⊥) → (k ≡ 3 → ⊥) → (k ≡ 4 → ⊥) → (k ≡ 5 → ⊥) → (k ≡ 6 → ⊥) → (k ≡ 7 → ⊥) → (k ≡ 8 → ⊥) → (k ≡ 9 → ⊥) → (k ≡ 10 → ⊥) → (k ≡ 11 → ⊥) →
+    sewn ordinary ≡ operation k
 unfolding operation
 is-sewing zero n1 n2 n3 n4 n5 n6 n7 n8 n9 n10 n11 = refl
 is-sewing (suc zero) n1 n2 n3 n4 n5 n6 n7 n8 n9 n10 n11 = absurd (n1 refl)

@@ -33,7 +33,8 @@ value-is (ok bytes) = refl
 value-is (refuse number place) = refl
 
 -- an operation's ending, told
-pub told : (o : Outcome (List ℕ)) (before after : List ℕ) (e : Ending) (number value : ℕ) → Ends o before after e → (number ≡ endNumber e) × (value ≡ endValue e) → Numbered o → Tells o before after value number
+pub told : (o : Outcome (List ℕ)) (before after : List ℕ) (e : Ending) (number value : ℕ) → Ends o before after e → (number ≡ endNumber e) × (value ≡ endValue e) → Numbered o →
+    Tells o before after value number
 told o before after e number value E t h = (t .0 ∙ ap endNumber (E .0) ∙ number-is o, t .1 ∙ ap endValue (E .0) ∙ value-is o, E .1, h)
 
 -- an ending by what was told
@@ -64,7 +65,8 @@ pub few-bytes : (out body : List ℕ) → body ≡ take 4294967295 out → lengt
 few-bytes out body e = omega (arith, ap length e ∙ length-take 4294967295 out)
 
 -- the listing by what was told
-pub listed : (page after out body : List ℕ) (e told : Ending) (n : ℕ) → body ≡ out → told ≡ e → Wrote page 0 (listingOf (recorded body told)) after n → Wrote page 0 (listingOf (recorded out e)) after n
+pub listed : (page after out body : List ℕ) (e told : Ending) (n : ℕ) → body ≡ out → told ≡ e → Wrote page 0 (listingOf (recorded body told)) after n → Wrote page 0
+    (listingOf (recorded out e)) after n
 listed page after out body e told n p q w = subst (λ x. Wrote page 0 (listingOf (recorded x e)) after n) p (subst (λ x. Wrote page 0 (listingOf (recorded body x)) after n) q w)
 
 -- what was told is the ending
@@ -77,7 +79,8 @@ ends-told (ok bytes) before after number value T = (sym (ending-written number v
 ends-told (refuse n p) before after number value T =
     (sym (ending-refused number value (λ z. not-zero n (T .3 .listed n p refl) (sym (T .0) ∙ z))) ∙ (λ i. Stopped (T .0 i) (T .1 i)), T .2)
 
-pub lists-answer : (number value : ℕ) (out page printed : List ℕ) (r : ℕ) → Wrote page 0 (listingOf (recorded (take 4294967295 out) (endingOf number value))) printed r → ListsAnswer number value out page printed r
+pub lists-answer : (number value : ℕ) (out page printed : List ℕ) (r : ℕ) → Wrote page 0 (listingOf (recorded (take 4294967295 out) (endingOf number value))) printed r →
+    ListsAnswer number value out page printed r
 lists-answer number value out page printed r w = record {
   text = w;
   records = λ job before bytes few same T.

@@ -47,7 +47,8 @@ pub use-rows : (us : List Use) (n : ℕ) → n ≡ length us → flatMap (useRow
 use-rows us n e = ap (λ k. flatMap (useRow us) (below k)) e ∙ sym (flatMap-places useFields us noUse)
 
 -- the rows of an array of records whose first are the uses
-pub record-rows : (us rs : List Use) (before after : List ℕ) (p n : ℕ) → n ≡ length us → Records us rs (length us) → Rowed (useRow rs) 4 before after p n → Wrote before 0 (fieldBytes (flatMap useFields us)) after p
+pub record-rows : (us rs : List Use) (before after : List ℕ) (p n : ℕ) → n ≡ length us → Records us rs (length us) → Rowed (useRow rs) 4 before after p n → Wrote before 0
+    (fieldBytes (flatMap useFields us)) after p
 record-rows us rs before after p n e k w =
     wrote-same (flatMap (useRow rs) (below n)) (flatMap useFields us) before after 0 p
     (sym (flatMap-map useFields (useAt rs) (below n))
@@ -75,7 +76,8 @@ module _ (rm : List Bool) where
   counted-step k i r e le C =
       let p : ℕ → Bool = (λ h. not (isRemoved rm h)) in
       let more : length (keep p (below (i + 1))) ≡ length (keep p (below i)) + length (keep p (i ∷ [])) =
-      ap (λ n. length (keep p (below n))) (add-one i) ∙ ap (λ l. length (keep p l)) (below-snoc i) ∙ ap length (keep-append p (below i) (i ∷ [])) ∙ length-append (keep p (below i)) (keep p (i ∷ [])) in
+      ap (λ n. length (keep p (below n))) (add-one i) ∙ ap (λ l. length (keep p l)) (below-snoc i) ∙ ap length (keep-append p (below i) (i ∷ [])) ∙ length-append (keep p (below i))
+      (keep p (i ∷ [])) in
       record {
         kept = omega (arith, C .kept, more, keep-cons p i [], keep-none p, e);
         small = omega (arith, C .small);
@@ -97,7 +99,8 @@ module _ (rm : List Bool) where
         (both-ways (not (isRemoved rm h)))
 
     pub walked-removed : (before : List ℕ) (at h : ℕ) → true ≡ isRemoved rm h → Wrote before at (fieldBytes (walkedRow h)) before at
-    walked-removed before at h e = wrote-same [] (walkedRow h) before before at at (sym (cond-false (not (isRemoved rm h)) (walkRow ss ps h) [] (is-not (isRemoved rm h) (sym e)))) (wrote-nothing before at)
+    walked-removed before at h e = wrote-same [] (walkedRow h) before before at at (sym (cond-false (not (isRemoved rm h)) (walkRow ss ps h) [] (is-not (isRemoved rm h) (sym e))))
+        (wrote-nothing before at)
 
     pub walked-kept : (before mid after : List ℕ) (at p q h g k : ℕ) → false ≡ isRemoved rm h → g ≡ successor ss h → k ≡ getD ps h 0
         → Wrote before at (fieldBytes (h ∷ g ∷ [])) mid p → Wrote mid p (bytes32 k) after q → Wrote before at (fieldBytes (walkedRow h)) after q
@@ -160,9 +163,11 @@ module _ (us : List Use) (numbers : List ℕ) where
     loopRow i = roundRow us numbers (loopIn ways t i)
 
     -- as the code cuts it out
-    pub loop-wrote : (before after : List ℕ) (at q i a e : ℕ) → a ≡ getD t (2 * i) 0 → e ≡ getD t (2 * i + 1) 0 → Wrote before at (fieldBytes (roundRow us numbers (take (e - a) (drop a ways)))) after q
+    pub loop-wrote : (before after : List ℕ) (at q i a e : ℕ) → a ≡ getD t (2 * i) 0 → e ≡ getD t (2 * i + 1) 0 → Wrote before at
+        (fieldBytes (roundRow us numbers (take (e - a) (drop a ways)))) after q
         → Wrote before at (fieldBytes (loopRow i)) after q
-    loop-wrote before after at q i a e ea ee w = wrote-same (roundRow us numbers (take (e - a) (drop a ways))) (loopRow i) before after at q (λ x. roundRow us numbers (take (ee x - ea x) (drop (ea x) ways))) w
+    loop-wrote before after at q i a e ea ee w = wrote-same (roundRow us numbers (take (e - a) (drop a ways))) (loopRow i) before after at q
+        (λ x. roundRow us numbers (take (ee x - ea x) (drop (ea x) ways))) w
 
     pub loop-rows : (k n : ℕ) → n ≡ k → flatMap loopRow (below n) ≡ roundRows us numbers (loopsIn k ways t)
     unfolding roundRows
@@ -190,7 +195,8 @@ module _ (us : List Use) (numbers : List ℕ) where
       loop-rows-length zero le = refl
       loop-rows-length (suc i) le =
           let lt : i < k = omega arith in
-          let more : length (flatMap loopRow (below (i + 1))) ≡ length (flatMap loopRow (below i)) + length (loopRow i) = ap length (rows-more loopRow i) ∙ length-append (flatMap loopRow (below i)) (loopRow i) in
+          let more : length (flatMap loopRow (below (i + 1))) ≡ length (flatMap loopRow (below i)) + length (loopRow i) = ap length (rows-more loopRow i) ∙ length-append
+          (flatMap loopRow (below i)) (loopRow i) in
           omega (arith, ap (λ n. length (flatMap loopRow (below n))) (add-one i), more, loop-rows-length i (omega arith), loop-length i lt, start-is i lt, F .rise i lt)
 
       pub loop-row-short : (i : ℕ) → i < k → length ways ≤ 2048 → length (loopRow i) ≤ 2050

@@ -8,17 +8,15 @@ use native.Mathlib.Omega.{arith}
 use borrow.Author.Needs.{needs}
 use Rattle.ask.proofs.ask_surface.Statement.{statement}
 use Rattle.ask.proofs.ask_surface.Tie as tie
-use Rattle.ask.proofs.ask_surface.Reads as reads
-use Rattle.ask.proofs.ask_surface.Lts as lts
-use Rattle.answers.proofs.about_one.Reads as about-one-reads
-use Rattle.ask.proofs.answer_to.Reads as answer-to-reads
-use Rattle.ask.proofs.surface_answer.Reads as surface-answer-reads
 
 about-one-requires : tie.Need-about-one-requires
 about-one-requires c κs = search needs
 
 answer-to-requires : tie.Need-answer-to-requires
-answer-to-requires c κs = let w = put-as (c .about-one .result) (aboutOne 8 (c .before .before .before .args .h)) (c .about-one .ensures) (shaped-one 8 (c .before .before .before .args .h) (omega arith) (c .before .before .before .pre .1)) (λ z. omega arith) in (c .before .before .before .pre .0, w .0, w .1)
+answer-to-requires c κs =
+    let start : tie.Start = search in
+    let w = put-as (c .about-one .result) (aboutOne 8 (start .args .h)) (c .about-one .ensures) (shaped-one 8 (start .args .h) (omega arith) (start .pre .1))
+    (λ z. omega arith) in (start .pre .0, w .0, w .1)
 
 enum-known-a : tie.Need-enum-known-a
 enum-known-a c = search needs
@@ -31,20 +29,29 @@ enum-told c = search needs
 
 returns : tie.Need-returns
 returns c =
-    let a = c .before .before .before .before .before .before .before .before .args in
-    let about-one = c .before .before .before .before .before .about-one in
-    let answer-to = c .before .before .before .before .answer-to in
-    let told = c .before .before .a in
+    let start : tie.Start = search in
+    let at-a : tie.After-a = search in
+    let at-answer-to : tie.After-answer-to = search in
+    let at-about-one : tie.After-about-one = search in
+    let a = start .args in
+    let about-one = at-about-one .about-one in
+    let answer-to = at-answer-to .answer-to in
+    let told = at-a .a in
     let l = answersIn (a .job .now) (a .index .now) (a .c) in
-    surface-says (find l 8 (a .h ∷ [])) (answer-to .result) (told .given .0 .0) (c .surface-answer .result) (value-as l (answer-to .result) (about-one .result) (aboutOne 8 (a .h)) (about-one .ensures) (answer-to .ensures)) (told .given .1) (c .surface-answer .ensures)
+    surface-says (find l 8 (a .h ∷ [])) (answer-to .result) (told .given .0 .0) (c .surface-answer .result)
+    (value-as l (answer-to .result) (about-one .result) (aboutOne 8 (a .h)) (about-one .ensures) (answer-to .ensures)) (told .given .1) (c .surface-answer .ensures)
 
 returns-2 : tie.Need-returns-2
 returns-2 c =
-    let a = c .before .before .before .before .before .before .args in
-    let about-one = c .before .before .before .about-one in
-    let answer-to = c .before .before .answer-to in
+    let start : tie.Start = search in
+    let at-answer-to : tie.After-answer-to = search in
+    let at-about-one : tie.After-about-one = search in
+    let a = start .args in
+    let about-one = at-about-one .about-one in
+    let answer-to = at-answer-to .answer-to in
     let l = answersIn (a .job .now) (a .index .now) (a .c) in
-    surface-missing (find l 8 (a .h ∷ [])) (answer-to .result) (value-as l (answer-to .result) (about-one .result) (aboutOne 8 (a .h)) (about-one .ensures) (answer-to .ensures)) (c .enum-told .given .1)
+    surface-missing (find l 8 (a .h ∷ [])) (answer-to .result) (value-as l (answer-to .result) (about-one .result) (aboutOne 8 (a .h)) (about-one .ensures) (answer-to .ensures))
+    (c .enum-told .given .1)
 
 pub ask-surface-spec : {M : Type 1} → statement M
 ask-surface-spec =

@@ -5,9 +5,6 @@ use Rattle.job.specs.Lists.{answersIn}
 use borrow.Author.Needs.{needs}
 use Rattle.ask.proofs.ask_yes.Statement.{statement}
 use Rattle.ask.proofs.ask_yes.Tie as tie
-use Rattle.ask.proofs.ask_yes.Reads as reads
-use Rattle.ask.proofs.ask_yes.Lts as lts
-use Rattle.ask.proofs.recorded.Reads as recorded-reads
 
 recorded-requires : tie.Need-recorded-requires
 recorded-requires c κs = search needs
@@ -20,8 +17,10 @@ enum-told c = search needs
 
 returns : tie.Need-returns
 returns c =
-    let a = c .before .before .before .before .before .args in
-    let recorded = c .before .before .recorded in
+    let start : tie.Start = search in
+    let at-recorded : tie.After-recorded = search in
+    let a = start .args in
+    let recorded = at-recorded .recorded in
     told-missing (a .q .kind) (find (answersIn (a .job .now) (a .index .now) (a .c)) (a .q .kind) (keyOf (a .q))) (recorded .result) (recorded .ensures) (c .enum-told .given .1)
 
 enum-told-2 : tie.Need-enum-told-2
@@ -35,24 +34,36 @@ enum-told-4 c = search needs
 
 returns-2 : tie.Need-returns-2
 returns-2 c =
-    let a = c .before .before .before .before .before .before .before .before .args in
-    let recorded = c .before .before .before .before .before .recorded in
-    let told = c .before .before .before .v in
-    told-says (a .q .kind) (find (answersIn (a .job .now) (a .index .now) (a .c)) (a .q .kind) (keyOf (a .q))) (recorded .result) (recorded .ensures) (told .given .0 .0) _ (told .given .1) (told-no (a .q .kind) (told .given .0 .0) (c .enum-told2 .given .1))
+    let start : tie.Start = search in
+    let at-v : tie.After-v = search in
+    let at-recorded : tie.After-recorded = search in
+    let a = start .args in
+    let recorded = at-recorded .recorded in
+    let told = at-v .v in
+    told-says (a .q .kind) (find (answersIn (a .job .now) (a .index .now) (a .c)) (a .q .kind) (keyOf (a .q))) (recorded .result) (recorded .ensures) (told .given .0 .0) _ (told .given .1)
+    (told-no (a .q .kind) (told .given .0 .0) (c .enum-told2 .given .1))
 
 returns-3 : tie.Need-returns-3
 returns-3 c =
-    let a = c .before .before .before .before .before .before .before .before .args in
-    let recorded = c .before .before .before .before .before .recorded in
-    let told = c .before .before .before .v in
-    told-says (a .q .kind) (find (answersIn (a .job .now) (a .index .now) (a .c)) (a .q .kind) (keyOf (a .q))) (recorded .result) (recorded .ensures) (told .given .0 .0) _ (told .given .1) (told-yes (a .q .kind) (told .given .0 .0) (c .enum-told3 .given .1))
+    let start : tie.Start = search in
+    let at-v : tie.After-v = search in
+    let at-recorded : tie.After-recorded = search in
+    let a = start .args in
+    let recorded = at-recorded .recorded in
+    let told = at-v .v in
+    told-says (a .q .kind) (find (answersIn (a .job .now) (a .index .now) (a .c)) (a .q .kind) (keyOf (a .q))) (recorded .result) (recorded .ensures) (told .given .0 .0) _ (told .given .1)
+    (told-yes (a .q .kind) (told .given .0 .0) (c .enum-told3 .given .1))
 
 returns-4 : tie.Need-returns-4
 returns-4 c =
-    let a = c .before .before .before .before .before .before .before .before .args in
-    let recorded = c .before .before .before .before .before .recorded in
-    let told = c .before .before .before .v in
-    told-says (a .q .kind) (find (answersIn (a .job .now) (a .index .now) (a .c)) (a .q .kind) (keyOf (a .q))) (recorded .result) (recorded .ensures) (told .given .0 .0) _ (told .given .1) (told-undecided (a .q .kind) (told .given .0 .0) (c .enum-told4 .given .1))
+    let start : tie.Start = search in
+    let at-v : tie.After-v = search in
+    let at-recorded : tie.After-recorded = search in
+    let a = start .args in
+    let recorded = at-recorded .recorded in
+    let told = at-v .v in
+    told-says (a .q .kind) (find (answersIn (a .job .now) (a .index .now) (a .c)) (a .q .kind) (keyOf (a .q))) (recorded .result) (recorded .ensures) (told .given .0 .0) _ (told .given .1)
+    (told-undecided (a .q .kind) (told .given .0 .0) (c .enum-told4 .given .1))
 
 pub ask-yes-spec : {M : Type 1} → statement M
 ask-yes-spec =

@@ -5,10 +5,6 @@ use Rattle.job.specs.Lists.{answersIn}
 use borrow.Author.Needs.{needs}
 use Rattle.ask.proofs.recorded.Statement.{statement}
 use Rattle.ask.proofs.recorded.Tie as tie
-use Rattle.ask.proofs.recorded.Reads as reads
-use Rattle.ask.proofs.recorded.Lts as lts
-use Rattle.ask.proofs.answer_to.Reads as answer-to-reads
-use Rattle.ask.proofs.verdict.Reads as verdict-reads
 
 answer-to-requires : tie.Need-answer-to-requires
 answer-to-requires c κs = search needs
@@ -24,15 +20,21 @@ enum-told c = search needs
 
 returns : tie.Need-returns
 returns c =
-    let a = c .before .before .before .before .before .before .before .args in
-    let answer-to = c .before .before .before .before .answer-to in
-    let told = c .before .before .a in
-    answered-says (find (answersIn (a .job .now) (a .index .now) (a .c)) (a .q .kind) (keyOf (a .q))) (answer-to .result) (told .given .0 .0) (c .verdict .result) (answer-to .ensures) (told .given .1) (c .verdict .ensures)
+    let start : tie.Start = search in
+    let at-a : tie.After-a = search in
+    let at-answer-to : tie.After-answer-to = search in
+    let a = start .args in
+    let answer-to = at-answer-to .answer-to in
+    let told = at-a .a in
+    answered-says (find (answersIn (a .job .now) (a .index .now) (a .c)) (a .q .kind) (keyOf (a .q))) (answer-to .result) (told .given .0 .0) (c .verdict .result) (answer-to .ensures)
+    (told .given .1) (c .verdict .ensures)
 
 returns-2 : tie.Need-returns-2
 returns-2 c =
-    let a = c .before .before .before .before .before .args in
-    let answer-to = c .before .before .answer-to in
+    let start : tie.Start = search in
+    let at-answer-to : tie.After-answer-to = search in
+    let a = start .args in
+    let answer-to = at-answer-to .answer-to in
     answered-missing (find (answersIn (a .job .now) (a .index .now) (a .c)) (a .q .kind) (keyOf (a .q))) (answer-to .result) (answer-to .ensures) (c .enum-told .given .1)
 
 pub recorded-spec : {M : Type 1} → statement M

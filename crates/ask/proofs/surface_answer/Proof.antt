@@ -1,8 +1,6 @@
 use Rattle.ask.specs.ToldLaws.{surface-0, surface-1, surface-2, surface-3, surface-other}
 use Rattle.ask.proofs.surface_answer.Statement.{statement}
 use Rattle.ask.proofs.surface_answer.Tie as tie
-use Rattle.ask.proofs.surface_answer.Reads as reads
-use Rattle.ask.proofs.surface_answer.Lts as lts
 
 returns : tie.Need-returns
 returns c = surface-0 (c .before .args .v) (c .match .keys1)

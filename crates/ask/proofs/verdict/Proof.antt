@@ -1,8 +1,6 @@
 use Rattle.ask.specs.ToldLaws.{verdict-0, verdict-1, verdict-other}
 use Rattle.ask.proofs.verdict.Statement.{statement}
 use Rattle.ask.proofs.verdict.Tie as tie
-use Rattle.ask.proofs.verdict.Reads as reads
-use Rattle.ask.proofs.verdict.Lts as lts
 
 returns : tie.Need-returns
 returns c = verdict-0 (c .before .args .v) (c .match .keys1)

@@ -3,53 +3,52 @@ use native.Mathlib.Omega.{arith}
 use borrow.Author.Needs.{needs}
 use Rattle.load.proofs.loop_payload.Statement.{statement}
 use Rattle.load.proofs.loop_payload.Tie as tie
-use Rattle.load.proofs.loop_payload.Reads as reads
-use Rattle.load.proofs.loop_payload.Lts as lts
-use Rattle.load.proofs.loop_stretch.Reads as loop-stretch-reads
 
--- src/lib.rt:218:9
 loop-stretch-requires : tie.Need-loop-stretch-requires
 loop-stretch-requires c κs = search needs
 
--- src/lib.rt:220:37
 enum-told : tie.Need-enum-told
 enum-told c = search needs
 
--- src/lib.rt:220:37
 sub-result : tie.Need-sub-result
 sub-result c = search needs
 
--- src/lib.rt:220:37
 part-result-start : tie.Need-part-result-start
 part-result-start c = search needs
 
--- src/lib.rt:220:37
 part-result-end : tie.Need-part-result-end
 part-result-end c = search needs
 
--- src/lib.rt:221:23
 enum-known-s : tie.Need-enum-known-s
 enum-known-s c = search needs
 
--- src/lib.rt:221:38
 sub-result-2 : tie.Need-sub-result-2
 sub-result-2 c = let w = rw (c .before .s .given .1) at (c .before .before .before .loop-stretch .ensures .1) in omega (arith, w .0, w .1)
 
--- src/lib.rt:221:38
 part-result-start-2 : tie.Need-part-result-start-2
 part-result-start-2 c = let w = rw (c .before .s .given .1) at (c .before .before .before .loop-stretch .ensures .1) in omega (arith, w .0, w .1)
 
--- src/lib.rt:221:38
 part-result-end-2 : tie.Need-part-result-end-2
 part-result-end-2 c = let w = rw (c .before .s .given .1) at (c .before .before .before .loop-stretch .ensures .1) in omega (arith, w .0, w .1)
 
--- src/lib.rt:215:1
 returns : tie.Need-returns
-returns c = (shown-none (c .before .before .before .before .before .args .job .now) (c .before .before .before .before .before .args .n) _ _ (c .before .before .before .loop-stretch .result) (c .before .before .before .loop-stretch .ensures .0) (c .before .enum-told .given .1), placed-none (c .before .before .before .before .before .args .job .ptr) (c .before .before .before .before .before .args .job .now) (c .before .before .before .before .before .args .n) _ _ (c .before .before .before .loop-stretch .result) (c .before .before .before .loop-stretch .ensures .0) (c .before .enum-told .given .1))
+returns c =
+    let start : tie.Start = search in (
+      shown-none (start .args .job .now) (start .args .n) _ _ (c .before .before .before .loop-stretch .result) (c .before .before .before .loop-stretch .ensures .0)
+          (c .before .enum-told .given .1),
+      placed-none (start .args .job .ptr) (start .args .job .now) (start .args .n) _ _ (c .before .before .before .loop-stretch .result)
+          (c .before .before .before .loop-stretch .ensures .0) (c .before .enum-told .given .1),
+    )
 
--- src/lib.rt:215:1
 returns-2 : tie.Need-returns-2
-returns-2 c = (shown-at (c .before .before .before .before .before .before .args .job .now) (c .before .before .before .before .before .before .args .n) _ _ (c .before .before .before .before .loop-stretch .result) (c .before .before .before .before .loop-stretch .ensures .0) (c .before .before .s .given .1), placed-at (c .before .before .before .before .before .before .args .job .ptr) (c .before .before .before .before .before .before .args .job .now) (c .before .before .before .before .before .before .args .n) _ _ (c .before .before .before .before .loop-stretch .result) (c .before .before .before .before .loop-stretch .ensures .0) (c .before .before .s .given .1))
+returns-2 c =
+    let start : tie.Start = search in
+    let at-s : tie.After-s = search in (
+      shown-at (start .args .job .now) (start .args .n) _ _ (c .before .before .before .before .loop-stretch .result) (c .before .before .before .before .loop-stretch .ensures .0)
+          (at-s .s .given .1),
+      placed-at (start .args .job .ptr) (start .args .job .now) (start .args .n) _ _ (c .before .before .before .before .loop-stretch .result)
+          (c .before .before .before .before .loop-stretch .ensures .0) (at-s .s .given .1),
+    )
 
 pub loop-payload-spec : {M : Type 1} → statement M
 loop-payload-spec =

@@ -8,45 +8,60 @@ use native.Mathlib.Omega.{arith}
 use borrow.Author.Needs.{needs}
 use Rattle.sewing.proofs.pair_in_large_table.Statement.{statement}
 use Rattle.sewing.proofs.pair_in_large_table.Tie as tie
-use Rattle.sewing.proofs.pair_in_large_table.Reads as reads
-use Rattle.sewing.proofs.pair_in_large_table.Lts as lts
-use Rattle.pair.proofs.pair.Reads as pair-reads
-use Rattle.sewing.proofs.on_paired.Reads as on-paired-reads
 
--- src/lib.rt:384:1
 pair-requires : tie.Need-pair-requires
-pair-requires c κs = let a = c .before .before .before .before .before .before .before .args in pair-ready (a .job .now) (a .index .now) (a .c) (usesIn (a .uses .now)) (a .firsts .now) (a .nexts .now) (a .kept .now) 2048 (c .before .before .before .before .before .before .before .pre .0) (c .before .before .before .before .before .before .before .pre .1)
+pair-requires c κs =
+    let start : tie.Start = search in
+    let a = start .args in pair-ready (a .job .now) (a .index .now) (a .c) (usesIn (a .uses .now)) (a .firsts .now) (a .nexts .now) (a .kept .now) 2048 (start .pre .0) (start .pre .1)
 
--- src/lib.rt:384:1
 returns : tie.Need-returns
-returns c = let a = c .before .before .before .before .before .before .before .before .before .before .args in
-    ends-refused _ (a .out .now) _ _ (pairs-refused (a .job .now) (a .index .now) (a .c) (usesIn (a .uses .now)) (c .before .before .before .before .before .before .before .before .before .before .pre .0 .read) (a .stage) (length (a .out .now)) (c .before .before .pair .result .refusal) (c .before .before .pair .result .place) (c .before .before .pair .result .twins) (c .before .before .pair .ensures .0) (c .if1 .taken))
+returns c =
+    let start : tie.Start = search in
+    let at-pair : tie.After-pair = search in
+    let a = start .args in
+    ends-refused _ (a .out .now) _ _ (pairs-refused (a .job .now) (a .index .now) (a .c) (usesIn (a .uses .now)) (start .pre .0 .read) (a .stage) (length (a .out .now))
+    (at-pair .pair .result .refusal) (at-pair .pair .result .place) (at-pair .pair .result .twins) (at-pair .pair .ensures .0) (c .if1 .taken))
 
--- src/lib.rt:384:1
 array-share-prefix-twins : tie.Need-array-share-prefix-twins
-array-share-prefix-twins c = omega (arith, c .before .before .before .pair .ensures .1, c .before .before .before .before .before .before .before .before .before .before .before .pre .1)
+array-share-prefix-twins c =
+    let start : tie.Start = search in
+    let at-pair : tie.After-pair = search in
+    omega (arith, at-pair .pair .ensures .1, start .pre .1)
 
--- src/lib.rt:384:1
 slice-aggregate-on-paired : tie.Need-slice-aggregate-on-paired
-slice-aggregate-on-paired c = sym (length-take-le (c .before .before .before .before .before .before .before .before .before .before .before .before .args .c .uses) (c .before .before .before .before .pair .result .twins) (omega (arith, c .before .before .before .before .pair .ensures .1, c .before .before .before .before .before .before .before .before .before .before .before .before .pre .1)))
+slice-aggregate-on-paired c =
+    let start : tie.Start = search in
+    let at-pair : tie.After-pair = search in
+    sym (length-take-le (start .args .c .uses) (at-pair .pair .result .twins) (omega (arith, at-pair .pair .ensures .1, start .pre .1)))
 
--- src/lib.rt:384:1
 on-paired-requires : tie.Need-on-paired-requires
-on-paired-requires c κs = let a = c .before .before .before .before .before .before .before .before .before .before .before .before .before .before .args in
-    (pairs-made (a .job .now) (a .index .now) (a .c) (usesIn (a .uses .now)) (c .before .before .before .before .before .before .before .before .before .before .before .before .before .before .pre .0 .read) (a .stage) (length (a .out .now)) (c .before .before .before .before .before .before .pair .result .refusal) (c .before .before .before .before .before .before .pair .result .place) (c .before .before .before .before .before .before .pair .result .twins) (c .before .before .before .before .before .before .pair .ensures .0) (c .before .before .before .before .if1 .left), c .before .before .before .before .before .before .before .before .before .before .before .before .before .before .pre .0 .kept-size)
+on-paired-requires c κs =
+    let start : tie.Start = search in
+    let else1 : tie.Else1 = search in
+    let at-pair : tie.After-pair = search in
+    let a = start .args in (
+      pairs-made (a .job .now) (a .index .now) (a .c) (usesIn (a .uses .now)) (start .pre .0 .read) (a .stage) (length (a .out .now)) (at-pair .pair .result .refusal)
+          (at-pair .pair .result .place) (at-pair .pair .result .twins) (at-pair .pair .ensures .0) (else1 .if1 .left),
+      start .pre .0 .kept-size,
+    )
 
--- src/lib.rt:384:1
 same-length : tie.Need-same-length
 same-length c = search needs
 
--- src/lib.rt:384:1
 same-length-2 : tie.Need-same-length-2
 same-length-2 c = search needs
 
--- src/lib.rt:384:1
 returns-2 : tie.Need-returns-2
-returns-2 c = let a = c .before .before .before .before .before .before .before .before .before .before .before .before .before .before .before .before .before .before .before .args in
-    ends-as _ _ (a .out .now) (c .before .before .before .before .on-paired .last .1 .1 .1 .1 .1 .1 .1 .0) (c .before .before .before .before .on-paired .result) (sym (pairs-on (a .job .now) (a .index .now) (a .c) (usesIn (a .uses .now)) (c .before .before .before .before .before .before .before .before .before .before .before .before .before .before .before .before .before .before .before .pre .0 .read) (a .stage) (length (a .out .now)) (take (a .c .uses) (c .before .before .before .before .before .before .before .before .before .before .before .pair .result .twins)) (pairs-made (a .job .now) (a .index .now) (a .c) (usesIn (a .uses .now)) (c .before .before .before .before .before .before .before .before .before .before .before .before .before .before .before .before .before .before .before .pre .0 .read) (a .stage) (length (a .out .now)) (c .before .before .before .before .before .before .before .before .before .before .before .pair .result .refusal) (c .before .before .before .before .before .before .before .before .before .before .before .pair .result .place) (c .before .before .before .before .before .before .before .before .before .before .before .pair .result .twins) (c .before .before .before .before .before .before .before .before .before .before .before .pair .ensures .0) (c .before .before .before .before .before .before .before .before .before .if1 .left)))) (c .before .before .before .before .on-paired .ensures)
+returns-2 c =
+    let start : tie.Start = search in
+    let at-on-paired : tie.After-on-paired = search in
+    let else1 : tie.Else1 = search in
+    let at-pair : tie.After-pair = search in
+    let a = start .args in
+    ends-as _ _ (a .out .now) (at-on-paired .on-paired .last .1 .1 .1 .1 .1 .1 .1 .0) (at-on-paired .on-paired .result)
+    (sym (pairs-on (a .job .now) (a .index .now) (a .c) (usesIn (a .uses .now)) (start .pre .0 .read) (a .stage) (length (a .out .now)) (take (a .c .uses) (at-pair .pair .result .twins))
+    (pairs-made (a .job .now) (a .index .now) (a .c) (usesIn (a .uses .now)) (start .pre .0 .read) (a .stage) (length (a .out .now)) (at-pair .pair .result .refusal)
+    (at-pair .pair .result .place) (at-pair .pair .result .twins) (at-pair .pair .ensures .0) (else1 .if1 .left)))) (at-on-paired .on-paired .ensures)
 
 pub pair-in-large-table-spec : {M : Type 1} → statement M
 pair-in-large-table-spec =
