@@ -46,7 +46,7 @@ pub name-first : (kind : ℕ) → kind ≤ 21 → wordOf 21 ≡ wordOf kind
 name-first kind h = let e : zero ≡ kind - 21 = omega arith in name-at 21 ∙ ap (λ i. getD names i []) e ∙ sym (name-at kind)
 
 -- past a number that it is not
-past : (m kind : ℕ) → m < kind → (kind ≡ suc m → ⊥) → suc m < kind
+pub past : (m kind : ℕ) → m < kind → (kind ≡ suc m → ⊥) → suc m < kind
 past m kind h k = omega (arith, h, k)
 
 past-all : (kind : ℕ) → 28 < kind → [] ≡ wordOf kind

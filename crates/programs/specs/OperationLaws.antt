@@ -1,14 +1,16 @@
 -- Each number has its operation.
-use Prim.Native.Nat.{ℕ, zero, suc}
+use Prim.Native.Nat.{ℕ, zero, suc, _<_}
+use native.Mathlib.Omega.{arith}
 use mathlib.Core.Path.{_≡_, refl, sym, ap, subst}
 use mathlib.Core.List.{List}
-use lib.ListN.{length}
+use lib.ListN.{length, List·getD-eq-default}
 use Rattle.rules.specs.declared.Ending.{Ending}
 use Rattle.rules.specs.Outcome.{Outcome}
 use Rattle.rules.specs.Rules.{ordinary}
 use Rattle.rules.specs.Sew.{sewn, Ends}
 use Rattle.rules.specs.Stage.{readStage, pairStage, mergeStage, vertexLoopStage, walkStage, loopStage, fanStage, edgeStage, joiningStage, shellStage, lumpStage}
-use Rattle.rules.specs.Operation.{operation}
+use Rattle.rules.specs.Operation.{operations, operation}
+use Rattle.lines.specs.LineLaws.{past}
 
 -- the ending of an operation, by its number
 pub ends-by : (k : ℕ) (f : List ℕ → ℕ → Outcome (List ℕ)) (job before after : List ℕ) (e : Ending) → f ≡ operation k → Ends (f job (length before)) before after e →
@@ -59,19 +61,17 @@ pub is-11 : (k : ℕ) → k ≡ 11 → lumpStage ordinary ≡ operation k
 unfolding operation
 is-11 k e = sym (ap operation e)
 
-pub is-sewing : (k : ℕ) → (k ≡ 1 → ⊥) → (k ≡ 2 → ⊥) → (k ≡ 3 → ⊥) → (k ≡ 4 → ⊥) → (k ≡ 5 → ⊥) → (k ≡ 6 → ⊥) → (k ≡ 7 → ⊥) → (k ≡ 8 → ⊥) → (k ≡ 9 → ⊥) → (k ≡ 10 → ⊥) → (k ≡ 11 → ⊥) →
-    sewn ordinary ≡ operation k
+-- a number of no stage
+abbrev pub NoStage : ℕ → Type 0
+NoStage k =
+    (k ≡ 1 → ⊥) × (k ≡ 2 → ⊥) × (k ≡ 3 → ⊥) × (k ≡ 4 → ⊥) × (k ≡ 5 → ⊥) × (k ≡ 6 → ⊥) × (k ≡ 7 → ⊥) × (k ≡ 8 → ⊥) × (k ≡ 9 → ⊥) × (k ≡ 10 → ⊥) × (k ≡ 11 → ⊥)
+
+-- it is past them all, but for 0
+past-all : (k : ℕ) → 0 < k → NoStage k → 11 < k
+past-all k h n =
+    past 10 k (past 9 k (past 8 k (past 7 k (past 6 k (past 5 k (past 4 k (past 3 k (past 2 k (past 1 k (past 0 k h (n .0)) (n .1)) (n .2)) (n .3)) (n .4)) (n .5)) (n .6)) (n .7)) (n .8)) (n .9)) (n .10)
+
+pub is-sewing : (k : ℕ) → NoStage k → sewn ordinary ≡ operation k
 unfolding operation
-is-sewing zero n1 n2 n3 n4 n5 n6 n7 n8 n9 n10 n11 = refl
-is-sewing (suc zero) n1 n2 n3 n4 n5 n6 n7 n8 n9 n10 n11 = absurd (n1 refl)
-is-sewing (suc (suc zero)) n1 n2 n3 n4 n5 n6 n7 n8 n9 n10 n11 = absurd (n2 refl)
-is-sewing (suc (suc (suc zero))) n1 n2 n3 n4 n5 n6 n7 n8 n9 n10 n11 = absurd (n3 refl)
-is-sewing (suc (suc (suc (suc zero)))) n1 n2 n3 n4 n5 n6 n7 n8 n9 n10 n11 = absurd (n4 refl)
-is-sewing (suc (suc (suc (suc (suc zero))))) n1 n2 n3 n4 n5 n6 n7 n8 n9 n10 n11 = absurd (n5 refl)
-is-sewing (suc (suc (suc (suc (suc (suc zero)))))) n1 n2 n3 n4 n5 n6 n7 n8 n9 n10 n11 = absurd (n6 refl)
-is-sewing (suc (suc (suc (suc (suc (suc (suc zero))))))) n1 n2 n3 n4 n5 n6 n7 n8 n9 n10 n11 = absurd (n7 refl)
-is-sewing (suc (suc (suc (suc (suc (suc (suc (suc zero)))))))) n1 n2 n3 n4 n5 n6 n7 n8 n9 n10 n11 = absurd (n8 refl)
-is-sewing (suc (suc (suc (suc (suc (suc (suc (suc (suc zero))))))))) n1 n2 n3 n4 n5 n6 n7 n8 n9 n10 n11 = absurd (n9 refl)
-is-sewing (suc (suc (suc (suc (suc (suc (suc (suc (suc (suc zero)))))))))) n1 n2 n3 n4 n5 n6 n7 n8 n9 n10 n11 = absurd (n10 refl)
-is-sewing (suc (suc (suc (suc (suc (suc (suc (suc (suc (suc (suc zero))))))))))) n1 n2 n3 n4 n5 n6 n7 n8 n9 n10 n11 = absurd (n11 refl)
-is-sewing (suc (suc (suc (suc (suc (suc (suc (suc (suc (suc (suc (suc k)))))))))))) n1 n2 n3 n4 n5 n6 n7 n8 n9 n10 n11 = refl
+is-sewing zero n = refl
+is-sewing (suc k) n = sym (List·getD-eq-default operations (sewn ordinary) (past-all (suc k) (omega arith) n))

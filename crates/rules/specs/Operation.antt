@@ -7,11 +7,10 @@ use Rattle.rules.specs.Rules.{ordinary}
 use Rattle.rules.specs.Sew.{sewn}
 use Rattle.rules.specs.Stage.{readStage, pairStage, mergeStage, vertexLoopStage, walkStage, loopStage, fanStage, edgeStage, joiningStage, shellStage, lumpStage}
 
--- 1 read, 2 pair, 3 merge, 4 vertex-loops, 5 walk, 6 loops, 7 fans, 8 edges, 9 joining, 10 shells, 11 lumps; sewing by 0 and by any other number
-unfoldable pub operation : ℕ → List ℕ → ℕ → Outcome (List ℕ)
-operation k =
-    getD
-    (sewn ordinary
+-- 0 sewing, 1 read, 2 pair, 3 merge, 4 vertex-loops, 5 walk, 6 loops, 7 fans, 8 edges, 9 joining, 10 shells, 11 lumps
+abbrev pub operations : List (List ℕ → ℕ → Outcome (List ℕ))
+operations =
+    sewn ordinary
     ∷ readStage
     ∷ pairStage
     ∷ mergeStage ordinary
@@ -23,6 +22,8 @@ operation k =
     ∷ joiningStage ordinary
     ∷ shellStage ordinary
     ∷ lumpStage ordinary
-    ∷ [])
-    k
-    (sewn ordinary)
+    ∷ []
+
+-- an operation by its number; sewing by any other number
+unfoldable pub operation : ℕ → List ℕ → ℕ → Outcome (List ℕ)
+operation k = getD operations k (sewn ordinary)

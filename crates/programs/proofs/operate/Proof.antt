@@ -49,7 +49,7 @@ returns : tie.Need-returns
 returns c =
     let start : tie.Start = search in
     let at-read-stage : tie.After-read-stage = search in
-    let at-match : tie.After-match = search in
+    let at-match : tie.At-match-keys1 = search in
     let a = start .args in
     let s = at-read-stage .read-stage in
     ends-by (a .number) (readStage) (a .job .now) (a .out .now) (s .last .1 .0) (s .result) (is-1 (a .number) (at-match .match .keys1)) (s .ensures)
@@ -61,7 +61,7 @@ returns-2 : tie.Need-returns-2
 returns-2 c =
     let start : tie.Start = search in
     let at-pair-stage : tie.After-pair-stage = search in
-    let at-match : tie.After-match = search in
+    let at-match : tie.At-match-keys2 = search in
     let a = start .args in
     let s = at-pair-stage .pair-stage in
     ends-by (a .number) (pairStage) (a .job .now) (a .out .now) (s .last .1 .0) (s .result) (is-2 (a .number) (at-match .match .keys2)) (s .ensures)
@@ -73,7 +73,7 @@ returns-3 : tie.Need-returns-3
 returns-3 c =
     let start : tie.Start = search in
     let at-merge-stage : tie.After-merge-stage = search in
-    let at-match : tie.After-match = search in
+    let at-match : tie.At-match-keys3 = search in
     let a = start .args in
     let s = at-merge-stage .merge-stage in
     ends-by (a .number) (mergeStage ordinary) (a .job .now) (a .out .now) (s .last .1 .0) (s .result) (is-3 (a .number) (at-match .match .keys3)) (s .ensures)
@@ -85,7 +85,7 @@ returns-4 : tie.Need-returns-4
 returns-4 c =
     let start : tie.Start = search in
     let at-vertex-loop-stage : tie.After-vertex-loop-stage = search in
-    let at-match : tie.After-match = search in
+    let at-match : tie.At-match-keys4 = search in
     let a = start .args in
     let s = at-vertex-loop-stage .vertex-loop-stage in
     ends-by (a .number) (vertexLoopStage ordinary) (a .job .now) (a .out .now) (s .last .1 .0) (s .result) (is-4 (a .number) (at-match .match .keys4)) (s .ensures)
@@ -97,7 +97,7 @@ returns-5 : tie.Need-returns-5
 returns-5 c =
     let start : tie.Start = search in
     let at-walk-stage : tie.After-walk-stage = search in
-    let at-match : tie.After-match = search in
+    let at-match : tie.At-match-keys5 = search in
     let a = start .args in
     let s = at-walk-stage .walk-stage in
     ends-by (a .number) (walkStage ordinary) (a .job .now) (a .out .now) (s .last .1 .0) (s .result) (is-5 (a .number) (at-match .match .keys5)) (s .ensures .0)
@@ -108,7 +108,7 @@ same-length-6 c = search needs
 returns-6 : tie.Need-returns-6
 returns-6 c =
     let start : tie.Start = search in
-    let at-match : tie.After-match = search in
+    let at-match : tie.At-match-keys6 = search in
     let a = start .args in
     let s = c .before .before .loop-stage in
     ends-by (a .number) (loopStage ordinary) (a .job .now) (a .out .now) (s .last .1 .0) (s .result) (is-6 (a .number) (at-match .match .keys6)) (s .ensures .0)
@@ -120,7 +120,7 @@ returns-7 : tie.Need-returns-7
 returns-7 c =
     let start : tie.Start = search in
     let at-fan-stage : tie.After-fan-stage = search in
-    let at-match : tie.After-match = search in
+    let at-match : tie.At-match-keys7 = search in
     let a = start .args in
     let s = at-fan-stage .fan-stage in
     ends-by (a .number) (fanStage ordinary) (a .job .now) (a .out .now) (s .last .1 .0) (s .result) (is-7 (a .number) (at-match .match .keys7)) (s .ensures)
@@ -132,7 +132,7 @@ returns-8 : tie.Need-returns-8
 returns-8 c =
     let start : tie.Start = search in
     let at-edge-stage : tie.After-edge-stage = search in
-    let at-match : tie.After-match = search in
+    let at-match : tie.At-match-keys8 = search in
     let a = start .args in
     let s = at-edge-stage .edge-stage in
     ends-by (a .number) (edgeStage ordinary) (a .job .now) (a .out .now) (s .last .1 .0) (s .result) (is-8 (a .number) (at-match .match .keys8)) (s .ensures)
@@ -144,7 +144,7 @@ returns-9 : tie.Need-returns-9
 returns-9 c =
     let start : tie.Start = search in
     let at-joining-stage : tie.After-joining-stage = search in
-    let at-match : tie.After-match = search in
+    let at-match : tie.At-match-keys9 = search in
     let a = start .args in
     let s = at-joining-stage .joining-stage in
     ends-by (a .number) (joiningStage ordinary) (a .job .now) (a .out .now) (s .last .1 .0) (s .result) (is-9 (a .number) (at-match .match .keys9)) (s .ensures)
@@ -156,7 +156,7 @@ returns-10 : tie.Need-returns-10
 returns-10 c =
     let start : tie.Start = search in
     let at-shell-stage : tie.After-shell-stage = search in
-    let at-match : tie.After-match = search in
+    let at-match : tie.At-match-keys10 = search in
     let a = start .args in
     let s = at-shell-stage .shell-stage in
     ends-by (a .number) (shellStage ordinary) (a .job .now) (a .out .now) (s .last .1 .0) (s .result) (is-10 (a .number) (at-match .match .keys10)) (s .ensures)
@@ -168,7 +168,7 @@ returns-11 : tie.Need-returns-11
 returns-11 c =
     let start : tie.Start = search in
     let at-lump-stage : tie.After-lump-stage = search in
-    let at-match : tie.After-match = search in
+    let at-match : tie.At-match-keys11 = search in
     let a = start .args in
     let s = at-lump-stage .lump-stage in
     ends-by (a .number) (lumpStage ordinary) (a .job .now) (a .out .now) (s .last .1 .0) (s .result) (is-11 (a .number) (at-match .match .keys11)) (s .ensures)
@@ -180,13 +180,23 @@ returns-12 : tie.Need-returns-12
 returns-12 c =
     let start : tie.Start = search in
     let at-sew : tie.After-sew = search in
-    let at-match : tie.After-match = search in
+    let at-match : tie.At-match-rest = search in
     let a = start .args in
     let s = at-sew .sew in
     ends-by (a .number) (sewn ordinary) (a .job .now) (a .out .now) (s .last .1 .0) (s .result)
-    (is-sewing (a .number) (at-match .match .rest .0 .0 .0 .0 .0 .0 .0 .0 .0 .0 .1) (at-match .match .rest .0 .0 .0 .0 .0 .0 .0 .0 .0 .1) (at-match .match .rest .0 .0 .0 .0 .0 .0 .0 .0 .1)
-    (at-match .match .rest .0 .0 .0 .0 .0 .0 .0 .1) (at-match .match .rest .0 .0 .0 .0 .0 .0 .1) (at-match .match .rest .0 .0 .0 .0 .0 .1) (at-match .match .rest .0 .0 .0 .0 .1)
-    (at-match .match .rest .0 .0 .0 .1) (at-match .match .rest .0 .0 .1) (at-match .match .rest .0 .1) (at-match .match .rest .1)) (s .ensures .0)
+    (is-sewing (a .number) (
+      at-match .match .rest .0 .0 .0 .0 .0 .0 .0 .0 .0 .0 .1,
+      at-match .match .rest .0 .0 .0 .0 .0 .0 .0 .0 .0 .1,
+      at-match .match .rest .0 .0 .0 .0 .0 .0 .0 .0 .1,
+      at-match .match .rest .0 .0 .0 .0 .0 .0 .0 .1,
+      at-match .match .rest .0 .0 .0 .0 .0 .0 .1,
+      at-match .match .rest .0 .0 .0 .0 .0 .1,
+      at-match .match .rest .0 .0 .0 .0 .1,
+      at-match .match .rest .0 .0 .0 .1,
+      at-match .match .rest .0 .0 .1,
+      at-match .match .rest .0 .1,
+      at-match .match .rest .1,
+    )) (s .ensures .0)
 
 pub operate-spec : {M : Type 1} → statement M
 operate-spec =
