@@ -125,7 +125,7 @@ size_t zaxclover_lump_stage(const uint8_t *job, size_t job_length, uint8_t *out,
  * THE LOOP REQUEST
  *
  * Loop n of the job, counted among both sorts of loops. Returns 0: its payload is the *value bytes of the job from
- * *start on. Or returns a refusal's number: *value is its place and *start is 0.
+ * *start on, at least one. Or returns a refusal's number: *value is its place and *start is 0.
  */
 size_t zaxclover_loop(const uint8_t *job, size_t job_length, size_t n, size_t *start, size_t *value);
 

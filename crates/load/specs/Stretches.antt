@@ -21,6 +21,7 @@ use Rattle.rules.specs.Job.{Stretch}
 use Rattle.rules.specs.Kinds.{kindOf, isLoop}
 use Rattle.rules.specs.Load.{Loading, alsoIf, counted, extended, loadRecord, nothingLoaded, loading, noStretch, requested, shown}
 use Rattle.theorems.specs.Loading.{loading-counted}
+use Rattle.theorems.specs.Requests.{request-some}
 use Rattle.job.specs.Lists.{loopByte, stretchIn, stretchesIn, jobIn}
 use Rattle.load.specs.declared.Stretched.{Stretched}
 use Rattle.load.specs.declared.Stretched.the-variants.{Refused, At}
@@ -31,14 +32,14 @@ abbrev pub stretchOf : Stretched → Outcome Stretch
 stretchOf (Refused n p) = refuse n p
 stretchOf (At a e) = ok (record { start = a; size = e - a })
 
--- a stretch that the job has
+-- a stretch that the job has, of a byte at least
 abbrev pub Within : List ℕ → Stretched → Type 0
 Within bytes (Refused n p) = Unit {0}
-Within bytes (At a e) = (a ≤ e) × (e ≤ length bytes)
+Within bytes (At a e) = (a < e) × (e ≤ length bytes)
 
--- a part that begins at the stretch's first byte, by the addresses of the job's first byte and of the part's
+-- a part that begins at the stretch's first byte, by the addresses of the job's first byte and of the part's, and is not empty
 abbrev pub Placed : ℕ × ℕ → Outcome Stretch → ℕ × ℕ → Type 0
-Placed job (ok s) part = part ≡ (job .0, job .1 + s .start)
+Placed job (ok s) part = (part ≡ (job .0, job .1 + s .start)) × (0 < s .size)
 Placed job (refuse number place) part = part ≡ job
 
 -- WITHIN THE JOB
@@ -122,11 +123,10 @@ module _ (bytes ix : List ℕ) (c : Counts) (n : ℕ) (e : loading bytes ≡ ok 
   unfolding stretchIn
   request-at a z size h p q r =
       let whole = request-inside h in
-      let length-is : le32 bytes (loopByte ix n) ≡ z - a = omega arith in (
-        sym (asked ∙ need-on 4 n _ (lt-ltb n (length (stretchesIn bytes ix c)) (omega (arith, count))) ∙ ap ok (entry h)
-            ∙ (λ i. ok (record { start = sym p i; size = length-is i }))),
-        (omega arith, omega arith),
-      )
+      let length-is : le32 bytes (loopByte ix n) ≡ z - a = omega arith in
+      let is : requested bytes n ≡ stretchOf (At a z) =
+      asked ∙ need-on 4 n _ (lt-ltb n (length (stretchesIn bytes ix c)) (omega (arith, count))) ∙ ap ok (entry h) ∙ (λ i. ok (record { start = sym p i; size = length-is i })) in
+      (sym is, (omega (arith, request-some bytes n (record { start = a; size = z - a }) is), omega arith))
 
 -- the bytes of a request that is refused, and of one that is not
 pub shown-none : (bytes : List ℕ) (n number place : ℕ) (r : Stretched) → stretchOf r ≡ requested bytes n → r ≡ Refused number place → [] ≡ shown bytes (requested bytes n)
@@ -139,5 +139,8 @@ shown-at bytes n a z r e q = ap (shown bytes) (sym (ap stretchOf q) ∙ e)
 pub placed-none : (job : ℕ × ℕ) (bytes : List ℕ) (n number place : ℕ) (r : Stretched) → stretchOf r ≡ requested bytes n → r ≡ Refused number place → Placed job (requested bytes n) (job .0, 0 + job .1)
 placed-none job bytes n number place r e q = subst (λ o. Placed job o (job .0, 0 + job .1)) (sym (ap stretchOf q) ∙ e) (let z : 0 + job .1 ≡ job .1 = omega arith in λ i. (job .0, z i))
 
-pub placed-at : (job : ℕ × ℕ) (bytes : List ℕ) (n a z : ℕ) (r : Stretched) → stretchOf r ≡ requested bytes n → r ≡ At a z → Placed job (requested bytes n) (job .0, a + job .1)
-placed-at job bytes n a z r e q = subst (λ o. Placed job o (job .0, a + job .1)) (sym (ap stretchOf q) ∙ e) (let y : a + job .1 ≡ job .1 + a = omega arith in λ i. (job .0, y i))
+pub placed-at : (job : ℕ × ℕ) (bytes : List ℕ) (n a z : ℕ) (r : Stretched) → stretchOf r ≡ requested bytes n → Within bytes r → r ≡ At a z → Placed job (requested bytes n) (job .0, a + job .1)
+placed-at job bytes n a z r e w q =
+    let y : a + job .1 ≡ job .1 + a = omega arith in
+    let some = subst (Within bytes) q w in
+    subst (λ o. Placed job o (job .0, a + job .1)) (sym (ap stretchOf q) ∙ e) ((λ i. (job .0, y i)), omega (arith, some .0))

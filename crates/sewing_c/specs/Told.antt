@@ -85,9 +85,9 @@ abbrev pub loopValue : Outcome Stretch → ℕ
 loopValue (ok s) = s .size
 loopValue (refuse number place) = place
 
--- the stretch ends within the job
+-- the stretch is not empty and ends within the job
 abbrev pub Inside : List ℕ → Outcome Stretch → Type 0
-Inside job (ok s) = s .start + s .size ≤ length job
+Inside job (ok s) = (0 < s .size) × (s .start + s .size ≤ length job)
 Inside job (refuse number place) = Unit {0}
 
 -- a request that found this stretch answers this number, which is 0 for success alone, and leaves this start and this value

@@ -58,7 +58,7 @@ module _ (job : List ℕ) (o : Outcome Stretch) (r : Stretched) (e : stretchOf r
   loop-told a z w q =
       let is = sym (ap stretchOf q) ∙ e in
       let inside = subst (Within job) q w in
-      subst (λ x. TellsLoop x a (z - a) 0 × Inside job x) is ((refl, refl, refl, numbers (stretchOf (At a z)) is), omega (arith, inside .0, inside .1))
+      subst (λ x. TellsLoop x a (z - a) 0 × Inside job x) is ((refl, refl, refl, numbers (stretchOf (At a z)) is), (omega (arith, inside .0), omega (arith, inside .0, inside .1)))
 
 -- the first bytes of a body are few
 pub few-bytes : (out body : List ℕ) → body ≡ take 4294967295 out → length body < 4294967296

@@ -47,7 +47,7 @@ returns-2 c =
       shown-at (start .args .job .now) (start .args .n) _ _ (c .before .before .before .before .loop-stretch .result) (c .before .before .before .before .loop-stretch .ensures .0)
           (at-s .s .given .1),
       placed-at (start .args .job .ptr) (start .args .job .now) (start .args .n) _ _ (c .before .before .before .before .loop-stretch .result)
-          (c .before .before .before .before .loop-stretch .ensures .0) (at-s .s .given .1),
+          (c .before .before .before .before .loop-stretch .ensures .0) (c .before .before .before .before .loop-stretch .ensures .1) (at-s .s .given .1),
     )
 
 pub loop-payload-spec : {M : Type 1} → statement M
