@@ -10,22 +10,19 @@ use lib.Dec.{eqb, ltb, leb}
 use borrow.Author.Tests.{lt-ltb, leb-true}
 use Rattle.lists.specs.Lists.{_∈_}
 use Rattle.lists.specs.Tests.{both-ways, cond-true, cond-false}
-use Rattle.rules.specs.declared.Ending.{Ending}
 use Rattle.rules.specs.Outcome.{Outcome, ok, refuse, _>>=_, need}
 use Rattle.rules.specs.Frame.{Record, framed, framedAll}
 use Rattle.rules.specs.Job.{Job, unset}
 use Rattle.rules.specs.Load.{loaded}
 use Rattle.rules.specs.Rules.{Rules}
 use Rattle.rules.specs.Body.{Body, bodyRecords}
-use Rattle.rules.specs.Sew.{rebuild, fitting, sewn, Ends}
-use Rattle.rules.specs.Listing.{digitsBefore, decimal, wordOf, fieldText, vertexText, fieldsText, lineOf, refusedWord, listingOf, sewnRecords, listing}
-use Rattle.fields.specs.Wrote.{Wrote}
+use Rattle.rules.specs.Sew.{rebuild, fitting}
+use Rattle.rules.specs.Listing.{digitsBefore, decimal, wordOf, fieldText, vertexText, fieldsText, lineOf, refusedWord, listingOf, sewnRecords}
 use Rattle.theorems.specs.Narrow.{Below}
 use Rattle.rules.specs.Rows.{rowText}
-use Rattle.lines.specs.Text.{recorded}
-use Rattle.lines.specs.Writing.{wrote-same, decimal-short}
+use Rattle.lines.specs.Writing.{decimal-short}
 use Rattle.lines.specs.LineLaws.{name-short}
-use Rattle.lines.specs.Exact.{Fits, AllFit, framed-length, listing-is, shown-whole}
+use Rattle.lines.specs.Exact.{Fits, AllFit, framed-length}
 
 -- powers of ten
 unfoldable tens : ℕ → ℕ
@@ -139,12 +136,3 @@ refusal-short number place =
 pub listed-small : (o : Outcome (List Record)) → AllFit o → Within 65536 o → length (listingOf o) ≤ 196608
 listed-small (ok rs) h w = omega (arith, lines-three rs h)
 listed-small (refuse number place) h w = omega (arith, refusal-short number place)
-
--- WHAT THE LISTING PROGRAM SHOWS
-
--- the page's front after `put_listing`, over sewing's answer in 65,536 bytes, is the listing of document 01, whole
-pub listing-shown : (rules : Rules) (job before after page printed : List ℕ) (q : ℕ) (e : Ending) → AllFit (sewnRecords rules job 65536) → length before ≡ 65536
-    → Ends (sewn rules job (length before)) before after e → length page ≡ 196608 → Wrote page 0 (listingOf (recorded after e)) printed q → take q printed ≡ listing rules job
-listing-shown rules job before after page printed q e h n E m w =
-    shown-whole page printed (listing rules job) q (wrote-same page printed (listingOf (recorded after e)) (listing rules job) 0 q (listing-is rules job before after e h n E) w)
-    (omega (arith, listed-small (sewnRecords rules job 65536) h (sewn-within rules job 65536)))
