@@ -71,6 +71,10 @@ pub recorded-listing : (t : Table) (job before after : List ℕ) (e : Ending) �
     → listingOf (recorded after e) ≡ listingOf (sewnRecords (withTable t) job (length before))
 recorded-listing t job before after e bytes h E = room-listing (withTable t) job before after e (all-fit t job (length before) bytes h) E
 
+-- what sewing a job makes of an output
+abbrev pub SewnInto : List ℕ → List ℕ → List ℕ → Type 0
+SewnInto job before after = (e : Ending) × Ends (sewn ordinary job (length before)) before after e
+
 -- a page on which a job's listing was put: the place after the text, which is at most 196,608, and the whole text where the page has room
 pub record Lists (job page printed : List ℕ) (r : ℕ) : Type 0 where
   pub wrote : Wrote page 0 (listing ordinary job) printed r

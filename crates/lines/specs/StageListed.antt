@@ -220,6 +220,22 @@ held-small stage (refuse n p) H = omega (arith, refusal-short n p)
 pub stage-small : (stage : ℕ) (job : List ℕ) → 0 < stage → stage ≤ 11 → Below 256 job → length (stageListing stage ordinary job 131072) ≤ 360448
 stage-small stage job h k b = let K = stage-known stage h k job b 131072 in omega (arith, ap length (K .lines), held-small stage (K .rows) (K .held))
 
+-- what a stage makes of an output: that of its number, and nothing for a number that is no stage
+abbrev pub StagedInto : ℕ → List ℕ → List ℕ → List ℕ → Type 0
+StagedInto stage job before after =
+    (0 < stage → stage ≤ 11 → (e : Ending) × Ends (operation stage job (length before)) before after e)
+    × ((stage ≡ 0) ⊎ (11 < stage) → after ≡ before)
+
+-- no number is that of a stage and not
+not-both : {A : Type 0} (stage : ℕ) → 0 < stage → stage ≤ 11 → (stage ≡ 0) ⊎ (11 < stage) → A
+not-both stage some most none = absurd (⊎-elim (λ zero. omega (arith, some, zero)) (λ past. omega (arith, most, past)) none)
+
+pub runs : (stage : ℕ) (job before after : List ℕ) (e : Ending) → 0 < stage → stage ≤ 11 → Ends (operation stage job (length before)) before after e → StagedInto stage job before after
+runs stage job before after e some most E = (λ _ _. (e, E), not-both stage some most)
+
+pub stays : (stage : ℕ) (job out : List ℕ) → (stage ≡ 0) ⊎ (11 < stage) → StagedInto stage job out out
+stays stage job out none = (λ some most. not-both stage some most none, λ _. refl)
+
 -- a page on which a stage's lines were put: the place after the text, which is at most 360,448, and the whole text where the page has room
 pub record StageLists (stage : ℕ) (job page printed : List ℕ) (r : ℕ) : Type 0 where
   pub wrote : Wrote page 0 (stageListing stage ordinary job 131072) printed r

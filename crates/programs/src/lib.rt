@@ -4,7 +4,7 @@ use rules::Ending;
 ghost use lib.ListN.{length};
 ghost use Rattle.rules.specs.Sew.{Ends};
 ghost use Rattle.rules.specs.Operation.{operation};
-ghost use Rattle.lines.specs.StageListed.{StageLists};
+ghost use Rattle.lines.specs.StageListed.{StagedInto, StageLists};
 
 // What became of a reading: a read that failed, or so many bytes at the buffer's start.
 pub enum Input {
@@ -52,7 +52,7 @@ pub fn operate(number: usize, job: &[u8], out: &mut [u8]) -> Ending
 // Runs the stage with a number from 1 to 11 into an output of 131,072 bytes and puts its lines on a page. Gives the length
 // of the text, which is at most 360,448; what the page has no room for is not stored. For any other number it does nothing.
 pub fn list_stage(stage: usize, job: &[u8], out: &mut [u8; 131072], page: &mut [u8]) -> usize
-    ensures { λ r. ⌜ StageLists stage (now (job .entry)) (now (page .entry)) (now (page .exit)) r ⌝ }
+    ensures { λ r. ⌜ StagedInto stage (now (job .entry)) (now (out .entry)) (now (out .exit)) × StageLists stage (now (job .entry)) (now (page .entry)) (now (page .exit)) r ⌝ }
 {
     if stage == 0 {
         return 0;

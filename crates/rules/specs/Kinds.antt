@@ -10,7 +10,7 @@ use Rattle.rules.specs.declared.Kind.the-variants.{Unknown, Head, Vertex
 use Rattle.rules.specs.declared.Counts.{Counts}
 use Rattle.rules.specs.Fields.{field}
 use Rattle.rules.specs.Job.{unset}
-use Rattle.rules.specs.Questions.{unordered}
+use Rattle.rules.specs.Questions.{unordered, isSurface, isVerdict}
 
 -- Job records, table: the kind of a number
 unfoldable pub kindOf : ℕ → Kind
@@ -163,12 +163,12 @@ fieldsPermitted FaceRecord c x = isSense (field x 1) && isSense (field x 2)
 fieldsPermitted LoopRecord c x = itemsPermitted (c .edges) x
 fieldsPermitted VertexLoop c x = exists (c .vertices) (field x 0)
 fieldsPermitted Radial c x = exists (c .edges) (field x 0) && all (exists (c .uses)) (drop 1 x)
-fieldsPermitted Surface c x = exists (c .uses) (field x 0) && leb (field x 1) 4
-fieldsPermitted Points c x = not (eqb (field x 0) (field x 1)) && leb (field x 2) 2
-fieldsPermitted Curves c x = not (eqb (field x 0) (field x 1)) && leb (field x 2) 2
-fieldsPermitted Singular c x = ltb (field x 1) (field x 2) && (exists (c .faces) (field x 2) && leb (field x 4) 2)
-fieldsPermitted Orientation c x = exists (c .faces) (field x 0) && leb (field x 1) 2
-fieldsPermitted Inside c x = exists (c .faces) (field x 0) && (exists (c .faces) (field x 1) && leb (field x 2) 2)
+fieldsPermitted Surface c x = exists (c .uses) (field x 0) && isSurface (field x 1)
+fieldsPermitted Points c x = not (eqb (field x 0) (field x 1)) && isVerdict (field x 2)
+fieldsPermitted Curves c x = not (eqb (field x 0) (field x 1)) && isVerdict (field x 2)
+fieldsPermitted Singular c x = ltb (field x 1) (field x 2) && (exists (c .faces) (field x 2) && isVerdict (field x 4))
+fieldsPermitted Orientation c x = exists (c .faces) (field x 0) && isVerdict (field x 1)
+fieldsPermitted Inside c x = exists (c .faces) (field x 0) && (exists (c .faces) (field x 1) && isVerdict (field x 2))
 
 -- Job records, table: how many fields make the question of an answer; 0 for a record that is no answer
 unfoldable pub questionLength : Kind → ℕ

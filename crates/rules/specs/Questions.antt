@@ -49,6 +49,13 @@ verdictNumber No = 0
 verdictNumber Yes = 1
 verdictNumber Undecided = 2
 
+-- Job records, the values permitted: kind 8, 0 to 4; kinds 9 to 13, 0 to 2. They are the numbers of the answers (QuestionLaws)
+abbrev pub isSurface : ℕ → Bool
+isSurface v = leb v 4
+
+abbrev pub isVerdict : ℕ → Bool
+isVerdict v = leb v 2
+
 -- the first of some answers that has number v, else another
 unfoldable pub numbered : {A : Type 0} → (A → ℕ) → List A → A → ℕ → A
 numbered number [] other v = other
