@@ -3,7 +3,7 @@ use Prim.Native.Nat.{ℕ, suc, _+_, _*_, _≤_, _<_}
 use native.Mathlib.Omega.{arith}
 use mathlib.Core.Path.{_≡_, refl, sym, ap, _∙_, subst}
 use mathlib.Core.Logic.{_⊎_, inl, inr, ⊎-elim}
-use mathlib.Core.Bool.{Bool, false≢true}
+use mathlib.Core.Bool.{Bool, true, false≢true}
 use mathlib.Core.List.{List, [], _∷_, _++_, map, flatMap, List·Memᴰ·head, List·Memᴰ·tail, List·Memᴰ·not-nil, List·Memᴰ·append-cases}
 use lib.ListN.{length, getD, length-append, length-map, List·getD-eq-default}
 use lib.Dec.{eqb, ltb}
@@ -17,6 +17,7 @@ use Rattle.lists.specs.Counts.{keep-map-length, times-keep}
 use Rattle.lists.specs.Rows.{flatMap-even}
 use Rattle.rules.specs.declared.Item.{Item}
 use Rattle.rules.specs.declared.Use.{Use}
+use Rattle.rules.specs.declared.Edge.{Edge}
 use Rattle.rules.specs.declared.EdgeData.{EdgeData}
 use Rattle.rules.specs.declared.KeptVertexLoop.{KeptVertexLoop}
 use Rattle.rules.specs.Outcome.{ok}
@@ -32,7 +33,7 @@ use Rattle.rules.specs.Rules.{Table}
 use Rattle.rules.specs.Merge.{Merged, mergeFaces, mergedFaces, mergedFaceOf}
 use Rattle.rules.specs.Walk.{successor, passedCounts, loopsOf}
 use Rattle.rules.specs.Fans.{keptWithEnds, fanPoint}
-use Rattle.rules.specs.Edges.{FaceLoop, faceLoop}
+use Rattle.rules.specs.Edges.{lowerUses, edgeData, edgesOf, FaceLoop, faceLoop}
 use Rattle.rules.specs.Join.{Joining, noEdgeData, replacedIn, joinAt, ringAt}
 use Rattle.rules.specs.Shells.{Shell, Nested, nested, lumps}
 use Rattle.rules.specs.Body.{bodyKind, itemFields}
@@ -81,6 +82,13 @@ pub record Laid (rows : List (List ℕ)) : Type 0 where
   pub edge : AllShaped 7 0 edges
   pub loop : AllShaped 2 2 loops
 
+-- the rows of edges alone: no join, no ring made, and every edge active
+pub record Fresh (rows : List (List ℕ)) : Type 0 where
+  pub edges : List EdgeData
+  pub loops : List FaceLoop
+  pub rows-are : rows ≡ (0 ∷ 0 ∷ length edges ∷ []) ∷ (map edgeFields edges ++ map faceLoopFields loops)
+  pub active : (e : EdgeData) → e ∈ edges → e .active ≡ true
+
 -- ROWS OF LOW FIELDS
 
 -- low fields, as many as they are
@@ -103,6 +111,11 @@ each-shaped : {A : Type 0} (f : A → List ℕ) (fixed counted : ℕ) (xs : List
 each-shaped f fixed counted xs each row m = let a = map-in f xs row m in subst (Shaped fixed counted) (sym (a .2)) (each (a .0) (a .1))
 
 -- EDGES AND LOOPS
+
+-- the edges of the kept pairs are active
+edges-active : (es : List Edge) (us : List Use) (ts : List ℕ) (rm : List Bool) (numbers ss g : List ℕ) (e : EdgeData) → e ∈ edgesOf es us ts rm numbers ss g → e .active ≡ true
+unfolding edgeData
+edges-active es us ts rm numbers ss g e m = ap (λ (d : EdgeData). d .active) (map-in (edgeData es us ts numbers ss g) (lowerUses ts rm) e m .2)
 
 -- the row of a low edge
 edge-shaped : (e : EdgeData) → LowEdge e → Shaped 7 0 (edgeFields e)
@@ -405,6 +418,20 @@ module _ (t : Table) (job : List ℕ) (bytes : Below 256 job) (j : Job) (l : loa
       let a = bind-ok (edged (withTable t) j) _ rows e in
       let c = edged-walks (withTable t) j (a .0) (a .1) in
       subst Laid (ok-one (a .2)) (subst (λ (x : Joined). Laid (tableRows (x .joining))) (sym (c .2)) (table-laid (unjoined j (fansOf j (c .0))) (start-table (c .0) (c .1))))
+
+  -- in `edges` the first two numbers are 0 and every edge is active
+  pub edges-fresh : (rows : List (List ℕ)) → edgeRows (withTable t) j ≡ ok rows → Fresh rows
+  unfolding edgeRows tableRows unjoined fansOf
+  edges-fresh rows e =
+      let a = bind-ok (edged (withTable t) j) _ rows e in
+      let c = edged-walks (withTable t) j (a .0) (a .1) in
+      let s : Joining = unjoined j (fansOf j (c .0)) in
+      record {
+        edges = s .edges;
+        loops = s .loops;
+        rows-are = sym (ok-one (a .2)) ∙ ap (λ (x : Joined). tableRows (x .joining)) (c .2);
+        active = edges-active (j .edges) (c .0 .uses) (c .0 .twins) (c .0 .merge .removed) (mergedFaces (c .0 .merge)) (c .0 .successors) (fansOf j (c .0) .fans);
+      }
 
   -- `joining`: counts, edges, loops
   pub joining-laid : (rows : List (List ℕ)) → joiningRows (withTable t) j ≡ ok rows → Laid rows
