@@ -34,7 +34,7 @@ use Rattle.rules.specs.Pair.{twinOf}
 use Rattle.rules.specs.Rules.{Table}
 use Rattle.rules.specs.Merge.{mergedFaces, mergedFaceOf}
 use Rattle.rules.specs.VertexLoops.{alreadyThere, keepUnlessThere, contentStep, vertexLoopStep, vertexLoops}
-use Rattle.rules.specs.Fans.{namesFan, startPoints, fanPoint}
+use Rattle.rules.specs.Fans.{startPoints, fanPoint}
 use Rattle.rules.specs.Edges.{fanOrNone, ownStart, ownEnd, edgeData, lowerKept, lowerUses, FaceLoop}
 use Rattle.rules.specs.Walk.{successor}
 use Rattle.rules.specs.Join.{Joining, noEdgeData, edgeDataAt, activeEdges, farEnd, joinedEdge, retired, ringOf, joinEdges, joinAt, ringAt, maximalEdges}
@@ -580,11 +580,6 @@ module _ (t : Table) (job : List ℕ) (bytes : Below 256 job) (j : Job) (l : loa
         two = refl;
         faces = one-low (min x y) (max x y ∷ []) (omega arith) (one-low (max x y) [] (omega arith) none-low);
       })
-
-  pub names-few : length (fansOf j w .names) ≤ 2048
-  unfolding fansOf
-  names-few =
-      omega (arith, keep-length (namesFan (j .edges) (w .uses) (w .merge .removed) (fansOf j w .fans)) (below (length (w .uses))), length-below (length (w .uses)), G .few)
 
   pub starts-low : Below 4294967296 (fansOf j w .starts)
   unfolding fansOf startPoints
