@@ -3,25 +3,25 @@ use Prim.Native.Nat.{ℕ, zero, suc, _+_, _*_, _/_, _%_, _<_}
 use native.Mathlib.Omega.{arith}
 use mathlib.Core.Path.{_≡_, refl, sym, ap, _∙_, subst}
 use mathlib.Core.Logic.{⊎-elim}
-use mathlib.Core.Bool.{Bool, true, false, _&&_, _||_, cond, false≢true}
+use mathlib.Core.Bool.{Bool, true, false, _&&_, cond, false≢true}
 use mathlib.Core.List.{List, [], _∷_, List·Memᴰ·not-nil, List·Memᴰ·cases-cons}
 use lib.ListN.{length, getD, drop}
 use lib.Dec.{eqb, ltb}
 use borrow.Author.Tests.{ltb-true, eqb-true}
 use Rattle.lists.specs.Lists.{_∈_}
-use Rattle.lists.specs.Tests.{both-ways, and-both}
+use Rattle.lists.specs.Tests.{and-both}
 use Rattle.lists.specs.Membership.{getD-in}
 use Rattle.lists.specs.OneMore.{snoc-members}
 use Rattle.rules.specs.declared.Kind.{Kind}
 use Rattle.rules.specs.declared.Kind.the-variants.{Unknown, Head, Vertex, EdgeRecord, FaceRecord, LoopRecord, VertexLoop, Radial, Surface, Points, Curves, Singular, Orientation, Inside}
-use Rattle.rules.specs.Outcome.{ok, need}
+use Rattle.rules.specs.Outcome.{ok}
 use Rattle.rules.specs.OutcomeLaws.{ok-one, bind-ok, need-ok, through-keeps}
-use Rattle.rules.specs.Fields.{le32, fieldsIn}
+use Rattle.rules.specs.Fields.{le32}
 use Rattle.rules.specs.FieldLaws.{length-fields}
 use Rattle.rules.specs.Frame.{Frame, wholeRecord, frameAt, taking, framesFrom, frames}
 use Rattle.rules.specs.Job.{Stretch, Job}
 use Rattle.rules.specs.Kinds.{kindOf, numberOf, isLoop, rightLength, rightPosition}
-use Rattle.rules.specs.Load.{Loading, alsoIf, counted, extended, loadRecord, nothingLoaded, loading, loaded, noStretch, requested}
+use Rattle.rules.specs.Load.{Loading, alsoIf, extended, loadRecord, nothingLoaded, loading, loaded, noStretch, requested}
 use Rattle.theorems.specs.Loading.{record-taken}
 
 -- a whole record has a field for each four bytes

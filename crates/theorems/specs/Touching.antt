@@ -27,7 +27,7 @@ use Rattle.theorems.specs.Reading.{use-face-below}
 use Rattle.theorems.specs.Loading.{loaded-sound}
 use Rattle.theorems.specs.Merging.{merge-boundaries, merge-boundaries-length}
 use Rattle.theorems.specs.Ground.{Ground, ground, settled-uses}
-use Rattle.theorems.specs.Fanning.{twin, succ, EndedUse, ended-kept, ended-succ, ended-twin, fanLabels}
+use Rattle.theorems.specs.Fanning.{twin, succ, EndedUse, ended-kept, ended-succ, fanLabels}
 
 module _ (t : Table) (job : List ℕ) (j : Job) (w : Walked) (l : loaded job ≡ ok j) (s : Settled t j w) where
   abbrev G : Ground j w
