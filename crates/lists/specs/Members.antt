@@ -1,4 +1,4 @@
--- Laws of tests over lists, of the members that pass a test, of positions, and of lists put together.
+-- Laws of what holds of each member, of tests over lists, of the members that pass a test, of positions, and of lists put together.
 use mathlib.Core.Path.{_≡_, refl, sym, ap, ap₂, _∙_, subst}
 use mathlib.Core.Logic.{_⊎_, ⊎-elim}
 use mathlib.Core.Bool.{Bool, true, false, not, cond, false≢true, true≢false}
@@ -6,11 +6,33 @@ use mathlib.Core.List.{List, [], _∷_, _++_, map, flatMap, foldl, List·Memᴰ�
 use Prim.Native.Nat.{ℕ, zero, suc, _+_, _-_, _≤_, _<_, zero-le}
 use native.Mathlib.Omega.{arith}
 use lib.Dec.{eqb}
-use lib.ListN.{length, getD, length-append}
+use lib.ListN.{length, getD, set, drop, length-append}
 use borrow.Author.Tests.{eqb-true, eqb-false, eq-eqb, ne-eqb}
 use Rattle.lists.specs.Lists.{_∈_, Nodup, has, all, some, keep, positions, position, indexOf, sumOf}
 use Rattle.lists.specs.Tests.{or-cases, or-second, and-both, both-and, equal-or-not}
 use Rattle.lists.specs.Membership.{pigeon, nodup-append}
+
+-- WHAT HOLDS OF EACH MEMBER
+
+-- what holds of each member, and of what stands for none, holds of what stands at a place
+pub at-has : {A : Type 0} (P : A → Type 0) (l : List A) (i : ℕ) (d : A) → P d → ((x : A) → x ∈ l → P x) → P (getD l i d)
+at-has P [] i d h each = h
+at-has P (x ∷ l) zero d h each = each x (List·Memᴰ·head refl)
+at-has P (x ∷ l) (suc i) d h each = at-has P l i d h (λ y m. each y (List·Memᴰ·tail m))
+
+-- it holds of each member after a store of what has it
+pub set-has : {A : Type 0} (P : A → Type 0) (l : List A) (i : ℕ) (a : A) → P a → ((x : A) → x ∈ l → P x) → (x : A) → x ∈ set l i a → P x
+set-has P [] i a h each x m = absurd (List·Memᴰ·not-nil m)
+set-has P (y ∷ l) zero a h each x m = ⊎-elim (λ e. subst P (sym e) h) (λ k. each x (List·Memᴰ·tail k)) (List·Memᴰ·cases-cons m)
+set-has P (y ∷ l) (suc i) a h each x m =
+    let later = set-has P l i a h (λ z k. each z (List·Memᴰ·tail k)) x in
+    ⊎-elim (λ e. subst P (sym e) (each y (List·Memᴰ·head refl))) later (List·Memᴰ·cases-cons m)
+
+-- a member of the rest of a list is a member
+pub drop-in : {A : Type 0} (k : ℕ) (l : List A) (x : A) → x ∈ drop k l → x ∈ l
+drop-in zero l x m = m
+drop-in (suc k) [] x m = m
+drop-in (suc k) (y ∷ l) x m = List·Memᴰ·tail (drop-in k l x m)
 
 -- ALL AND SOME
 

@@ -9,8 +9,9 @@ use lib.ListN.{length, getD, set, drop, length-append, length-map, length-set}
 use lib.Dec.{eqb}
 use Rattle.lists.specs.Lists.{_∈_, below, keep, has}
 use Rattle.lists.specs.Tests.{both-ways}
-use Rattle.lists.specs.Members.{keep-in, keep-length, map-in, flatMap-in, positions-in, positions-length, position-le}
+use Rattle.lists.specs.Members.{at-has, set-has, drop-in, keep-in, keep-length, map-in, flatMap-in, positions-in, positions-length, position-le}
 use Rattle.lists.specs.Runs.{length-below}
+use Rattle.lists.specs.OneMore.{snoc-members}
 use Rattle.rules.specs.declared.Edge.{Edge}
 use Rattle.rules.specs.declared.Face.{Face}
 use Rattle.rules.specs.declared.Item.{Item}
@@ -35,7 +36,7 @@ use Rattle.rules.specs.Rules.{Table}
 use Rattle.rules.specs.Merge.{mergedFaces, mergedFaceOf}
 use Rattle.rules.specs.VertexLoops.{alreadyThere, keepUnlessThere, contentStep, vertexLoopStep, vertexLoops}
 use Rattle.rules.specs.Fans.{startPoints, fanPoint}
-use Rattle.rules.specs.Edges.{fanOrNone, ownStart, ownEnd, edgeData, lowerKept, lowerUses, FaceLoop}
+use Rattle.rules.specs.Edges.{fanOrNone, edgeData, lowerKept, lowerUses, FaceLoop}
 use Rattle.rules.specs.Walk.{successor}
 use Rattle.rules.specs.Join.{Joining, noEdgeData, edgeDataAt, activeEdges, farEnd, joinedEdge, retired, ringOf, joinEdges, joinAt, ringAt, maximalEdges}
 use Rattle.rules.specs.Shells.{Shell, shellFaces, allShellFaces, orientShell, shells, enclosingShell, orRefuse, none, outers, Nested, nest, nested, lumpOf, lumps, lowestFace}
@@ -51,6 +52,7 @@ use Rattle.theorems.specs.Reporting.{Small, through-joined}
 use Rattle.theorems.specs.Assembly.{no-counts, totals-small}
 use Rattle.theorems.specs.Fanning.{fanLabels, fan-lowest, fan-size}
 use Rattle.theorems.specs.Edging.{lowers, edgeFor}
+use Rattle.theorems.specs.Starting.{own-both}
 
 -- each number is below a bound
 abbrev pub Below : ℕ → List ℕ → Type 0
@@ -59,33 +61,6 @@ Below n l = (x : ℕ) → x ∈ l → x < n
 -- a number that four bytes hold
 abbrev pub Low : ℕ → Type 0
 Low n = n < 4294967296
-
-pub below-at : (n : ℕ) (l : List ℕ) (i : ℕ) → 0 < n → Below n l → getD l i 0 < n
-below-at n [] i h b = h
-below-at n (x ∷ l) zero h b = b x (List·Memᴰ·head refl)
-below-at n (x ∷ l) (suc i) h b = below-at n l i h (λ y m. b y (List·Memᴰ·tail m))
-
--- a member, or what stands for none, has what all have
-at-has : {A : Type 0} (P : A → Type 0) (l : List A) (i : ℕ) (d : A) → P d → ((x : A) → x ∈ l → P x) → P (getD l i d)
-at-has P [] i d h all = h
-at-has P (x ∷ l) zero d h all = all x (List·Memᴰ·head refl)
-at-has P (x ∷ l) (suc i) d h all = at-has P l i d h (λ y m. all y (List·Memᴰ·tail m))
-
-set-has : {A : Type 0} (P : A → Type 0) (l : List A) (i : ℕ) (a : A) → P a → ((x : A) → x ∈ l → P x) → (x : A) → x ∈ set l i a → P x
-set-has P [] i a h all x m = absurd (List·Memᴰ·not-nil m)
-set-has P (y ∷ l) zero a h all x m = ⊎-elim (λ e. subst P (sym e) h) (λ k. all x (List·Memᴰ·tail k)) (List·Memᴰ·cases-cons m)
-set-has P (y ∷ l) (suc i) a h all x m =
-    let later = set-has P l i a h (λ z k. all z (List·Memᴰ·tail k)) x in
-    ⊎-elim (λ e. subst P (sym e) (all y (List·Memᴰ·head refl))) later (List·Memᴰ·cases-cons m)
-
-snoc-has : {A : Type 0} (P : A → Type 0) (l : List A) (a : A) → P a → ((x : A) → x ∈ l → P x) → (x : A) → x ∈ l ++ (a ∷ []) → P x
-snoc-has P l a h all x m =
-    ⊎-elim (all x) (λ i. ⊎-elim (λ e. subst P (sym e) h) (λ z. absurd (List·Memᴰ·not-nil z)) (List·Memᴰ·cases-cons i)) (List·Memᴰ·append-cases l m)
-
-below-drop : (n k : ℕ) (l : List ℕ) → Below n l → Below n (drop k l)
-below-drop n zero l b = b
-below-drop n (suc k) [] b = b
-below-drop n (suc k) (x ∷ l) b = below-drop n k l (λ y m. b y (List·Memᴰ·tail m))
 
 -- lists of low numbers, one after the other
 pub one-low : (a : ℕ) (l : List ℕ) → Low a → Below 4294967296 l → Below 4294967296 (a ∷ l)
@@ -106,13 +81,15 @@ kind-low false = omega arith
 
 field-low : (l : List ℕ) (p : ℕ) → Below 256 l → Low (le32 l p)
 unfolding le32
-field-low l p b = omega (arith, below-at 256 l p (omega arith) b, below-at 256 l (p + 1) (omega arith) b, below-at 256 l (p + 2) (omega arith) b, below-at 256 l (p + 3) (omega arith) b)
+field-low l p b =
+    let byte : (i : ℕ) → getD l i 0 < 256 = λ i. at-has (λ x. x < 256) l i 0 (omega arith) b in
+    omega (arith, byte p, byte (p + 1), byte (p + 2), byte (p + 3))
 
 fields-low : (n : ℕ) (l : List ℕ) → Below 256 l → Below 4294967296 (fieldsIn n l)
 unfolding fieldsIn
 fields-low zero l b x m = absurd (List·Memᴰ·not-nil m)
 fields-low (suc n) l b x m =
-    let later = fields-low n (drop 4 l) (below-drop 256 4 l b) x in
+    let later = fields-low n (drop 4 l) (λ y k. b y (drop-in 4 l y k)) x in
     ⊎-elim (λ e. subst Low (sym e) (field-low l 0 b)) later (List·Memᴰ·cases-cons m)
 
 frames-low : (most at : ℕ) (rest : List ℕ) → Below 256 rest → (f : Frame) → f ∈ framesFrom most at rest → Below 4294967296 (f .fields)
@@ -121,8 +98,8 @@ frames-low zero at rest b f m = absurd (List·Memᴰ·not-nil m)
 frames-low (suc most) at [] b f m = absurd (List·Memᴰ·not-nil m)
 frames-low (suc most) at (y ∷ ys) b f m =
     let rest : List ℕ = y ∷ ys in
-    let later = frames-low most (at + taking rest) (drop (taking rest) rest) (below-drop 256 (taking rest) rest b) f in
-    let here : Below 4294967296 (frameAt at rest .fields) = fields-low (cond (wholeRecord rest) (le32 rest 0 / 4) 0) (drop 6 rest) (below-drop 256 6 rest b) in
+    let later = frames-low most (at + taking rest) (drop (taking rest) rest) (λ y k. b y (drop-in (taking rest) rest y k)) f in
+    let here : Below 4294967296 (frameAt at rest .fields) = fields-low (cond (wholeRecord rest) (le32 rest 0 / 4) 0) (drop 6 rest) (λ y k. b y (drop-in 6 rest y k)) in
     ⊎-elim (λ e. subst (λ (g : Frame). Below 4294967296 (g .fields)) (sym e) here) later (List·Memᴰ·cases-cons m)
 
 -- points, curves and surfaces of a job have four bytes
@@ -133,12 +110,12 @@ pub record LowJob (j : Job) : Type 0 where
 
 also-has : {A : Type 0} (P : A → Type 0) (t : Bool) (xs : List A) (a : A) → P a → ((x : A) → x ∈ xs → P x) → (x : A) → x ∈ alsoIf t xs a → P x
 also-has P false xs a h all x m = all x m
-also-has P true xs a h all x m = snoc-has P xs a h all x m
+also-has P true xs a h all x m = snoc-members P xs a all h x m
 
 record-low : (f : Frame) (s t : Loading) → Below 4294967296 (f .fields) → LowJob (s .job) → loadRecord f s ≡ ok t → LowJob (t .job)
 unfolding extended
 record-low f s t b L e =
-    let low : Low (field (f .fields) 0) = below-at 4294967296 (f .fields) 0 (omega arith) b in
+    let low : Low (field (f .fields) 0) = at-has Low (f .fields) 0 0 (omega arith) b in
     subst (λ (u : Loading). LowJob (u .job)) (sym (record-taken f s t e .1)) (record {
       points = also-has Low (eqb (numberOf (kindOf (f .kind))) 2) (s .job .points) (field (f .fields) 0) low (L .points);
       curves = also-has (λ (e : Edge). Low (e .curve)) (eqb (numberOf (kindOf (f .kind))) 3) (s .job .edges) (edgeOf (f .fields)) low (L .curves);
@@ -173,7 +150,7 @@ step-has answers points face (atVertex v) P ks ks′ new all e =
 
     go : (t : Bool) → cond t ks (ks ++ (last ∷ [])) ≡ ks′ → (k : KeptVertexLoop) → k ∈ ks′ → P k
     go true q = subst (λ (l : List KeptVertexLoop). (k : KeptVertexLoop) → k ∈ l → P k) q all
-    go false q = subst (λ (l : List KeptVertexLoop). (k : KeptVertexLoop) → k ∈ l → P k) q (snoc-has P ks last (new v) all)
+    go false q = subst (λ (l : List KeptVertexLoop). (k : KeptVertexLoop) → k ∈ l → P k) q (snoc-members P ks last all (new v))
 
 pub kept-has : (answers : List Answer) (points numbers : List ℕ) (loops : List Loop) (P : KeptVertexLoop → Type 0) (ks : List KeptVertexLoop)
     → ((f v : ℕ) → P (record { face = getD numbers f 0; point = getD points v 0 }))
@@ -185,7 +162,7 @@ kept-has answers points numbers loops P ks each e =
 pub kept-points : (answers : List Answer) (points numbers : List ℕ) (loops : List Loop) (ks : List KeptVertexLoop) → Below 4294967296 points
     → vertexLoops answers points numbers loops ≡ ok ks → (k : KeptVertexLoop) → k ∈ ks → Low (k .point)
 kept-points answers points numbers loops ks b =
-    kept-has answers points numbers loops (λ (k : KeptVertexLoop). Low (k .point)) ks (λ f v. below-at 4294967296 points v (omega arith) b)
+    kept-has answers points numbers loops (λ (k : KeptVertexLoop). Low (k .point)) ks (λ f v. at-has Low points v 0 (omega arith) b)
 
 -- EDGES AND JOINING
 
@@ -205,11 +182,6 @@ edge-low : (es : List EdgeData) (i : ℕ) → LowEdges es → LowEdge (edgeDataA
 edge-low es i all =
     at-has LowEdge es i noEdgeData
     (record { curve = omega arith; start = omega arith; end = omega arith; two = refl; faces = one-low 0 (0 ∷ []) (omega arith) (one-low 0 [] (omega arith) none-low) }) all
-
--- two low ends, either way round
-own-low : (s : Sense) {a b : ℕ} → Low a → Low b → Low (ownStart s a b) × Low (ownEnd s a b)
-own-low Same h k = (h, k)
-own-low Reversed h k = (k, h)
 
 -- an edge that a change makes of low edges is low
 retired-low : (e : EdgeData) → LowEdge e → LowEdge (retired e)
@@ -241,8 +213,9 @@ made-low s t v (inr r) all =
     let low-a : LowEdge a = edge-low es (r .first) all in
     let low-b : LowEdge b = edge-low es (r .second) all in
     subst (λ (u : Joining). LowEdges (u .edges)) (sym (r .after))
-    (snoc-has LowEdge two (joinedEdge v a b) (joined-low v a b low-a low-b)
-    (set-has LowEdge one (r .second) (retired b) (retired-low b low-b) (set-has LowEdge es (r .first) (retired a) (retired-low a low-a) all)))
+    (snoc-members LowEdge two (joinedEdge v a b)
+    (set-has LowEdge one (r .second) (retired b) (retired-low b low-b) (set-has LowEdge es (r .first) (retired a) (retired-low a low-a) all))
+    (joined-low v a b low-a low-b))
 
 -- a change adds an edge where it is a join
 made-count : (s t : Joining) (v n : ℕ) → Made s v t → length (s .edges) ≡ n + s .joins → length (t .edges) ≡ n + t .joins
@@ -415,7 +388,7 @@ solid-low totals fs starts es ls members ks lumps S surfaces points edges few ke
     let count : length actives < 4294967296 = omega (arith, positions-length (λ (e : EdgeData). e .active) 0 es) in
     record {
       totals = S;
-      vertices = λ x m. let a = map-in (fanPoint starts) met x m in subst Low (sym (a .2)) (below-at 4294967296 starts (a .0) (omega arith) points);
+      vertices = λ x m. let a = map-in (fanPoint starts) met x m in subst Low (sym (a .2)) (at-has Low starts (a .0) 0 (omega arith) points);
       edges = λ e m.
           let a = map-in (withVertices met) (stillActive es) e m in
           let d : EdgeData = a .0 in
@@ -568,15 +541,15 @@ module _ (t : Table) (job : List ℕ) (bytes : Below 256 job) (j : Job) (l : loa
       let a = map-in (edgeFor j w) (lowers w) e m in
       let h : ℕ = a .0 in
       let d : Edge = edgeOfUse (j .edges) (useAt (w .uses) h) in
-      let s : Sense = useAt (w .uses) h .sense in
+      let own = own-both Low (useAt (w .uses) h .sense) _ _ (fan-low d h) (fan-low d (successor (w .successors) h)) in
       let x : ℕ = mergedFaceOf (w .uses) (mergedFaces (w .merge)) h in
       let y : ℕ = mergedFaceOf (w .uses) (mergedFaces (w .merge)) (twinOf (w .twins) h) in
       let low-x : Low x = number-low (faceOfUse (w .uses) h) in
       let low-y : Low y = number-low (faceOfUse (w .uses) (twinOf (w .twins) h)) in
       subst LowEdge (sym (a .2)) (record {
         curve = at-has (λ (d : Edge). Low (d .curve)) (j .edges) (useAt (w .uses) h .edge) noEdge (omega arith) (L .curves);
-        start = own-low s (fan-low d h) (fan-low d (successor (w .successors) h)) .0;
-        end = own-low s (fan-low d h) (fan-low d (successor (w .successors) h)) .1;
+        start = own .0;
+        end = own .1;
         two = refl;
         faces = one-low (min x y) (max x y ∷ []) (omega arith) (one-low (max x y) [] (omega arith) none-low);
       })
@@ -585,7 +558,7 @@ module _ (t : Table) (job : List ℕ) (bytes : Below 256 job) (j : Job) (l : loa
   unfolding fansOf startPoints
   starts-low x m =
       let a = map-in (λ u. getD (j .points) _ 0) (w .uses) x m in
-      subst Low (sym (a .2)) (below-at 4294967296 (j .points) _ (omega arith) (L .points))
+      subst Low (sym (a .2)) (at-has Low (j .points) _ 0 (omega arith) (L .points))
 
   -- the edges where joining ends are few and low
   pub ended-few : (s : Joining) → maximalEdges (j .answers) (fansOf j w .starts) (fansOf j w .names) (length (fansOf j w .names)) (unjoined j (fansOf j w)) ≡ ok s → length (s .edges) ≤ 4096

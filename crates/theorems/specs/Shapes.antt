@@ -12,7 +12,7 @@ use Rattle.lists.specs.Lists.{_∈_, Nodup, below, keep}
 use Rattle.lists.specs.Tests.{both-ways, eqb-swap}
 use Rattle.lists.specs.Membership.{in-getD, once-nodup}
 use Rattle.lists.specs.Runs.{below-in, pigeon-below}
-use Rattle.lists.specs.Members.{keep-in, keep-same, map-in, in-map, flatMap-in}
+use Rattle.lists.specs.Members.{at-has, keep-in, keep-same, map-in, in-map, flatMap-in}
 use Rattle.lists.specs.Counts.{keep-map-length, times-keep}
 use Rattle.lists.specs.Rows.{flatMap-even}
 use Rattle.rules.specs.declared.Item.{Item}
@@ -58,7 +58,7 @@ use Rattle.theorems.specs.Edging.{edges-hold}
 use Rattle.theorems.specs.Starting.{loop-kept, loop-nodup, starts-sound}
 use Rattle.theorems.specs.Reporting.{fanned-walks, edged-walks, through-joined}
 use Rattle.theorems.specs.Assembly.{no-counts, joining-sound, totals-small}
-use Rattle.theorems.specs.Narrow.{Below, Low, below-at, one-low, none-low, sense-low, kind-low, loaded-low, kept-has, LowEdge, LowEdges, FewFaces, shells-few, nested-few, lumps-few, lumps-count}
+use Rattle.theorems.specs.Narrow.{Below, Low, one-low, none-low, sense-low, kind-low, loaded-low, kept-has, LowEdge, LowEdges, FewFaces, shells-few, nested-few, lumps-few, lumps-count}
 use Rattle.theorems.specs.Narrow.{faces-few, joined-walks, start-few, groups-few, number-low, label-low, start-low, starts-low, ended-few, ended-low}
 
 -- a row of `fixed` fields and `counted` more for each that its second field counts, all of four bytes
@@ -284,7 +284,7 @@ module _ (t : Table) (job : List ℕ) (bytes : Below 256 job) (j : Job) (l : loa
     kept-each =
         each-shaped keptFields 2 0 (w .vertexLoops) (λ k m.
         let r = kept-has (j .answers) (j .points) (mergedFaces (w .merge)) (j .loops) (λ (k : KeptVertexLoop). Low (k .face) × Low (k .point)) (w .vertexLoops)
-        (λ f v. (number-low t job bytes j l w q f, below-at 4294967296 (j .points) v (omega arith) (loaded-low job j bytes l .points))) (S .vertices) k m in
+        (λ f v. (number-low t job bytes j l w q f, at-has Low (j .points) v 0 (omega arith) (loaded-low job j bytes l .points))) (S .vertices) k m in
         plain 2 (keptFields k) refl (two-low (k .face) (k .point) (r .0) (r .1)))
 
     passed-low : (h : ℕ) → h < length (w .uses) → Low (getD (w .passed) h 0)
@@ -321,7 +321,7 @@ module _ (t : Table) (job : List ℕ) (bytes : Below 256 job) (j : Job) (l : loa
         (three-low h (labelOf (fansOf j w .fans) h) (fanPoint (fansOf j w .starts) h)
         (omega (arith, below-in (length (w .uses)) h (keep-in ended (below (length (w .uses))) h m .0), G .few))
         (label-low t job bytes j l w q h)
-        (below-at 4294967296 (fansOf j w .starts) h (omega arith) (starts-low t job bytes j l w q))))
+        (at-has Low (fansOf j w .starts) h 0 (omega arith) (starts-low t job bytes j l w q))))
 
     -- where joining starts and where it ends
     start-faces : (k : FaceLoop) → k ∈ unjoined j (fansOf j w) .loops → Low (k .face)

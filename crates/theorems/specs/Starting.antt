@@ -39,7 +39,7 @@ use Rattle.theorems.specs.Edging.{firstEdges, item, fanAt, EdgesHold}
 -- ENDS
 
 -- what holds of both ends along a use holds of the edge's own start and end
-own-both : (P : ℕ → Type 0) (s : Sense) (x y : ℕ) → P x → P y → P (ownStart s x y) × P (ownEnd s x y)
+pub own-both : (P : ℕ → Type 0) (s : Sense) (x y : ℕ) → P x → P y → P (ownStart s x y) × P (ownEnd s x y)
 own-both P Same x y p q = (p, q)
 own-both P Reversed x y p q = (q, p)
 
