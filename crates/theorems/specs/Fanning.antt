@@ -148,7 +148,8 @@ module _ (j : Job) (w : Walked) (G : Ground j w) where
       (λ t. let z : Path ℕ (mark h) 0 = ap (λ b. cond b (suc (startOf j w h)) 0) t in absurd (omega arith))
       (both-ways (keptWithEnds (j .edges) (w .uses) (w .merge .removed) h))
 
-  succ-below : (h : ℕ) → h < length (w .uses) → keptWithEnds (j .edges) (w .uses) (w .merge .removed) h ≡ true → succ w h < length (w .uses)
+  -- the new successor of a kept use with ends is a use
+  pub succ-below : (h : ℕ) → h < length (w .uses) → keptWithEnds (j .edges) (w .uses) (w .merge .removed) h ≡ true → succ w h < length (w .uses)
   succ-below h lt t = ended-succ j w G h (lt, t) .0
 
   -- a fan's label is its lowest use; each use has one

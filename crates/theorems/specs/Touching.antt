@@ -13,7 +13,6 @@ use Rattle.rules.specs.Job.{Job}
 use Rattle.rules.specs.Load.{loaded}
 use Rattle.rules.specs.Read.{usesOf, faceOfUse, oldSuccessor}
 use Rattle.rules.specs.Groups.{labelOf, lowestMembers}
-use Rattle.rules.specs.GroupLaws.{Lowest}
 use Rattle.rules.specs.Rules.{Table}
 use Rattle.rules.specs.Merge.{boundaries}
 use Rattle.rules.specs.Walk.{over, turn}
@@ -22,12 +21,12 @@ use Rattle.rules.specs.Contact.{useLabel}
 use Rattle.rules.specs.Shells.{Nested, lumpLabels}
 use Rattle.rules.specs.Sew.{Walked}
 use Rattle.theorems.specs.Demand3.{Meets, KeptUse, Settled}
-use Rattle.theorems.specs.Connected.{value-equivalence, boundaries-twin, fans-length, fans-lowest, fans-within}
+use Rattle.theorems.specs.Connected.{value-equivalence, boundaries-twin, fans-within}
 use Rattle.theorems.specs.Reading.{use-face-below}
 use Rattle.theorems.specs.Loading.{loaded-sound}
 use Rattle.theorems.specs.Merging.{merge-boundaries, merge-boundaries-length}
 use Rattle.theorems.specs.Ground.{Ground, ground, settled-uses}
-use Rattle.theorems.specs.Fanning.{twin, succ, EndedUse, ended-kept, ended-succ, fanLabels}
+use Rattle.theorems.specs.Fanning.{twin, succ, EndedUse, ended-kept, fanLabels, succ-below, fan-lowest, fan-size}
 
 module _ (t : Table) (job : List ℕ) (j : Job) (w : Walked) (l : loaded job ≡ ok j) (s : Settled t j w) where
   abbrev G : Ground j w
@@ -58,26 +57,19 @@ module _ (t : Table) (job : List ℕ) (j : Job) (w : Walked) (l : loaded job ≡
       let m : Meets w h = G .walks .unbroken .meets h k in
       ap side (m .successor-is) ∙ side-turn (m .passings) (oldSuccessor (w .uses) h) (G .linked .nextBelow h (k .0)) ∙ side-next h (k .0)
 
-  succ-below : (h : ℕ) → h < length (w .uses) → keptWithEnds (j .edges) (w .uses) (w .merge .removed) h ≡ true → succ w h < length (w .uses)
-  succ-below h lt e = ended-succ j w G h (lt, e) .0
-
-  lowest : Lowest (fanLabels j w)
-  lowest = fans-lowest (j .edges) (w .uses) (w .twins) (w .merge .removed) (w .successors) succ-below (G .twins .below)
-
   corner-side : (h : ℕ) → h < length (w .uses) → keptWithEnds (j .edges) (w .uses) (w .merge .removed) h ≡ true → side (succ w h) ≡ side (twin w h)
   corner-side h lt e = side-succ h (ended-kept j w h (lt, e)) ∙ sym (side-twin h lt)
 
   -- the boundary at the use that names a fan is that of each of its uses
   pub one-boundary : (h : ℕ) → EndedUse j w h → useLabel (w .uses) (w .merge .boundaries) (labelOf (fanLabels j w) h) ≡ useLabel (w .uses) (w .merge .boundaries) h
   one-boundary h e =
-      let n : length (fanLabels j w) ≡ length (w .uses) = fans-length (j .edges) (w .uses) (w .twins) (w .merge .removed) (w .successors) in
-      let lt : h < length (fanLabels j w) = omega (arith, e .0, n) in
-      let below : labelOf (fanLabels j w) h < length (w .uses) = omega (arith, lowest .low h lt, e .0) in
+      let lt : h < length (fanLabels j w) = omega (arith, e .0, fan-size j w G) in
+      let below : labelOf (fanLabels j w) h < length (w .uses) = omega (arith, fan-lowest j w G .low h lt, e .0) in
       let b : w .merge .boundaries ≡ boundaries (w .uses) (w .twins) (length (j .faces)) =
       merge-boundaries t (j .answers) (j .faces) (usesOf j) (w .twins) (w .merge) (s .surfaces) ∙ ap (λ (u : List Use). boundaries u (w .twins) (length (j .faces))) (settled-uses t j w s) in
       let r : side (labelOf (fanLabels j w) h) ≡ side h =
-      fans-within (j .edges) (w .uses) (w .twins) (w .merge .removed) (w .successors) succ-below (G .twins .below) (value-equivalence side) corner-side
-      (labelOf (fanLabels j w) h) h below (e .0) (lowest .stands h lt) in
+      fans-within (j .edges) (w .uses) (w .twins) (w .merge .removed) (w .successors) (succ-below j w G) (G .twins .below) (value-equivalence side) corner-side
+      (labelOf (fanLabels j w) h) h below (e .0) (fan-lowest j w G .stands h lt) in
       ap (λ bs. useLabel (w .uses) bs (labelOf (fanLabels j w) h)) b ∙ r ∙ sym (ap (λ bs. useLabel (w .uses) bs h) b)
 
   -- so is the lump
@@ -85,9 +77,8 @@ module _ (t : Table) (job : List ℕ) (j : Job) (w : Walked) (l : loaded job ≡
       → useLabel (w .uses) (lumpLabels (w .merge .boundaries) ns) (labelOf (fanLabels j w) h) ≡ useLabel (w .uses) (lumpLabels (w .merge .boundaries) ns) h
   unfolding lumpLabels
   one-lump ns h e =
-      let n : length (fanLabels j w) ≡ length (w .uses) = fans-length (j .edges) (w .uses) (w .twins) (w .merge .removed) (w .successors) in
-      let lt : h < length (fanLabels j w) = omega (arith, e .0, n) in
-      let below : labelOf (fanLabels j w) h < length (w .uses) = omega (arith, lowest .low h lt, e .0) in
+      let lt : h < length (fanLabels j w) = omega (arith, e .0, fan-size j w G) in
+      let below : labelOf (fanLabels j w) h < length (w .uses) = omega (arith, fan-lowest j w G .low h lt, e .0) in
       let size = merge-boundaries-length t (j .answers) (j .faces) (usesOf j) (w .twins) (w .merge) (s .surfaces) in
       let lump : ℕ → ℕ = λ b. getD (map (λ (n : Nested). n .home) ns) (indexOf b (lowestMembers (w .merge .boundaries))) 0 in
       let at : (u : ℕ) → u < length (w .uses) → useLabel (w .uses) (map lump (w .merge .boundaries)) u ≡ lump (useLabel (w .uses) (w .merge .boundaries) u) =
