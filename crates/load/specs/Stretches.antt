@@ -10,7 +10,6 @@ use borrow.Author.Tests.{lt-ltb, le-ltb}
 use Rattle.lists.specs.Lists.{_∈_}
 use Rattle.lists.specs.Membership.{getD-in}
 use Rattle.lists.specs.Runs.{length-table, getD-table}
-use Rattle.lists.specs.OneMore.{snoc-members}
 use Rattle.rules.specs.declared.Counts.{Counts}
 use Rattle.rules.specs.Fields.{le32}
 use Rattle.rules.specs.Outcome.{Outcome, ok, refuse, need}
@@ -19,8 +18,8 @@ use Rattle.rules.specs.Frame.{Frame, frames}
 use Rattle.rules.specs.FrameLaws.{frames-inside}
 use Rattle.rules.specs.Job.{Stretch}
 use Rattle.rules.specs.Kinds.{kindOf, isLoop}
-use Rattle.rules.specs.Load.{Loading, alsoIf, counted, extended, loadRecord, nothingLoaded, loading, noStretch, requested, shown}
-use Rattle.theorems.specs.Loading.{loading-counted}
+use Rattle.rules.specs.Load.{Loading, counted, extended, loadRecord, nothingLoaded, loading, noStretch, requested, shown}
+use Rattle.theorems.specs.Loading.{also-has, loading-counted}
 use Rattle.theorems.specs.Requests.{request-some}
 use Rattle.job.specs.Lists.{loopByte, stretchIn, stretchesIn, jobIn}
 use Rattle.load.specs.declared.Stretched.{Stretched}
@@ -62,18 +61,14 @@ frame-taken f s t e =
     let new = need-ok _ _ _ _ t (joints .1) in
     (whole .0, sym (ok-one (new .1)))
 
-one-stretch : (b : Bool) (ts : List Stretch) (y : Stretch) (n : ℕ) → ((t : Stretch) → t ∈ ts → t .start + t .size ≤ n) → y .start + y .size ≤ n
-    → (t : Stretch) → t ∈ alsoIf b ts y → t .start + t .size ≤ n
-one-stretch true ts y n each last t m = snoc-members (λ (t : Stretch). t .start + t .size ≤ n) ts y each last t m
-one-stretch false ts y n each last t m = each t m
-
+-- a record of the job keeps that
 inside-kept : (bytes : List ℕ) (f : Frame) (s t : Loading) → f ∈ frames bytes → Inside bytes s → loadRecord f s ≡ ok t → Inside bytes t
 unfolding Inside extended
 inside-kept bytes f s t m I e =
     let r = frame-taken f s t e in
     let h = frames-inside (length bytes) 0 bytes f m (r .0) in
     subst (Inside bytes) (sym (r .1))
-    (one-stretch (isLoop (kindOf (f .kind))) (s .job .stretches) (record { start = f .at + 6; size = 4 * length (f .fields) }) (length bytes) I (omega arith))
+    (also-has (λ (t : Stretch). t .start + t .size ≤ length bytes) (isLoop (kindOf (f .kind))) (s .job .stretches) (record { start = f .at + 6; size = 4 * length (f .fields) }) I (λ _. omega arith))
 
 pub stretches-inside : (bytes : List ℕ) (s : Loading) → loading bytes ≡ ok s → (t : Stretch) → t ∈ s .job .stretches → t .start + t .size ≤ length bytes
 unfolding loading Inside

@@ -4,12 +4,14 @@ use native.Mathlib.Nat.{not-suc-le-zero}
 use native.Mathlib.Omega.{arith}
 use mathlib.Core.Path.{_≡_, refl, sym, _∙_, subst}
 use mathlib.Core.Logic.{⊎-elim}
-use mathlib.Core.Bool.{_&&_}
+use mathlib.Core.Bool.{Bool, true, false, _&&_}
 use mathlib.Core.List.{List, List·Memᴰ·not-nil}
 use lib.ListN.{length}
 use lib.Dec.{ltb}
 use borrow.Author.Tests.{ltb-true, ltb-false, not-true}
+use Rattle.lists.specs.Lists.{_∈_}
 use Rattle.lists.specs.Tests.{both-ways, and-both}
+use Rattle.lists.specs.OneMore.{snoc-members}
 use Rattle.lists.specs.Sums.{sum-nil}
 use Rattle.rules.specs.declared.Counts.{Counts}
 use Rattle.rules.specs.Outcome.{ok}
@@ -17,11 +19,16 @@ use Rattle.rules.specs.OutcomeLaws.{ok-one, bind-ok, need-ok, through-keeps}
 use Rattle.rules.specs.Frame.{Frame, frames}
 use Rattle.rules.specs.Job.{Job}
 use Rattle.rules.specs.Kinds.{kindOf, rightLength, rightPosition}
-use Rattle.rules.specs.Load.{Loading, counted, extended, loadRecord, nothingLoaded, loading, loaded}
+use Rattle.rules.specs.Load.{Loading, alsoIf, counted, extended, loadRecord, nothingLoaded, loading, loaded}
 use Rattle.rules.specs.Read.{usesOf}
 use Rattle.theorems.specs.Sound.{Counted, Limited, Sound}
 use Rattle.theorems.specs.Reading.{itemsIn, uses-length, use-face-below}
 use Rattle.theorems.specs.Fit.{Fit, Taken, fit-kept}
+
+-- what holds of each member, and of one more where that is added, holds of each member then
+pub also-has : {A : Type 0} (P : A → Type 0) (b : Bool) (xs : List A) (y : A) → ((x : A) → x ∈ xs → P x) → (b ≡ true → P y) → (x : A) → x ∈ alsoIf b xs y → P x
+also-has P true xs y each last = snoc-members P xs y each (last refl)
+also-has P false xs y each last = each
 
 -- what is loaded so far is fit
 FitLoading : Loading → Type 0

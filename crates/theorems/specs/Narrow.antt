@@ -26,7 +26,7 @@ use Rattle.rules.specs.Fields.{le32, fieldsIn, field}
 use Rattle.rules.specs.Frame.{Frame, Record, wholeRecord, frameAt, taking, framesFrom, frames}
 use Rattle.rules.specs.Job.{unset, Answer, Content, ofItems, atVertex, Loop, Job, noEdge, ring}
 use Rattle.rules.specs.Kinds.{kindOf, numberOf}
-use Rattle.rules.specs.Load.{Loading, loadRecord, nothingLoaded, loading, loaded, extended, alsoIf, edgeOf, faceOf}
+use Rattle.rules.specs.Load.{Loading, loadRecord, nothingLoaded, loading, loaded, extended, edgeOf, faceOf}
 use Rattle.rules.specs.Read.{usesOf, useAt, faceOfUse, edgeOfUse}
 use Rattle.rules.specs.Questions.{askYes}
 use Rattle.rules.specs.Groups.{labelOf, isLowest, lowestMembers}
@@ -44,7 +44,7 @@ use Rattle.rules.specs.Body.{Totals, BodyFace, Body, emptyBody, meet, metFans, 
 use Rattle.rules.specs.Body.{itemFields, loopRecord, vertexLoopRecord, faceRecords, lumpRecords, bodyRecords}
 use Rattle.rules.specs.Sew.{Walked, walked, fansOf, fanned, unjoined, Joined, edged, throughJoining, shellsOf, lumpsClear, totalsOf, bodyOf, solid, rebuild}
 use Rattle.theorems.specs.Demand3.{withTable, Settled}
-use Rattle.theorems.specs.Loading.{record-taken, loaded-limits}
+use Rattle.theorems.specs.Loading.{also-has, record-taken, loaded-limits}
 use Rattle.theorems.specs.Merging.{merge-groups-length}
 use Rattle.theorems.specs.Changes.{Made, joining-keeps}
 use Rattle.theorems.specs.Ground.{Ground, ground, walked-settled}
@@ -108,18 +108,15 @@ pub record LowJob (j : Job) : Type 0 where
   pub curves : (e : Edge) → e ∈ j .edges → Low (e .curve)
   pub surfaces : (f : Face) → f ∈ j .faces → Low (f .surface)
 
-also-has : {A : Type 0} (P : A → Type 0) (t : Bool) (xs : List A) (a : A) → P a → ((x : A) → x ∈ xs → P x) → (x : A) → x ∈ alsoIf t xs a → P x
-also-has P false xs a h all x m = all x m
-also-has P true xs a h all x m = snoc-members P xs a all h x m
-
+-- a record whose fields have four bytes keeps that
 record-low : (f : Frame) (s t : Loading) → Below 4294967296 (f .fields) → LowJob (s .job) → loadRecord f s ≡ ok t → LowJob (t .job)
 unfolding extended
 record-low f s t b L e =
     let low : Low (field (f .fields) 0) = at-has Low (f .fields) 0 0 (omega arith) b in
     subst (λ (u : Loading). LowJob (u .job)) (sym (record-taken f s t e .1)) (record {
-      points = also-has Low (eqb (numberOf (kindOf (f .kind))) 2) (s .job .points) (field (f .fields) 0) low (L .points);
-      curves = also-has (λ (e : Edge). Low (e .curve)) (eqb (numberOf (kindOf (f .kind))) 3) (s .job .edges) (edgeOf (f .fields)) low (L .curves);
-      surfaces = also-has (λ (g : Face). Low (g .surface)) (eqb (numberOf (kindOf (f .kind))) 4) (s .job .faces) (faceOf (f .fields)) low (L .surfaces);
+      points = also-has Low (eqb (numberOf (kindOf (f .kind))) 2) (s .job .points) (field (f .fields) 0) (L .points) (λ _. low);
+      curves = also-has (λ (e : Edge). Low (e .curve)) (eqb (numberOf (kindOf (f .kind))) 3) (s .job .edges) (edgeOf (f .fields)) (L .curves) (λ _. low);
+      surfaces = also-has (λ (g : Face). Low (g .surface)) (eqb (numberOf (kindOf (f .kind))) 4) (s .job .faces) (faceOf (f .fields)) (L .surfaces) (λ _. low);
     })
 
 pub loaded-low : (job : List ℕ) (j : Job) → Below 256 job → loaded job ≡ ok j → LowJob j

@@ -1,9 +1,9 @@
 -- A loop request that is not refused shows at least one byte.
 use Prim.Native.Nat.{ℕ, zero, suc, _+_, _*_, _/_, _%_, _<_}
 use native.Mathlib.Omega.{arith}
-use mathlib.Core.Path.{_≡_, refl, sym, ap, _∙_, subst}
+use mathlib.Core.Path.{_≡_, sym, ap, _∙_, subst}
 use mathlib.Core.Logic.{⊎-elim}
-use mathlib.Core.Bool.{Bool, true, false, _&&_, cond, false≢true}
+use mathlib.Core.Bool.{true, _&&_, cond, false≢true}
 use mathlib.Core.List.{List, [], _∷_, List·Memᴰ·not-nil, List·Memᴰ·cases-cons}
 use lib.ListN.{length, getD, drop}
 use lib.Dec.{eqb, ltb}
@@ -11,7 +11,6 @@ use borrow.Author.Tests.{ltb-true, eqb-true}
 use Rattle.lists.specs.Lists.{_∈_}
 use Rattle.lists.specs.Tests.{and-both}
 use Rattle.lists.specs.Membership.{getD-in}
-use Rattle.lists.specs.OneMore.{snoc-members}
 use Rattle.rules.specs.declared.Kind.{Kind}
 use Rattle.rules.specs.declared.Kind.the-variants.{Unknown, Head, Vertex, EdgeRecord, FaceRecord, LoopRecord, VertexLoop, Radial, Surface, Points, Curves, Singular, Orientation, Inside}
 use Rattle.rules.specs.Outcome.{ok}
@@ -21,8 +20,8 @@ use Rattle.rules.specs.FieldLaws.{length-fields}
 use Rattle.rules.specs.Frame.{Frame, wholeRecord, frameAt, taking, framesFrom, frames}
 use Rattle.rules.specs.Job.{Stretch, Job}
 use Rattle.rules.specs.Kinds.{kindOf, numberOf, isLoop, rightLength, rightPosition}
-use Rattle.rules.specs.Load.{Loading, alsoIf, extended, loadRecord, nothingLoaded, loading, loaded, noStretch, requested}
-use Rattle.theorems.specs.Loading.{record-taken}
+use Rattle.rules.specs.Load.{Loading, extended, loadRecord, nothingLoaded, loading, loaded, noStretch, requested}
+use Rattle.theorems.specs.Loading.{also-has, record-taken}
 
 -- a whole record has a field for each four bytes
 frames-sized : (most at : ℕ) (rest : List ℕ) (f : Frame) → f ∈ framesFrom most at rest → f .whole ≡ true → length (f .fields) ≡ f .size / 4
@@ -63,10 +62,7 @@ loop-size Inside size l r = absurd (false≢true l)
 Some : Loading → Type 0
 Some s = (t : Stretch) → t ∈ s .job .stretches → 0 < t .size
 
-also-some : (b : Bool) (ts : List Stretch) (y : Stretch) → ((t : Stretch) → t ∈ ts → 0 < t .size) → (b ≡ true → 0 < y .size) → (t : Stretch) → t ∈ alsoIf b ts y → 0 < t .size
-also-some true ts y each last = snoc-members (λ (t : Stretch). 0 < t .size) ts y each (last refl)
-also-some false ts y each last = each
-
+-- a record of the job keeps that
 some-kept : (bytes : List ℕ) (f : Frame) (s t : Loading) → f ∈ frames bytes → Some s → loadRecord f s ≡ ok t → Some t
 unfolding Some extended loadRecord
 some-kept bytes f s t m S e =
@@ -75,7 +71,7 @@ some-kept bytes f s t m S e =
     let right = and-both (rightLength (kindOf (f .kind)) (f .size)) _ (framed .0) .0 in
     let n = frames-sized (length bytes) 0 bytes f m (whole .0) in
     subst (λ (u : Loading). (t : Stretch) → t ∈ u .job .stretches → 0 < t .size) (sym (record-taken f s t e .1))
-    (also-some (isLoop (kindOf (f .kind))) (s .job .stretches) (record { start = f .at + 6; size = 4 * length (f .fields) }) S
+    (also-has (λ (t : Stretch). 0 < t .size) (isLoop (kindOf (f .kind))) (s .job .stretches) (record { start = f .at + 6; size = 4 * length (f .fields) }) S
     (λ l. let h = loop-size (kindOf (f .kind)) (f .size) l right in omega arith))
 
 pub stretches-some : (bytes : List ℕ) (s : Loading) → loading bytes ≡ ok s → (t : Stretch) → t ∈ s .job .stretches → 0 < t .size
