@@ -3,7 +3,6 @@ use Prim.Native.Nat.{ℕ, _+_, _*_, _-_, _<_, _≤_}
 use native.Mathlib.Omega.{arith}
 use mathlib.Core.Path.{_≡_, sym, ap, _∙_, subst}
 use mathlib.Core.List.{List, [], List·Memᴰ·not-nil}
-use mathlib.Core.Bool.{Bool, true, false}
 use lib.ListN.{length, getD, take, drop}
 use lib.Dec.{ltb}
 use borrow.Author.Tests.{lt-ltb, le-ltb}
@@ -13,13 +12,13 @@ use Rattle.lists.specs.Runs.{length-table, getD-table}
 use Rattle.rules.specs.declared.Counts.{Counts}
 use Rattle.rules.specs.Fields.{le32}
 use Rattle.rules.specs.Outcome.{Outcome, ok, refuse, need}
-use Rattle.rules.specs.OutcomeLaws.{ok-one, need-on, need-stop, need-ok, through-keeps}
+use Rattle.rules.specs.OutcomeLaws.{need-on, need-stop}
 use Rattle.rules.specs.Frame.{Frame, frames}
 use Rattle.rules.specs.FrameLaws.{frames-inside}
 use Rattle.rules.specs.Job.{Stretch}
 use Rattle.rules.specs.Kinds.{kindOf, isLoop}
-use Rattle.rules.specs.Load.{Loading, counted, extended, loadRecord, nothingLoaded, loading, noStretch, requested, shown}
-use Rattle.theorems.specs.Loading.{also-has, loading-counted}
+use Rattle.rules.specs.Load.{Loading, extended, loadRecord, loading, noStretch, requested, shown}
+use Rattle.theorems.specs.Loading.{also-has, record-taken, loading-keeps, loading-counted}
 use Rattle.theorems.specs.Requests.{request-some}
 use Rattle.job.specs.Lists.{loopByte, stretchIn, stretchesIn, jobIn}
 use Rattle.load.specs.declared.Stretched.{Stretched}
@@ -47,35 +46,19 @@ Placed job (refuse number place) part = part ≡ job
 Inside : List ℕ → Loading → Type 0
 Inside bytes s = (t : Stretch) → t ∈ s .job .stretches → t .start + t .size ≤ length bytes
 
--- a record that is taken is whole, and gives the job that the definitions say
-frame-taken : (f : Frame) (s t : Loading) → loadRecord f s ≡ ok t
-    → (f .whole ≡ true)
-    × (t ≡ record { counts = counted (kindOf (f .kind)) (length (f .fields)) (s .counts); job = extended (kindOf (f .kind)) (f .at) (f .fields) (s .job) })
-unfolding loadRecord
-frame-taken f s t e =
-    let whole = need-ok (f .whole) _ _ _ t e in
-    let framed = need-ok _ _ _ _ t (whole .1) in
-    let limit = need-ok _ _ _ _ t (framed .1) in
-    let permitted = need-ok _ _ _ _ t (limit .1) in
-    let joints = need-ok _ _ _ _ t (permitted .1) in
-    let new = need-ok _ _ _ _ t (joints .1) in
-    (whole .0, sym (ok-one (new .1)))
-
 -- a record of the job keeps that
 inside-kept : (bytes : List ℕ) (f : Frame) (s t : Loading) → f ∈ frames bytes → Inside bytes s → loadRecord f s ≡ ok t → Inside bytes t
 unfolding Inside extended
 inside-kept bytes f s t m I e =
-    let r = frame-taken f s t e in
-    let h = frames-inside (length bytes) 0 bytes f m (r .0) in
-    subst (Inside bytes) (sym (r .1))
+    let r = record-taken f s t e in
+    let h = frames-inside (length bytes) 0 bytes f m (r .whole) in
+    subst (Inside bytes) (sym (r .after))
     (also-has (λ (t : Stretch). t .start + t .size ≤ length bytes) (isLoop (kindOf (f .kind))) (s .job .stretches) (record { start = f .at + 6; size = 4 * length (f .fields) }) I (λ _. omega arith))
 
+-- each loop's payload of a loaded job lies within its bytes
 pub stretches-inside : (bytes : List ℕ) (s : Loading) → loading bytes ≡ ok s → (t : Stretch) → t ∈ s .job .stretches → t .start + t .size ≤ length bytes
-unfolding loading Inside
-stretches-inside bytes s e =
-    let small = need-ok _ _ _ _ s e in
-    let some = need-ok _ _ _ _ s (small .1) in
-    through-keeps loadRecord (Inside bytes) (frames bytes) nothingLoaded s (inside-kept bytes) (λ t m. absurd (List·Memᴰ·not-nil m)) (some .1)
+unfolding Inside
+stretches-inside bytes s = loading-keeps bytes (Inside bytes) s (inside-kept bytes) (λ t m. absurd (List·Memᴰ·not-nil m))
 
 -- THE REQUEST
 

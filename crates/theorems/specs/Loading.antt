@@ -34,10 +34,15 @@ also-has P false xs y each last = each
 FitLoading : Loading → Type 0
 FitLoading s = Fit (s .counts) (s .job)
 
+-- what a record that loading takes has, and what is loaded after it
+pub record RecordTaken (f : Frame) (s t : Loading) : Type 0 where
+  pub whole : f .whole ≡ true
+  pub sized : rightLength (kindOf (f .kind)) (f .size) ≡ true
+  pub taken : Taken (kindOf (f .kind)) (f .fields) (s .counts) (s .job)
+  pub after : t ≡ record { counts = counted (kindOf (f .kind)) (length (f .fields)) (s .counts); job = extended (kindOf (f .kind)) (f .at) (f .fields) (s .job) }
+
 -- a record that loading takes
-pub record-taken : (f : Frame) (s t : Loading) → loadRecord f s ≡ ok t
-    → Taken (kindOf (f .kind)) (f .fields) (s .counts) (s .job)
-    × (t ≡ record { counts = counted (kindOf (f .kind)) (length (f .fields)) (s .counts); job = extended (kindOf (f .kind)) (f .at) (f .fields) (s .job) })
+pub record-taken : (f : Frame) (s t : Loading) → loadRecord f s ≡ ok t → RecordTaken f s t
 unfolding loadRecord
 record-taken f s t e =
     let whole = need-ok (f .whole) _ _ _ t e in
@@ -45,15 +50,23 @@ record-taken f s t e =
     let limit = need-ok _ _ _ _ t (framed .1) in
     let permitted = need-ok _ _ _ _ t (limit .1) in
     let joints = need-ok _ _ _ _ t (permitted .1) in
-    let new = need-ok _ _ _ _ t (joints .1) in (
-      record {
-        position = and-both (rightLength (kindOf (f .kind)) (f .size)) _ (framed .0) .1;
-        limit = not-true _ (limit .0);
-        permitted = permitted .0;
-        joints = joints .0;
-      },
-      sym (ok-one (new .1)),
-    )
+    let new = need-ok _ _ _ _ t (joints .1) in
+    let right = and-both (rightLength (kindOf (f .kind)) (f .size)) _ (framed .0) in
+    record {
+      whole = whole .0;
+      sized = right .0;
+      taken = record { position = right .1; limit = not-true _ (limit .0); permitted = permitted .0; joints = joints .0 };
+      after = sym (ok-one (new .1));
+    }
+
+-- what each record of a job that loading takes keeps holds when all are taken
+pub loading-keeps : (job : List ℕ) (P : Loading → Type 0) (s : Loading) → ((f : Frame) (u v : Loading) → f ∈ frames job → P u → loadRecord f u ≡ ok v → P v) → P nothingLoaded
+    → loading job ≡ ok s → P s
+unfolding loading
+loading-keeps job P s keeps none e =
+    let small = need-ok _ _ _ _ s e in
+    let some = need-ok _ _ _ _ s (small .1) in
+    through-keeps loadRecord P (frames job) nothingLoaded s keeps none (some .1)
 
 fit-nothing : FitLoading nothingLoaded
 unfolding FitLoading
@@ -74,13 +87,11 @@ fit-nothing = record {
 
 -- what is loaded when a job's records are all taken is fit
 pub loading-fit : (job : List ℕ) (s : Loading) → loading job ≡ ok s → Fit (s .counts) (s .job)
-unfolding loading FitLoading
-loading-fit job s e =
-    let small = need-ok _ _ _ _ s e in
-    let some = need-ok _ _ _ _ s (small .1) in
-    through-keeps loadRecord FitLoading (frames job) nothingLoaded s
-    (λ f u v m F q. let r = record-taken f u v q in subst FitLoading (sym (r .1)) (fit-kept (kindOf (f .kind)) (f .at) (f .fields) (u .counts) (u .job) F (r .0)))
-    fit-nothing (some .1)
+unfolding FitLoading
+loading-fit job s =
+    loading-keeps job FitLoading s
+    (λ f u v m F q. let r = record-taken f u v q in subst FitLoading (sym (r .after)) (fit-kept (kindOf (f .kind)) (f .at) (f .fields) (u .counts) (u .job) F (r .taken)))
+    fit-nothing
 
 -- the counts of a loaded job are the lengths of its lists, within the limits
 pub loading-counted : (job : List ℕ) (s : Loading) → loading job ≡ ok s → Counted (s .counts) (s .job) × Limited (s .counts)

@@ -20,13 +20,13 @@ use Rattle.rules.specs.declared.Sense.the-variants.{Same, Reversed}
 use Rattle.rules.specs.declared.EdgeData.{EdgeData}
 use Rattle.rules.specs.declared.KeptVertexLoop.{KeptVertexLoop}
 use Rattle.rules.specs.Outcome.{Outcome, ok, _>>=_, forEach}
-use Rattle.rules.specs.OutcomeLaws.{ok-one, bind-ok, need-ok, cond-ok, through-keeps, each-ok, each-length}
+use Rattle.rules.specs.OutcomeLaws.{ok-one, bind-ok, cond-ok, through-keeps, each-ok, each-length}
 use Rattle.rules.specs.Sense.{senseNumber}
 use Rattle.rules.specs.Fields.{le32, fieldsIn, field}
-use Rattle.rules.specs.Frame.{Frame, Record, wholeRecord, frameAt, taking, framesFrom, frames}
+use Rattle.rules.specs.Frame.{Frame, Record, wholeRecord, frameAt, taking, framesFrom}
 use Rattle.rules.specs.Job.{unset, Answer, Content, ofItems, atVertex, Loop, Job, noEdge, ring}
 use Rattle.rules.specs.Kinds.{kindOf, numberOf}
-use Rattle.rules.specs.Load.{Loading, loadRecord, nothingLoaded, loading, loaded, extended, edgeOf, faceOf}
+use Rattle.rules.specs.Load.{Loading, loadRecord, loading, loaded, extended, edgeOf, faceOf}
 use Rattle.rules.specs.Read.{usesOf, useAt, faceOfUse, edgeOfUse}
 use Rattle.rules.specs.Questions.{askYes}
 use Rattle.rules.specs.Groups.{labelOf, isLowest, lowestMembers}
@@ -44,7 +44,7 @@ use Rattle.rules.specs.Body.{Totals, BodyFace, Body, emptyBody, meet, metFans, 
 use Rattle.rules.specs.Body.{itemFields, loopRecord, vertexLoopRecord, faceRecords, lumpRecords, bodyRecords}
 use Rattle.rules.specs.Sew.{Walked, walked, fansOf, fanned, unjoined, Joined, edged, throughJoining, shellsOf, lumpsClear, totalsOf, bodyOf, solid, rebuild}
 use Rattle.theorems.specs.Demand3.{withTable, Settled}
-use Rattle.theorems.specs.Loading.{also-has, record-taken, loaded-limits}
+use Rattle.theorems.specs.Loading.{also-has, record-taken, loading-keeps, loaded-limits}
 use Rattle.theorems.specs.Merging.{merge-groups-length}
 use Rattle.theorems.specs.Changes.{Made, joining-keeps}
 use Rattle.theorems.specs.Ground.{Ground, ground, walked-settled}
@@ -113,21 +113,19 @@ record-low : (f : Frame) (s t : Loading) → Below 4294967296 (f .fields) → Lo
 unfolding extended
 record-low f s t b L e =
     let low : Low (field (f .fields) 0) = at-has Low (f .fields) 0 0 (omega arith) b in
-    subst (λ (u : Loading). LowJob (u .job)) (sym (record-taken f s t e .1)) (record {
+    subst (λ (u : Loading). LowJob (u .job)) (sym (record-taken f s t e .after)) (record {
       points = also-has Low (eqb (numberOf (kindOf (f .kind))) 2) (s .job .points) (field (f .fields) 0) (L .points) (λ _. low);
       curves = also-has (λ (e : Edge). Low (e .curve)) (eqb (numberOf (kindOf (f .kind))) 3) (s .job .edges) (edgeOf (f .fields)) (L .curves) (λ _. low);
       surfaces = also-has (λ (g : Face). Low (g .surface)) (eqb (numberOf (kindOf (f .kind))) 4) (s .job .faces) (faceOf (f .fields)) (L .surfaces) (λ _. low);
     })
 
+-- a job of bytes is such
 pub loaded-low : (job : List ℕ) (j : Job) → Below 256 job → loaded job ≡ ok j → LowJob j
-unfolding loading
 loaded-low job j b l =
     let r = bind-ok (loading job) _ j l in
-    let small = need-ok _ _ _ _ (r .0) (r .1) in
-    let some = need-ok _ _ _ _ (r .0) (small .1) in
-    let all = through-keeps loadRecord (λ (s : Loading). LowJob (s .job)) (frames job) nothingLoaded (r .0)
+    let all = loading-keeps job (λ (s : Loading). LowJob (s .job)) (r .0)
     (λ f u v m S q. record-low f u v (frames-low (length job) 0 job b f m) S q)
-    (record { points = λ p m. absurd (List·Memᴰ·not-nil m); curves = λ e m. absurd (List·Memᴰ·not-nil m); surfaces = λ f m. absurd (List·Memᴰ·not-nil m) }) (some .1) in
+    (record { points = λ p m. absurd (List·Memᴰ·not-nil m); curves = λ e m. absurd (List·Memᴰ·not-nil m); surfaces = λ f m. absurd (List·Memᴰ·not-nil m) }) (r .1) in
     subst LowJob (ok-one (r .2)) all
 
 -- VERTEX LOOPS

@@ -3,7 +3,7 @@ use Prim.Native.Nat.{ℕ, zero, suc, _+_, _*_, _/_, _%_, _<_}
 use native.Mathlib.Omega.{arith}
 use mathlib.Core.Path.{_≡_, sym, ap, _∙_, subst}
 use mathlib.Core.Logic.{⊎-elim}
-use mathlib.Core.Bool.{true, _&&_, cond, false≢true}
+use mathlib.Core.Bool.{true, cond, false≢true}
 use mathlib.Core.List.{List, [], _∷_, List·Memᴰ·not-nil, List·Memᴰ·cases-cons}
 use lib.ListN.{length, getD, drop}
 use lib.Dec.{eqb, ltb}
@@ -14,14 +14,14 @@ use Rattle.lists.specs.Membership.{getD-in}
 use Rattle.rules.specs.declared.Kind.{Kind}
 use Rattle.rules.specs.declared.Kind.the-variants.{Unknown, Head, Vertex, EdgeRecord, FaceRecord, LoopRecord, VertexLoop, Radial, Surface, Points, Curves, Singular, Orientation, Inside}
 use Rattle.rules.specs.Outcome.{ok}
-use Rattle.rules.specs.OutcomeLaws.{ok-one, bind-ok, need-ok, through-keeps}
+use Rattle.rules.specs.OutcomeLaws.{ok-one, bind-ok, need-ok}
 use Rattle.rules.specs.Fields.{le32}
 use Rattle.rules.specs.FieldLaws.{length-fields}
 use Rattle.rules.specs.Frame.{Frame, wholeRecord, frameAt, taking, framesFrom, frames}
 use Rattle.rules.specs.Job.{Stretch, Job}
-use Rattle.rules.specs.Kinds.{kindOf, numberOf, isLoop, rightLength, rightPosition}
-use Rattle.rules.specs.Load.{Loading, extended, loadRecord, nothingLoaded, loading, loaded, noStretch, requested}
-use Rattle.theorems.specs.Loading.{also-has, record-taken}
+use Rattle.rules.specs.Kinds.{kindOf, numberOf, isLoop, rightLength}
+use Rattle.rules.specs.Load.{Loading, extended, loadRecord, loading, loaded, noStretch, requested}
+use Rattle.theorems.specs.Loading.{also-has, record-taken, loading-keeps}
 
 -- a whole record has a field for each four bytes
 frames-sized : (most at : ℕ) (rest : List ℕ) (f : Frame) → f ∈ framesFrom most at rest → f .whole ≡ true → length (f .fields) ≡ f .size / 4
@@ -64,22 +64,18 @@ Some s = (t : Stretch) → t ∈ s .job .stretches → 0 < t .size
 
 -- a record of the job keeps that
 some-kept : (bytes : List ℕ) (f : Frame) (s t : Loading) → f ∈ frames bytes → Some s → loadRecord f s ≡ ok t → Some t
-unfolding Some extended loadRecord
+unfolding Some extended
 some-kept bytes f s t m S e =
-    let whole = need-ok (f .whole) _ _ _ t e in
-    let framed = need-ok (rightLength (kindOf (f .kind)) (f .size) && rightPosition (kindOf (f .kind)) (s .counts .part)) _ _ _ t (whole .1) in
-    let right = and-both (rightLength (kindOf (f .kind)) (f .size)) _ (framed .0) .0 in
-    let n = frames-sized (length bytes) 0 bytes f m (whole .0) in
-    subst (λ (u : Loading). (t : Stretch) → t ∈ u .job .stretches → 0 < t .size) (sym (record-taken f s t e .1))
+    let r = record-taken f s t e in
+    let n = frames-sized (length bytes) 0 bytes f m (r .whole) in
+    subst (λ (u : Loading). (t : Stretch) → t ∈ u .job .stretches → 0 < t .size) (sym (r .after))
     (also-has (λ (t : Stretch). 0 < t .size) (isLoop (kindOf (f .kind))) (s .job .stretches) (record { start = f .at + 6; size = 4 * length (f .fields) }) S
-    (λ l. let h = loop-size (kindOf (f .kind)) (f .size) l right in omega arith))
+    (λ l. let h = loop-size (kindOf (f .kind)) (f .size) l (r .sized) in omega arith))
 
+-- each loop's payload of a loaded job is not empty
 pub stretches-some : (bytes : List ℕ) (s : Loading) → loading bytes ≡ ok s → (t : Stretch) → t ∈ s .job .stretches → 0 < t .size
-unfolding loading Some
-stretches-some bytes s e =
-    let small = need-ok _ _ _ _ s e in
-    let some = need-ok _ _ _ _ s (small .1) in
-    through-keeps loadRecord Some (frames bytes) nothingLoaded s (some-kept bytes) (λ t m. absurd (List·Memᴰ·not-nil m)) (some .1)
+unfolding Some
+stretches-some bytes s = loading-keeps bytes Some s (some-kept bytes) (λ t m. absurd (List·Memᴰ·not-nil m))
 
 -- a requested stretch is not empty
 pub request-some : (job : List ℕ) (n : ℕ) (s : Stretch) → requested job n ≡ ok s → 0 < s .size
