@@ -192,7 +192,7 @@ module _ (t : Table) (job : List ℕ) (j : Job) (w : Walked) (l : loaded job ≡
       let a = sewn-body (withTable t) job room bytes j l e in
       ⊎-elim
       (λ r. empty-holds bytes (r .0) (a .2 ∙ ap (λ b. framedAll (bodyRecords b)) (r .1)))
-      (λ r. solid-holds bytes (r .1 .0) (r .1 .1) (r .0) (r .1 .2) (a .2 ∙ ap (λ b. framedAll (bodyRecords b)) (r .1 .3)))
+      (λ r. solid-holds bytes (r .1 .joined) (r .1 .nests) (r .0) (r .1 .joining) (a .2 ∙ ap (λ b. framedAll (bodyRecords b)) (r .1 .body)))
       (rebuild-cases (withTable t) j (a .0) (a .1))
 
 -- demand 3, for each joining table and every job

@@ -20,7 +20,7 @@ use Rattle.rules.specs.declared.Sense.the-variants.{Same, Reversed}
 use Rattle.rules.specs.declared.EdgeData.{EdgeData}
 use Rattle.rules.specs.declared.KeptVertexLoop.{KeptVertexLoop}
 use Rattle.rules.specs.Outcome.{Outcome, ok, _>>=_, forEach}
-use Rattle.rules.specs.OutcomeLaws.{ok-one, bind-ok, cond-ok, through-keeps, each-ok, each-length}
+use Rattle.rules.specs.OutcomeLaws.{ok-one, bind-ok, through-keeps, each-ok, each-length}
 use Rattle.rules.specs.Sense.{senseNumber}
 use Rattle.rules.specs.Fields.{le32, fieldsIn, field}
 use Rattle.rules.specs.Frame.{Frame, Record, wholeRecord, frameAt, taking, framesFrom}
@@ -40,15 +40,15 @@ use Rattle.rules.specs.Edges.{fanOrNone, edgeData, lowerKept, lowerUses, FaceLo
 use Rattle.rules.specs.Walk.{successor}
 use Rattle.rules.specs.Join.{Joining, noEdgeData, edgeDataAt, activeEdges, farEnd, joinedEdge, retired, ringOf, joinEdges, joinAt, ringAt, maximalEdges}
 use Rattle.rules.specs.Shells.{Shell, shellFaces, allShellFaces, orientShell, shells, enclosingShell, orRefuse, none, outers, Nested, nest, nested, lumpOf, lumps, lowestFace}
-use Rattle.rules.specs.Body.{Totals, BodyFace, Body, emptyBody, meet, metFans, vertexOf, withVertices, renumbered, bodyFace, bodyFaces, stillActive, solidBody, bodyKind, vertexRecord, edgeRecord}
+use Rattle.rules.specs.Body.{Totals, BodyFace, Body, meet, metFans, vertexOf, withVertices, renumbered, bodyFace, bodyFaces, stillActive, solidBody, bodyKind, vertexRecord, edgeRecord}
 use Rattle.rules.specs.Body.{itemFields, loopRecord, vertexLoopRecord, faceRecords, lumpRecords, bodyRecords}
-use Rattle.rules.specs.Sew.{Walked, walked, fansOf, fanned, unjoined, Joined, edged, throughJoining, shellsOf, lumpsClear, totalsOf, bodyOf, solid, rebuild}
+use Rattle.rules.specs.Sew.{Walked, walked, fansOf, unjoined, Joined, throughJoining, shellsOf, totalsOf, bodyOf, rebuild}
 use Rattle.theorems.specs.Demand3.{withTable, Settled}
 use Rattle.theorems.specs.Loading.{also-has, record-taken, loading-keeps, loaded-limits}
 use Rattle.theorems.specs.Merging.{merge-groups-length}
 use Rattle.theorems.specs.Changes.{Made, joining-keeps}
 use Rattle.theorems.specs.Ground.{Ground, ground, walked-settled}
-use Rattle.theorems.specs.Reporting.{Small, through-joined}
+use Rattle.theorems.specs.Reporting.{Small, Solid, rebuild-cases, through-joined, joined-walks, joined-shells}
 use Rattle.theorems.specs.Assembly.{no-counts, totals-small}
 use Rattle.theorems.specs.Fanning.{fanLabels, fan-lowest, fan-size}
 use Rattle.theorems.specs.Edging.{lowers, edgeFor}
@@ -468,27 +468,7 @@ records-narrow b L r m =
 
 -- THE WHOLE
 
--- a solid job's stages up to nesting
-pub solid-steps : (t : Table) (j : Job) (b : Body) → solid (withTable t) j ≡ ok b
-    → (x : Joined) × (ss : List Shell) × (ns : List Nested) × (throughJoining (withTable t) j ≡ ok x) × (shellsOf j (x .fan .walk) ≡ ok ss) × (nested (j .answers) ss ≡ ok ns) × (b ≡ bodyOf j x ns)
-unfolding solid
-solid-steps t j b e =
-    let a = bind-ok (throughJoining (withTable t) j) _ b e in
-    let x : Joined = a .0 in
-    let c = bind-ok (shellsOf j (x .fan .walk)) _ b (a .2) in
-    let d = bind-ok (nested (j .answers) (c .0)) _ b (c .2) in
-    let f = bind-ok (lumpsClear j (x .fan) (d .0)) _ b (d .2) in
-    (x, c .0, d .0, a .1, c .1, d .1, sym (ok-one (f .2)))
-
--- joining is reached from the walks
-pub joined-walks : (t : Table) (j : Job) (x : Joined) → throughJoining (withTable t) j ≡ ok x → (w : Walked) × (walked (withTable t) j ≡ ok w)
-unfolding throughJoining edged fanned
-joined-walks t j x e =
-    let a = bind-ok (edged (withTable t) j) _ x e in
-    let b = bind-ok (fanned (withTable t) j) _ (a .0) (a .1) in
-    let c = bind-ok (walked (withTable t) j) _ (b .0) (b .1) in
-    (c .0, c .1)
-
+-- a loaded job has few faces
 pub faces-few : (job : List ℕ) (j : Job) → loaded job ≡ ok j → length (j .faces) ≤ 256
 faces-few job j l = let c = loaded-limits job j l in omega (arith, c .1 .faces, c .2 .faces)
 
@@ -571,9 +551,8 @@ module _ (t : Table) (job : List ℕ) (bytes : Below 256 job) (j : Job) (l : loa
   body-low x ss ns e f g =
       let r = through-joined t j w x q e in
       let s : Joining = r .0 in
-      let shells-are : shellsOf j w ≡ ok ss = ap (λ (y : Joined). shellsOf j (y .fan .walk)) (sym (r .1)) ∙ f in
       let n : ℕ = length (w .merge .groups) in
-      let each = nested-few (j .answers) n ss ns (shells-few (j .answers) (j .proven) (w .merge .boundaries) (w .merge .groups) ss shells-are) g in
+      let each = nested-few (j .answers) n ss ns (shells-few (j .answers) (j .proven) (w .merge .boundaries) (w .merge .groups) ss (joined-shells t j w x ss q e f)) g in
       subst (λ (y : Joined). LowBody (bodyOf j y ns)) (sym (r .1))
       (solid-low (totalsOf w s) (j .faces) (fansOf j w .starts) (s .edges) (s .loops) (lowestMembers (w .merge .groups)) (w .vertexLoops) (lumps ns)
       (totals-small t job j w l S s (r .2))
@@ -586,10 +565,9 @@ module _ (t : Table) (job : List ℕ) (bytes : Below 256 job) (j : Job) (l : loa
 
 -- each number of a body that rebuilding gives for a job of bytes has four bytes
 pub rebuilt-low : (t : Table) (job : List ℕ) (j : Job) (b : Body) → Below 256 job → loaded job ≡ ok j → rebuild (withTable t) j ≡ ok b → LowBody b
-unfolding rebuild
 rebuilt-low t job j b bytes l e =
     ⊎-elim
-    (λ r. subst LowBody (ok-one (r .1)) (record {
+    (λ r. subst LowBody (sym (r .1)) (record {
       totals = record { uses = omega arith; removed = omega arith; passed = omega arith; joins = omega arith; rings = omega arith };
       vertices = none-low;
       edges = λ e m. absurd (List·Memᴰ·not-nil m);
@@ -599,10 +577,10 @@ rebuilt-low t job j b bytes l e =
       lumps = λ k m. absurd (List·Memᴰ·not-nil m);
     }))
     (λ r.
-    let p = solid-steps t j b (r .1) in
-    let w = joined-walks t j (p .0) (p .3) in
-    subst LowBody (sym (p .6)) (body-low t job bytes j l (w .0) (w .1) (p .0) (p .1) (p .2) (p .3) (p .4) (p .5)))
-    (cond-ok (eqb (length (j .faces)) 0) (ok emptyBody) (solid (withTable t) j) b e)
+    let p : Solid (withTable t) j b = r .1 in
+    let w = joined-walks t j (p .joined) (p .joining) in
+    subst LowBody (sym (p .body)) (body-low t job bytes j l (w .0) (w .1) (p .joined) (p .oriented) (p .nests) (p .joining) (p .shells) (p .nesting)))
+    (rebuild-cases (withTable t) j b e)
 
 -- its records have kinds of two bytes and fields of four
 pub rebuilt-narrow : (t : Table) (job : List ℕ) (j : Job) (b : Body) → Below 256 job → loaded job ≡ ok j → rebuild (withTable t) j ≡ ok b → (r : Record) → r ∈ bodyRecords b → Narrow r

@@ -26,7 +26,7 @@ use Rattle.rules.specs.Walk.{passedOf, passedCounts}
 use Rattle.rules.specs.Fans.{namesFan}
 use Rattle.rules.specs.Contact.{edgeTouches, contactPoints, clear, edgesClear, pointsClear}
 use Rattle.rules.specs.Join.{Joining, maximalEdges}
-use Rattle.rules.specs.Shells.{Nested, nested}
+use Rattle.rules.specs.Shells.{Shell, Nested, nested}
 use Rattle.rules.specs.Body.{Totals, Body, emptyBody, solidBody, bodyKind, totalsRecord, bodyRecords}
 use Rattle.rules.specs.Sew.{Walked, walksOf, walked, Fanned, fansOf, fanned, unjoined, Joined, edged, throughJoining, shellsOf, lumpsClear, totalsOf, bodyOf, solid, rebuild, fitting, sewn}
 use Rattle.rules.specs.Stage.{keptUses}
@@ -98,10 +98,19 @@ sewn-body rules job room bytes j l e =
     let n = need-ok (leb (length (framedAll (bodyRecords (a .0)))) room) 40 (length (framedAll (bodyRecords (a .0)))) (ok (framedAll (bodyRecords (a .0)))) bytes (a .2) in
     (a .0, a .1, sym (ok-one (n .1)))
 
+-- what the body of a job with faces is made of
+pub record Solid (rules : Rules) (j : Job) (b : Body) : Type 0 where
+  pub joined : Joined
+  pub oriented : List Shell
+  pub nests : List Nested
+  pub joining : throughJoining rules j ≡ ok joined
+  pub shells : shellsOf j (joined .fan .walk) ≡ ok oriented
+  pub nesting : nested (j .answers) oriented ≡ ok nests
+  pub body : b ≡ bodyOf j joined nests
+
 -- a job without faces gives the Empty body; any other passes through joining, shells and nesting
 pub rebuild-cases : (rules : Rules) (j : Job) (b : Body) → rebuild rules j ≡ ok b
-    → ((eqb (length (j .faces)) 0 ≡ true) × (b ≡ emptyBody))
-    ⊎ ((eqb (length (j .faces)) 0 ≡ false) × ((x : Joined) × (ns : List Nested) × (throughJoining rules j ≡ ok x) × (b ≡ bodyOf j x ns)))
+    → ((eqb (length (j .faces)) 0 ≡ true) × (b ≡ emptyBody)) ⊎ ((eqb (length (j .faces)) 0 ≡ false) × Solid rules j b)
 unfolding rebuild solid
 rebuild-cases rules j b e =
     ⊎-elim
@@ -112,7 +121,7 @@ rebuild-cases rules j b e =
     let c = bind-ok (shellsOf j (x .fan .walk)) _ b (a .2) in
     let d = bind-ok (nested (j .answers) (c .0)) _ b (c .2) in
     let f = bind-ok (lumpsClear j (x .fan) (d .0)) _ b (d .2) in
-    inr (r .0, (x, d .0, a .1, sym (ok-one (f .2)))))
+    inr (r .0, record { joined = x; oriented = c .0; nests = d .0; joining = a .1; shells = c .1; nesting = d .1; body = sym (ok-one (f .2)) }))
     (cond-ok (eqb (length (j .faces)) 0) (ok emptyBody) (solid rules j) b e)
 
 -- the records begin with that of the totals
@@ -165,6 +174,20 @@ through-joined t j w x q e =
         let z = subst (λ (y : Joined). (maximalEdges (j .answers) (y .fan .starts) (y .fan .names) (length (y .fan .names)) (y .joining) >>= λ s. ok (record { fan = y .fan; joining = s })) ≡ ok x) p r in
         let m = bind-ok (maximalEdges (j .answers) (F .starts) (F .names) (length (F .names)) (unjoined j F)) (λ s. ok (record { fan = F; joining = s })) x z in
         (m .0, sym (ok-one (m .2)), m .1)
+
+-- joining is reached from the walks
+pub joined-walks : (t : Table) (j : Job) (x : Joined) → throughJoining (withTable t) j ≡ ok x → (w : Walked) × (walked (withTable t) j ≡ ok w)
+unfolding throughJoining
+joined-walks t j x e =
+    let a = bind-ok (edged (withTable t) j) _ x e in
+    let c = edged-walks (withTable t) j (a .0) (a .1) in
+    (c .0, c .1)
+
+-- the shells after joining are those of the walks
+pub joined-shells : (t : Table) (j : Job) (w : Walked) (x : Joined) (ss : List Shell) → walked (withTable t) j ≡ ok w → throughJoining (withTable t) j ≡ ok x
+    → shellsOf j (x .fan .walk) ≡ ok ss → shellsOf j w ≡ ok ss
+unfolding fansOf
+joined-shells t j w x ss q e f = ap (λ (y : Joined). shellsOf j (y .fan .walk)) (sym (through-joined t j w x q e .1)) ∙ f
 
 nil-of : {A : Type 0} (l : List A) → length l ≡ 0 → l ≡ []
 nil-of [] e = refl

@@ -56,10 +56,10 @@ use Rattle.theorems.specs.Ground.{Ground, ground, walked-settled, settle
 use Rattle.theorems.specs.Fanning.{fans-hold, succ-kept}
 use Rattle.theorems.specs.Edging.{edges-hold}
 use Rattle.theorems.specs.Starting.{loop-kept, loop-nodup, starts-sound}
-use Rattle.theorems.specs.Reporting.{fanned-walks, edged-walks, through-joined}
+use Rattle.theorems.specs.Reporting.{fanned-walks, edged-walks, through-joined, joined-walks, joined-shells}
 use Rattle.theorems.specs.Assembly.{no-counts, joining-sound, totals-small}
 use Rattle.theorems.specs.Narrow.{Below, Low, one-low, none-low, sense-low, kind-low, loaded-low, kept-has, LowEdge, LowEdges, FewFaces, shells-few, nested-few, lumps-few, lumps-count}
-use Rattle.theorems.specs.Narrow.{faces-few, joined-walks, start-few, groups-few, number-low, label-low, start-low, starts-low, ended-few, ended-low}
+use Rattle.theorems.specs.Narrow.{faces-few, start-few, groups-few, number-low, label-low, start-low, starts-low, ended-few, ended-low}
 
 -- a row of `fixed` fields and `counted` more for each that its second field counts, all of four bytes
 pub record Shaped (fixed counted : ℕ) (row : List ℕ) : Type 0 where
@@ -358,11 +358,6 @@ module _ (t : Table) (job : List ℕ) (bytes : Below 256 job) (j : Job) (l : loa
           loops = joining-sound t job j w l S s (r .2);
         })
 
-    -- the shells are those of the walks
-    joined-shells : (x : Joined) (ss : List Shell) → throughJoining (withTable t) j ≡ ok x → shellsOf j (x .fan .walk) ≡ ok ss → shellsOf j w ≡ ok ss
-    unfolding fansOf
-    joined-shells x ss e f = ap (λ (y : Joined). shellsOf j (y .fan .walk)) (sym (through-joined t j w x q e .1)) ∙ f
-
     -- the rows of shells and of lumps
     shell-each : (ss : List Shell) → shellsOf j w ≡ ok ss → AllShaped 2 1 (map shellFields ss)
     shell-each ss e =
@@ -449,7 +444,7 @@ module _ (t : Table) (job : List ℕ) (bytes : Below 256 job) (j : Job) (l : loa
       let x : Joined = a .0 in
       let b = bind-ok (shellsOf j (x .fan .walk)) _ rows (a .2) in
       let w = joined-walks t j x (a .1) in
-      subst (AllShaped 2 1) (ok-one (b .2)) (shell-each (w .0) (w .1) (b .0) (joined-shells (w .0) (w .1) x (b .0) (a .1) (b .1)))
+      subst (AllShaped 2 1) (ok-one (b .2)) (shell-each (w .0) (w .1) (b .0) (joined-shells t j (w .0) x (b .0) (w .1) (a .1) (b .1)))
 
   -- `lumps`: two fields, and the faces that the second counts
   pub lumps-shaped : (rows : List (List ℕ)) → lumpRows (withTable t) j ≡ ok rows → AllShaped 2 1 rows
@@ -460,4 +455,4 @@ module _ (t : Table) (job : List ℕ) (bytes : Below 256 job) (j : Job) (l : loa
       let b = bind-ok (shellsOf j (x .fan .walk)) _ rows (a .2) in
       let c = bind-ok (nested (j .answers) (b .0)) _ rows (b .2) in
       let w = joined-walks t j x (a .1) in
-      subst (AllShaped 2 1) (ok-one (c .2)) (lump-each (w .0) (w .1) (b .0) (c .0) (joined-shells (w .0) (w .1) x (b .0) (a .1) (b .1)) (c .1))
+      subst (AllShaped 2 1) (ok-one (c .2)) (lump-each (w .0) (w .1) (b .0) (c .0) (joined-shells t j (w .0) x (b .0) (w .1) (a .1) (b .1)) (c .1))
