@@ -1,8 +1,8 @@
 -- Laws of outcomes: taking a value apart from a refusal, and steps one after the other.
-use mathlib.Core.Path.{_≡_, refl, sym, ap, _∙_}
-use mathlib.Core.Logic.{_⊎_, inl, inr}
+use mathlib.Core.Path.{_≡_, refl, sym, ap, _∙_, subst}
+use mathlib.Core.Logic.{_⊎_, inl, inr, ⊎-elim}
 use mathlib.Core.Bool.{Bool, true, false, cond}
-use mathlib.Core.List.{List, [], _∷_, _++_, List·Memᴰ·head, List·Memᴰ·tail}
+use mathlib.Core.List.{List, [], _∷_, _++_, List·Memᴰ·head, List·Memᴰ·tail, List·Memᴰ·not-nil, List·Memᴰ·cases-cons}
 use Prim.Native.Nat.{ℕ, suc}
 use native.Mathlib.Omega.{arith}
 use lib.ListN.{length}
@@ -101,6 +101,15 @@ each-ok f x xs r e =
     let p = bind-ok (f x) _ r e in
     let q = bind-ok (forEach f xs) _ r (p .2) in
     (p .0, q .0, p .1, q .1, sym (ok-one (q .2)))
+
+-- what each value that a member gives has, each of the values has
+pub each-has : {A B : Type 0} (f : A → Outcome B) (P : B → Type 0) (xs : List A) (r : List B) → ((x : A) (y : B) → x ∈ xs → f x ≡ ok y → P y) → forEach f xs ≡ ok r → (y : B) → y ∈ r → P y
+unfolding forEach
+each-has f P [] r h e y m = absurd (List·Memᴰ·not-nil (subst (λ l. y ∈ l) (sym (ok-one e)) m))
+each-has f P (x ∷ xs) r h e y m =
+    let p = each-ok f x xs r e in
+    let later = each-has f P xs (p .1) (λ z w k. h z w (List·Memᴰ·tail k)) (p .3) y in
+    ⊎-elim (λ q. subst P (sym q) (h x (p .0) (List·Memᴰ·head refl) (p .2))) later (List·Memᴰ·cases-cons (subst (λ l. y ∈ l) (p .4) m))
 
 pub each-length : {A B : Type 0} (f : A → Outcome B) (xs : List A) (r : List B) → forEach f xs ≡ ok r → length r ≡ length xs
 unfolding forEach

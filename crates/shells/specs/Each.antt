@@ -1,9 +1,7 @@
 -- An answer for each member of a list, and for members after them.
 use Prim.Native.Nat.{ℕ}
-use mathlib.Core.Path.{_≡_, refl, sym, ap, subst, _∙_}
-use mathlib.Core.Logic.{⊎-elim}
-use mathlib.Core.List.{List, [], _∷_, _++_, List·Memᴰ·head, List·Memᴰ·tail, List·Memᴰ·not-nil, List·Memᴰ·cases-cons}
-use Rattle.lists.specs.Lists.{_∈_}
+use mathlib.Core.Path.{_≡_, sym, ap, _∙_}
+use mathlib.Core.List.{List, [], _∷_, _++_}
 use Rattle.rules.specs.Outcome.{Outcome, ok, refuse, forEach}
 use Rattle.rules.specs.OutcomeLaws.{ok-one, bind-on, bind-stop, each-none, each-ok}
 
@@ -26,14 +24,3 @@ each-stop f [] x later rs n p e h = bind-stop _ h
 each-stop f (y ∷ xs) x later rs n p e h =
     let q = each-ok f y xs rs e in
     bind-on _ (q .2) ∙ bind-stop _ (each-stop f xs x later (q .1) n p (q .3) h)
-
--- what holds of each answer
-pub each-holds : {A B : Type 0} (f : A → Outcome B) (P : B → Type 0) (xs : List A) (rs : List B) → ((x : A) (r : B) → x ∈ xs → f x ≡ ok r → P r) → forEach f xs ≡ ok rs
-    → (r : B) → r ∈ rs → P r
-each-holds f P [] rs h e r m = absurd (List·Memᴰ·not-nil (subst (λ l. r ∈ l) (sym (ok-one (sym (each-none f) ∙ e))) m))
-each-holds f P (x ∷ xs) rs h e r m =
-    let q = each-ok f x xs rs e in
-    ⊎-elim
-    (λ i. subst P (sym i) (h x (q .0) (List·Memᴰ·head refl) (q .2)))
-    (λ k. each-holds f P xs (q .1) (λ y s i. h y s (List·Memᴰ·tail i)) (q .3) r k)
-    (List·Memᴰ·cases-cons (subst (λ l. r ∈ l) (q .4) m))

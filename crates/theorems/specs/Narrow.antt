@@ -3,7 +3,7 @@ use Prim.Native.Nat.{ℕ, zero, suc, _+_, _*_, _/_, _≤_, _<_, min, max}
 use native.Mathlib.Omega.{arith}
 use mathlib.Core.Path.{_≡_, refl, sym, ap, _∙_, subst}
 use mathlib.Core.Logic.{inl, inr, ⊎-elim}
-use mathlib.Core.List.{List, [], _∷_, _++_, map, flatMap, foldl, List·Memᴰ·head, List·Memᴰ·tail, List·Memᴰ·not-nil, List·Memᴰ·cases-cons, List·Memᴰ·append-cases}
+use mathlib.Core.List.{List, [], _∷_, _++_, map, flatMap, foldl, List·Memᴰ·not-nil, List·Memᴰ·cases-cons, List·Memᴰ·append-cases}
 use mathlib.Core.Bool.{Bool, true, false, _||_, cond}
 use lib.ListN.{length, getD, set, drop, length-append, length-map, length-set}
 use lib.Dec.{eqb}
@@ -19,8 +19,8 @@ use Rattle.rules.specs.declared.Sense.{Sense}
 use Rattle.rules.specs.declared.Sense.the-variants.{Same, Reversed}
 use Rattle.rules.specs.declared.EdgeData.{EdgeData}
 use Rattle.rules.specs.declared.KeptVertexLoop.{KeptVertexLoop}
-use Rattle.rules.specs.Outcome.{Outcome, ok, _>>=_, forEach}
-use Rattle.rules.specs.OutcomeLaws.{ok-one, bind-ok, through-keeps, each-ok, each-length}
+use Rattle.rules.specs.Outcome.{ok, _>>=_}
+use Rattle.rules.specs.OutcomeLaws.{ok-one, bind-ok, through-keeps, each-has, each-length}
 use Rattle.rules.specs.Sense.{senseNumber}
 use Rattle.rules.specs.Fields.{le32, fieldsIn, field}
 use Rattle.rules.specs.Frame.{Frame, Record, wholeRecord, frameAt, taking, framesFrom}
@@ -238,14 +238,6 @@ pub joining-low : (answers : List Answer) (starts names : List ℕ) (most : ℕ)
 joining-low answers starts names most s t e = joining-keeps answers starts names (λ (u : Joining). LowEdges (u .edges)) made-low most s t e
 
 -- SHELLS
-
-each-has : {A B : Type 0} (f : A → Outcome B) (P : B → Type 0) (xs : List A) (r : List B) → ((x : A) (y : B) → x ∈ xs → f x ≡ ok y → P y) → forEach f xs ≡ ok r → (y : B) → y ∈ r → P y
-unfolding forEach
-each-has f P [] r h e y m = absurd (List·Memᴰ·not-nil (subst (λ l. y ∈ l) (sym (ok-one e)) m))
-each-has f P (x ∷ xs) r h e y m =
-    let p = each-ok f x xs r e in
-    let later = each-has f P xs (p .1) (λ z w k. h z w (List·Memᴰ·tail k)) (p .3) y in
-    ⊎-elim (λ q. subst P (sym q) (h x (p .0) (List·Memᴰ·head refl) (p .2))) later (List·Memᴰ·cases-cons (subst (λ l. y ∈ l) (p .4) m))
 
 orient-faces : (answers : List Answer) (proven : ℕ) (faces : List ℕ) (s : Shell) → orientShell answers proven faces ≡ ok s → s .faces ≡ faces
 unfolding orientShell
