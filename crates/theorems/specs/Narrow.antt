@@ -363,7 +363,7 @@ module _ (fs : List Face) (actives : List ℕ) (ls : List FaceLoop) (ks : List K
 
 -- a body of narrow parts
 solid-low : (totals : Totals) (fs : List Face) (starts : List ℕ) (es : List EdgeData) (ls : List FaceLoop) (members : List ℕ) (ks : List KeptVertexLoop) (lumps : List (List (List ℕ)))
-    → Small totals → ((g : Face) → g ∈ fs → Low (g .surface)) → Below 4294967296 starts → LowEdges es → length es < 1000000 → ((k : KeptVertexLoop) → k ∈ ks → Low (k .point))
+    → Small totals → ((g : Face) → g ∈ fs → Low (g .surface)) → Below 4294967296 starts → LowEdges es → length es ≤ 4096 → ((k : KeptVertexLoop) → k ∈ ks → Low (k .point))
     → ((lump : List (List ℕ)) → lump ∈ lumps → (shell : List ℕ) → shell ∈ lump → Below 4294967296 shell)
     → LowBody (solidBody totals fs starts es ls members ks lumps)
 unfolding solidBody
@@ -551,7 +551,7 @@ module _ (t : Table) (job : List ℕ) (bytes : Below 256 job) (j : Job) (l : loa
       (L .surfaces)
       starts-low
       (ended-low s (r .2))
-      (omega (arith, ended-few s (r .2)))
+      (ended-few s (r .2))
       (kept-points (j .answers) (j .points) (mergedFaces (w .merge)) (j .loops) (w .vertexLoops) (L .points) (S .vertices))
       (λ lump m shell k v i. let a = lumps-few n ns each lump m shell k .0 v i in omega (arith, a, groups-few)))
 

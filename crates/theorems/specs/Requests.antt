@@ -1,5 +1,5 @@
 -- A loop request that is not refused shows at least one byte.
-use Prim.Native.Nat.{ℕ, zero, suc, _+_, _*_, _/_, _%_, _<_}
+use Prim.Native.Nat.{ℕ, zero, suc, _+_, _*_, _/_, _%_, _≤_, _<_}
 use native.Mathlib.Omega.{arith}
 use mathlib.Core.Path.{_≡_, sym, ap, _∙_, subst}
 use mathlib.Core.Logic.{⊎-elim}
@@ -39,8 +39,8 @@ frames-sized (suc most) at (y ∷ ys) f m w =
     (λ i. later i w)
     (List·Memᴰ·cases-cons m)
 
--- a loop's payload is not empty
-loop-size : (k : Kind) (size : ℕ) → isLoop k ≡ true → rightLength k size ≡ true → 4 < suc size
+-- a loop's payload has at least one field
+loop-size : (k : Kind) (size : ℕ) → isLoop k ≡ true → rightLength k size ≡ true → 4 ≤ size
 unfolding rightLength numberOf
 loop-size Unknown size l r = absurd (false≢true l)
 loop-size Head size l r = absurd (false≢true l)
