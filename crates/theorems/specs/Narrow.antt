@@ -169,6 +169,7 @@ pub record LowEdge (e : EdgeData) : Type 0 where
   pub two : length (e .faces) ≡ 2
   pub faces : Below 4294967296 (e .faces)
 
+-- each edge of a list is such
 abbrev pub LowEdges : List EdgeData → Type 0
 LowEdges es = (e : EdgeData) → e ∈ es → LowEdge e
 

@@ -59,6 +59,7 @@ loop-size Singular size l r = absurd (false≢true l)
 loop-size Orientation size l r = absurd (false≢true l)
 loop-size Inside size l r = absurd (false≢true l)
 
+-- no loop's payload loaded so far is empty
 Some : Loading → Type 0
 Some s = (t : Stretch) → t ∈ s .job .stretches → 0 < t .size
 
