@@ -2,7 +2,7 @@
 use Prim.Native.Nat.{ℕ, _*_, _≤_}
 use native.Mathlib.Omega.{arith}
 use mathlib.Core.Path.{_≡_, sym, ap, subst, _∙_}
-use mathlib.Core.Logic.{inl, inr, ⊎-elim}
+use mathlib.Core.Logic.{inl, inr}
 use mathlib.Core.List.{List}
 use mathlib.Core.Bool.{true}
 use lib.ListN.{length, take, length-take}
@@ -19,11 +19,12 @@ use Rattle.rules.specs.OutcomeLaws.{bind-on, bind-stop}
 use Rattle.rules.specs.Frame.{framedAll}
 use Rattle.rules.specs.Job.{Job}
 use Rattle.rules.specs.Contact.{edgesClear, pointsClear}
-use Rattle.rules.specs.Join.{noEdgeData}
+use Rattle.rules.specs.Join.{noEdgeData, edgeDataAt}
 use Rattle.rules.specs.Shells.{Nested, lumps, lumpLabels}
 use Rattle.rules.specs.Body.{Body, solidBody, bodyRecords}
 use Rattle.rules.specs.Sew.{Fanned, Joined, lumpsClear, bodyOf, fitting, Ends}
 use Rattle.rules.specs.Stage.{lumpFields, stageBytes}
+use Rattle.theorems.specs.Linked.{RingOrFans, EndsAreFans}
 use Rattle.job.specs.Lists.{edgePlace, edgeIn, edgesIn, facesIn, jobIn}
 use Rattle.contact.specs.declared.Clear.{Clear}
 use Rattle.contact.specs.declared.Clear.the-variants.{Done, Refused}
@@ -41,7 +42,6 @@ use Rattle.progress.specs.declared.Faces.{Faces}
 use Rattle.progress.specs.declared.Figures.{Figures}
 use Rattle.progress.specs.Chain.{afterLumps, afterNesting}
 use Rattle.progress.specs.Known.{boundariesIn, membersIn}
-use Rattle.rebuild.specs.Ended.{FanOrNone, Ended}
 use Rattle.rebuild.specs.Sizes.{Sizes, Holds, Tables, Spare}
 use Rattle.rebuild.specs.Homes.{shelled-count, shelled-few}
 use Rattle.rebuild.specs.Lumped.{shellCount, lumpTests}
@@ -71,14 +71,15 @@ module _ {bytes ix : List ℕ} {c : Counts} {us : List Use} {m : Faces} {names :
   pub shells-few : (n : ℕ) (t : List ℕ) → Shelled (boundariesIn c m) (membersIn m) n t → n ≤ 256
   shells-few n t S = omega (arith, shelled-few (boundariesIn c m) (membersIn m) n t S, faces-few)
 
-  end-ok : (size v : ℕ) → length us ≤ size → FanOrNone names v → EndOk size v
-  end-ok size v h e = ⊎-elim (λ p. inr p) (λ p. inl (omega (arith, Z .below v p))) e
+  -- the ends of an edge are fans, which are uses, or none
+  edge-ok : (size : ℕ) (e : EdgeData) → length us ≤ size → RingOrFans names e → EndOk size (e .start) × EndOk size (e .end)
+  edge-ok size e h (inl none) = (inr (none .0), inr (none .1))
+  edge-ok size e h (inr fans) = (inl (omega (arith, Z .below (e .start) (fans .0))), inl (omega (arith, Z .below (e .end) (fans .1))))
 
-  ends-ok : (size : ℕ) (es : List EdgeData) → length us ≤ size → Ended names es → EndsOk size es
+  ends-ok : (size : ℕ) (es : List EdgeData) → length us ≤ size → EndsAreFans es names → EndsOk size es
   ends-ok size es h E x i =
       let r = in-getD noEdgeData i in
-      let e = E (r .0) in
-      (subst (λ (d : EdgeData). EndOk size (d .start)) (r .2) (end-ok size _ h (e .0)), subst (λ (d : EdgeData). EndOk size (d .end)) (r .2) (end-ok size _ h (e .1)))
+      subst (λ (d : EdgeData). EndOk size (d .start) × EndOk size (d .end)) (r .2) (edge-ok size (edgeDataAt es (r .0)) h (E (r .0)))
 
   -- the rows of n edges
   pub rows-room : (rows : List ℕ) (n : ℕ) (items stretches faces : List ℕ) → Tables names rows n items stretches faces → 7 * n ≤ length rows

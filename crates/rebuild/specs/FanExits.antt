@@ -21,11 +21,11 @@ use Rattle.rules.specs.Edges.{edgesOf, FaceLoop, faceLoops}
 use Rattle.rules.specs.Join.{Joining}
 use Rattle.rules.specs.Sew.{Walked, walksOf, Fanned, fansOf, Joined, unjoined, Ends}
 use Rattle.rules.specs.Stage.{fanFields, stageBytes}
-use Rattle.theorems.specs.Linked.{LoopsSound}
+use Rattle.theorems.specs.Linked.{EndsAreFans, LoopsSound}
 use Rattle.theorems.specs.Ground.{Ground}
 use Rattle.theorems.specs.Fanning.{FansHold, fans-hold}
 use Rattle.theorems.specs.Edging.{edges-hold}
-use Rattle.theorems.specs.Starting.{starts-sound}
+use Rattle.theorems.specs.Starting.{ends-are-fans, starts-sound}
 use Rattle.job.specs.Lists.{edgesIn, jobIn}
 use Rattle.contact.specs.declared.Clear.{Clear}
 use Rattle.contact.specs.declared.Clear.the-variants.{Done, Refused}
@@ -39,7 +39,6 @@ use Rattle.progress.specs.declared.Figures.{Figures}
 use Rattle.progress.specs.Chain.{afterFans, afterEdges}
 use Rattle.progress.specs.Known.{boundariesIn, numbersIn, walkedIn, Settled}
 use Rattle.progress.specs.KnownLaws.{settled-ground}
-use Rattle.rebuild.specs.Ended.{Ended, first-ended}
 use Rattle.rebuild.specs.Sizes.{Fanning, Holds, Tables, Spare, Roomy, settled-twins, linable, fanned-names, fanned-holds}
 use Rattle.rebuild.specs.Starts.{state-sound}
 use Rattle.rebuild.specs.Lined.{Linable, Lined}
@@ -110,12 +109,15 @@ module _ {bytes ix : List ℕ} {c : Counts} {us : List Use} {ts : List ℕ} {m :
       rings = 0;
     }
 
-    -- their ends are fans or none
-    drawn-ended : Ended names (rowsTo rows edges)
+    -- each edge has no ends or two fans
+    drawn-ended : EndsAreFans (rowsTo rows edges) names
     unfolding walksOf jobIn
     drawn-ended =
-        subst₂ Ended (sym (fanned-names F)) (sym (L .edges-are ∙ (λ k. edgesOf (edgesIn bytes c) us ts rm (S .grouped .numbered k) (S .follows k) (fans-same k))))
-        (first-ended j (walkedIn c m us ts rm (g .kept) kept) (settled-ground bytes ix c us ts m rm ss kept g S))
+        let w : Walked = walkedIn c m us ts rm (g .kept) kept in
+        let G : Ground j w = settled-ground bytes ix c us ts m rm ss kept g S in
+        let A : FansHold j w = fans-hold j w G in
+        subst₂ EndsAreFans (sym (L .edges-are ∙ (λ k. edgesOf (edgesIn bytes c) us ts rm (S .grouped .numbered k) (S .follows k) (fans-same k)))) (sym (fanned-names F))
+        (ends-are-fans j w G A (edges-hold j w G A))
 
     -- in tables that have room for them
     module _ (rows₀ owns₀ items₀ stretches₀ faces₀ vertices : List ℕ) (R : Roomy (length ts) rows₀ owns₀ items₀ stretches₀ faces₀ vertices)

@@ -1,9 +1,10 @@
 -- After the edges: the stage `edges`, then joining.
-use Prim.Native.Nat.{ℕ}
+use Prim.Native.Nat.{ℕ, _<_}
 use native.Mathlib.Omega.{arith}
 use mathlib.Core.Path.{_≡_, sym, ap, subst, _∙_}
 use mathlib.Core.List.{List}
 use lib.ListN.{length}
+use Rattle.lists.specs.Lists.{_∈_}
 use Rattle.rules.specs.declared.Counts.{Counts}
 use Rattle.rules.specs.declared.Use.{Use}
 use Rattle.rules.specs.declared.Ending.{Ending}
@@ -14,6 +15,7 @@ use Rattle.rules.specs.Job.{Job}
 use Rattle.rules.specs.Join.{Joining as State, maximalEdges}
 use Rattle.rules.specs.Sew.{Fanned, Joined, Ends}
 use Rattle.rules.specs.Stage.{joiningFields, stageBytes}
+use Rattle.theorems.specs.RingCounts.{joining-fans}
 use Rattle.job.specs.Lists.{answersIn, jobIn}
 use Rattle.maximal_edges.specs.declared.Joins.{Joins}
 use Rattle.maximal_edges.specs.declared.Joining.{Joining}
@@ -23,17 +25,16 @@ use Rattle.stages_out.specs.Rows.{Staged}
 use Rattle.progress.specs.declared.Faces.{Faces}
 use Rattle.progress.specs.declared.Figures.{Figures}
 use Rattle.progress.specs.Chain.{afterEdges, afterJoining}
-use Rattle.rebuild.specs.Ended.{ended-run}
 use Rattle.rebuild.specs.Sizes.{Holds, Tables}
 use Rattle.progress.specs.Endings.{ends-as, ends-refused, asked, unasked}
 
 -- joined, the tables are still such
 pub joined-tables : (bytes ix : List ℕ) (c : Counts) (starts names rows rows′ : List ℕ) (n : ℕ) (items items′ stretches stretches′ faces : List ℕ) (q : Joining) (k : Joins)
-    → Tables names rows n items stretches faces → length items′ ≡ length items → length stretches′ ≡ length stretches
+    → ((v : ℕ) → v ∈ names → v < 2048) → Tables names rows n items stretches faces → length items′ ≡ length items → length stretches′ ≡ length stretches
     → joiningOf rows′ items′ stretches′ faces q ≡ maximalEdges (answersIn bytes ix c) starts names (length names) (stateIn rows n items stretches faces 0 0) → Fitting names rows′ items′ stretches′ q → q ≡ Done k
     → Tables names rows′ (k .edges) items′ stretches′ faces
 unfolding stateIn
-joined-tables bytes ix c starts names rows rows′ n items items′ stretches stretches′ faces q k T ei es e F d =
+joined-tables bytes ix c starts names rows rows′ n items items′ stretches stretches′ faces q k low T ei es e F d =
     let fits : Fitting names rows′ items′ stretches′ (Done k) = subst (Fitting names rows′ items′ stretches′) d F in
     let run = sym e ∙ ap (joiningOf rows′ items′ stretches′ faces) d in
     record {
@@ -43,7 +44,8 @@ joined-tables bytes ix c starts names rows rows′ n items items′ stretches st
       loops = omega (arith, T .loops, es);
       items-few = omega (arith, T .items-few, ei);
       faces-few = T .faces-few;
-      ended = ended-run (answersIn bytes ix c) starts names (length names) (stateIn rows n items stretches faces 0 0) (stateIn rows′ (k .edges) items′ stretches′ faces (k .joins) (k .rings)) (T .ended) run;
+      ended = joining-fans (answersIn bytes ix c) starts names (λ v i. omega (arith, low v i)) (length names)
+          (stateIn rows n items stretches faces 0 0) (stateIn rows′ (k .edges) items′ stretches′ faces (k .joins) (k .rings)) run (T .ended);
     }
 
 module _ (bytes ix : List ℕ) {c : Counts} {us : List Use} {ts : List ℕ} {m : Faces} {kept : List ℕ} {g : Figures} {names starts : List ℕ} {f : Fanned}

@@ -1,6 +1,5 @@
 pub mod Halves
 pub mod Lined
-pub mod Ended
 pub mod Sizes
 pub mod LoopExits
 pub mod Starts

@@ -16,7 +16,7 @@ use Rattle.rules.specs.Groups.{lowestMembers}
 use Rattle.rules.specs.Fans.{fans as fansBy, fanNames, startPoints}
 use Rattle.rules.specs.Sew.{walksOf, Fanned, fansOf}
 use Rattle.theorems.specs.Sound.{Limited}
-use Rattle.theorems.specs.Linked.{Twins}
+use Rattle.theorems.specs.Linked.{Twins, EndsAreFans}
 use Rattle.theorems.specs.Circuits.{Permuted}
 use Rattle.theorems.specs.Fanning.{FansHold, fans-hold, fanList}
 use Rattle.job.specs.Lists.{pointsIn, edgesIn, jobIn}
@@ -32,7 +32,6 @@ use Rattle.progress.specs.Known.{boundariesIn, membersIn, walkedIn, Settled}
 use Rattle.progress.specs.KnownLaws.{opened-limited, paired-few, paired-twins, bounded-lowest, settled-ground, settled-linked, settled-permuted}
 use Rattle.progress.specs.Parts.{zeros, zeros-first, part-size, part-at}
 use Rattle.rebuild.specs.Lined.{Linable}
-use Rattle.rebuild.specs.Ended.{Ended}
 
 -- each use's fan, the fans by name, and the point where each use starts
 pub record Fanning (bytes ix : List ℕ) (c : Counts) (us : List Use) (ts : List ℕ) (m : Faces) (rm : List Bool) (ss kept : List ℕ) (g : Figures) (fans names starts : List ℕ) : Type 0 where
@@ -66,7 +65,7 @@ pub record Holds (c : Counts) (us : List Use) (ts : List ℕ) (m : Faces) (kept 
   pub names-are : names ≡ f .names
   pub starts-are : starts ≡ f .starts
 
--- n edges, and loops one after the other, in their tables; each edge's ends are fans or none
+-- n edges, and loops one after the other, in their tables; each edge has no ends or two fans
 pub record Tables (names rows : List ℕ) (n : ℕ) (items stretches faces : List ℕ) : Type 0 where
   pub rows-room : 7 * n ≤ length rows
   pub few : n ≤ 2047
@@ -74,7 +73,7 @@ pub record Tables (names rows : List ℕ) (n : ℕ) (items stretches faces : Lis
   pub loops : 2 * length faces ≤ length stretches
   pub items-few : length items ≤ 2048
   pub faces-few : length faces ≤ 2048
-  pub ended : Ended names (rowsTo rows n)
+  pub ended : EndsAreFans (rowsTo rows n) names
 
 -- spare tables with an entry for each edge of a table of edges, and for each of n uses
 pub record Spare (n : ℕ) (rows numbers vertices : List ℕ) : Type 0 where

@@ -115,8 +115,8 @@ ring-is c r = ap (λ l. eqb (getD l 0 0) (getD l 1 0)) (r .ends) ∙ eq-eqb (r .
 pub join-is : (c : Change) → AsJoin (c .before) (c .corner) (c .after) → isRing c ≡ false
 join-is c r = ap (λ l. eqb (getD l 0 0) (getD l 1 0)) (r .ends) ∙ ne-eqb (r .first) (r .second) (λ (e : r .first ≡ r .second). omega (arith, r .lower))
 
--- what every change keeps, joining keeps
-pub joining-keeps : (answers : List Answer) (starts names : List ℕ) (P : Joining → Type 0) → ((s t : Joining) (v : ℕ) → Made s v t → P s → P t)
+-- what every change at a fan keeps, joining keeps
+pub joining-keeps : (answers : List Answer) (starts names : List ℕ) (P : Joining → Type 0) → ((s t : Joining) (v : ℕ) → v ∈ names → Made s v t → P s → P t)
     → (most : ℕ) (s t : Joining) → maximalEdges answers starts names most s ≡ ok t → P s → P t
 unfolding maximalEdges
 joining-keeps answers starts names P keeps zero s t e h = subst P (ok-one e) h
@@ -127,4 +127,4 @@ joining-keeps answers starts names P keeps (suc most) s t e h =
     go : (u : Tried) → sweep answers starts s names ≡ ok u → afterSweep u s (maximalEdges answers starts names most) ≡ ok t
         → ((x : Joining) → maximalEdges answers starts names most x ≡ ok t → P x → P t) → P t
     go unchanged q z later = subst P (ok-one z) h
-    go (changed x) q z later = let m = sweep-made answers starts s x names q in later x z (keeps s x (m .0) (m .3) h)
+    go (changed x) q z later = let m = sweep-made answers starts s x names q in later x z (keeps s x (m .0) (m .2) (m .3) h)

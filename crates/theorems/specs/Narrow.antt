@@ -232,11 +232,11 @@ made-count s t v n (inr r) e =
 pub joining-count : (answers : List Answer) (starts names : List ℕ) (most n : ℕ) (s t : Joining) → maximalEdges answers starts names most s ≡ ok t
     → length (s .edges) ≡ n + s .joins → length (t .edges) ≡ n + t .joins
 joining-count answers starts names most n s t e =
-    joining-keeps answers starts names (λ (u : Joining). length (u .edges) ≡ n + u .joins) (λ x y v m. made-count x y v n m) most s t e
+    joining-keeps answers starts names (λ (u : Joining). length (u .edges) ≡ n + u .joins) (λ x y v _ m. made-count x y v n m) most s t e
 
 -- joining keeps edges low
 pub joining-low : (answers : List Answer) (starts names : List ℕ) (most : ℕ) (s t : Joining) → maximalEdges answers starts names most s ≡ ok t → LowEdges (s .edges) → LowEdges (t .edges)
-joining-low answers starts names most s t e = joining-keeps answers starts names (λ (u : Joining). LowEdges (u .edges)) made-low most s t e
+joining-low answers starts names most s t e = joining-keeps answers starts names (λ (u : Joining). LowEdges (u .edges)) (λ x y v _. made-low x y v) most s t e
 
 -- SHELLS
 

@@ -16,12 +16,13 @@ use Rattle.lists.specs.KeepCounts.{keep-none, keep-cons}
 use Rattle.lists.specs.Tables.{set-each, set-two}
 use Rattle.rules.specs.declared.EdgeData.{EdgeData}
 use Rattle.rules.specs.Job.{unset, Answer}
-use Rattle.rules.specs.Join.{Joining, noEdgeData, edgeDataAt, farEnd, joinedEdge, retired, ringOf, joinEdges, joinAt, ringAt}
+use Rattle.rules.specs.Join.{Joining, noEdgeData, edgeDataAt, farEnd, joinedEdge, retired, ringOf, joinEdges, joinAt, ringAt, maximalEdges}
+use Rattle.rules.specs.Outcome.{ok}
 use Rattle.rules.specs.Sew.{Fanned}
 use Rattle.theorems.specs.Demand3.{Change, Run, isRing, ringsOf, isActiveRing, activeRings}
 use Rattle.theorems.specs.Linked.{NoEnds, RingOrFans, EndsAreFans}
 use Rattle.theorems.specs.Ends.{endsOne, one-at-other, active-ends, ends-active, TwoEdges, OneEdge, two-edges, one-edge}
-use Rattle.theorems.specs.Changes.{Made, ring-is, join-is}
+use Rattle.theorems.specs.Changes.{Made, ring-is, join-is, joining-keeps}
 use Rattle.theorems.specs.Corners.{join-sum}
 use Rattle.theorems.specs.ChangeRuns.{Steps, run-steps}
 use Rattle.theorems.specs.EdgesAfter.{first-in, apart-edges, old-edge, new-edge, no-edge}
@@ -116,7 +117,7 @@ module _ (names : List ℕ) (fans : (v : ℕ) → v ∈ names → v < unset) whe
   -- ONE CHANGE
 
   -- each edge still has no ends or two fans
-  pub fans-kept : {s t : Joining} {v : ℕ} → Made s v t → v ∈ names → EndsAreFans (s .edges) names → EndsAreFans (t .edges) names
+  fans-kept : {s t : Joining} {v : ℕ} → Made s v t → v ∈ names → EndsAreFans (s .edges) names → EndsAreFans (t .edges) names
   unfolding ringAt joinAt
   fans-kept {s} {t} {v} (inl r) at f =
       subst (λ (x : Joining). EndsAreFans (x .edges) names) (sym (r .after)) (ring-fans (s .edges) v (r .edge) at (one-edge (s .edges) v (r .edge) (r .ends)) f)
@@ -149,6 +150,11 @@ module _ (names : List ℕ) (fans : (v : ℕ) → v ∈ names → v < unset) whe
       let g : EndsAreFans (c .before .edges) names = subst (λ (x : Joining). EndsAreFans (x .edges) names) (sym (r .0)) f in
       let e = ap (λ (x : Joining). length (activeRings (x .edges))) (r .0) in
       omega (arith, made-rings c (r .2) (r .1) g, keep-cons isRing c cs, steps-rings (c .after) t cs (r .3) (fans-kept (r .2) (r .1) g))
+
+-- joining keeps that each edge has no ends or two fans
+pub joining-fans : (answers : List Answer) (starts names : List ℕ) → ((v : ℕ) → v ∈ names → v < unset) → (most : ℕ) (s t : Joining) → maximalEdges answers starts names most s ≡ ok t
+    → EndsAreFans (s .edges) names → EndsAreFans (t .edges) names
+joining-fans answers starts names fans = joining-keeps answers starts names (λ (x : Joining). EndsAreFans (x .edges) names) (λ x y v at m. fans-kept names fans m at)
 
 -- over a run there are more active rings by the number of edges turned into rings
 pub run-rings : (answers : List Answer) (f : Fanned) (s t : Joining) (cs : List Change) → ((v : ℕ) → v ∈ f .names → v < unset) → EndsAreFans (s .edges) (f .names)

@@ -353,8 +353,8 @@ module _ (t : Table) (job : List ℕ) (bytes : Below 256 job) (j : Job) (l : loa
           rings = omega (arith, small .rings);
           few = ended-few t job bytes j l w q s (r .2);
           edges = ended-low t job bytes j l w q s (r .2);
-          faces = joining-keeps (j .answers) (fansOf j w .starts) (fansOf j w .names) (λ (u : Joining). (k : FaceLoop) → k ∈ u .loops → Low (k .face)) made-faces (length (fansOf j w .names))
-              (unjoined j (fansOf j w)) s (r .2) start-faces;
+          faces = joining-keeps (j .answers) (fansOf j w .starts) (fansOf j w .names) (λ (u : Joining). (k : FaceLoop) → k ∈ u .loops → Low (k .face)) (λ x y v _. made-faces x y v)
+              (length (fansOf j w .names)) (unjoined j (fansOf j w)) s (r .2) start-faces;
           loops = joining-sound t job j w l S s (r .2);
         })
 

@@ -42,7 +42,7 @@ on-joined-requires c κs =
     let a = c .before .before .before .before .before .before .before .before .before .before .before .before .before .before .before .before .before .before .before .before .before .before .before .before .before .before .before .before .before .before .before .before .before .before .args in
     let pre = c .before .before .before .before .before .before .before .before .before .before .before .before .before .before .before .before .before .before .before .before .before .before .before .before .before .before .before .before .before .before .before .before .before .before .pre in
     let run = c .before .before .before .before .before .before .before .before .before .before .before .before .before .before .before .maximal-edges in
-    (pre .0, joined-tables (a .job .now) (a .index .now) (a .c) (a .starts .now) (a .names .now) (a .rows .now) (run .last .1 .1 .1 .1 .1 .0) (a .count) (a .items .now) (run .last .1 .1 .1 .1 .1 .1 .1 .0) (a .stretches .now) (run .last .1 .1 .1 .1 .1 .1 .1 .1 .0) (a .faces .now) (run .result) (c .before .before .before .before .before .before .before .r2 .given .0 .0) (pre .1) (run .kept .1 .1 .1 .1 .1 .1 .1 .0) (run .kept .1 .1 .1 .1 .1 .1 .1 .1 .0) (run .ensures .0 (a .faces .now) (pre .1 .loops)) (run .ensures .1) (c .before .before .before .before .before .before .before .r2 .given .1), spare-same (length (usesIn (a .uses .now))) (a .rows .now) (run .last .1 .1 .1 .1 .1 .0) (a .numbers .now) (a .vertices .now) (pre .4) (run .kept .1 .1 .1 .1 .1 .0))
+    (pre .0, joined-tables (a .job .now) (a .index .now) (a .c) (a .starts .now) (a .names .now) (a .rows .now) (run .last .1 .1 .1 .1 .1 .0) (a .count) (a .items .now) (run .last .1 .1 .1 .1 .1 .1 .1 .0) (a .stretches .now) (run .last .1 .1 .1 .1 .1 .1 .1 .1 .0) (a .faces .now) (run .result) (c .before .before .before .before .before .before .before .r2 .given .0 .0) (names-low (pre .0)) (pre .1) (run .kept .1 .1 .1 .1 .1 .1 .1 .0) (run .kept .1 .1 .1 .1 .1 .1 .1 .1 .0) (run .ensures .0 (a .faces .now) (pre .1 .loops)) (run .ensures .1) (c .before .before .before .before .before .before .before .r2 .given .1), spare-same (length (usesIn (a .uses .now))) (a .rows .now) (run .last .1 .1 .1 .1 .1 .0) (a .numbers .now) (a .vertices .now) (pre .4) (run .kept .1 .1 .1 .1 .1 .0))
 
 same-length-5 : tie.Need-same-length-5
 same-length-5 c = search needs
