@@ -20,7 +20,7 @@ at-has P [] i d h each = h
 at-has P (x ∷ l) zero d h each = each x (List·Memᴰ·head refl)
 at-has P (x ∷ l) (suc i) d h each = at-has P l i d h (λ y m. each y (List·Memᴰ·tail m))
 
--- it holds of each member after a store of what has it
+-- what holds of each member, and of what is stored, holds of each member after the store
 pub set-has : {A : Type 0} (P : A → Type 0) (l : List A) (i : ℕ) (a : A) → P a → ((x : A) → x ∈ l → P x) → (x : A) → x ∈ set l i a → P x
 set-has P [] i a h each x m = absurd (List·Memᴰ·not-nil m)
 set-has P (y ∷ l) zero a h each x m = ⊎-elim (λ e. subst P (sym e) h) (λ k. each x (List·Memᴰ·tail k)) (List·Memᴰ·cases-cons m)

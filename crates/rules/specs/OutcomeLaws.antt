@@ -102,7 +102,7 @@ each-ok f x xs r e =
     let q = bind-ok (forEach f xs) _ r (p .2) in
     (p .0, q .0, p .1, q .1, sym (ok-one (q .2)))
 
--- what each value that a member gives has, each of the values has
+-- what holds of the value of each member holds of each value
 pub each-has : {A B : Type 0} (f : A → Outcome B) (P : B → Type 0) (xs : List A) (r : List B) → ((x : A) (y : B) → x ∈ xs → f x ≡ ok y → P y) → forEach f xs ≡ ok r → (y : B) → y ∈ r → P y
 unfolding forEach
 each-has f P [] r h e y m = absurd (List·Memᴰ·not-nil (subst (λ l. y ∈ l) (sym (ok-one e)) m))
