@@ -4,20 +4,20 @@ use native.Mathlib.Omega.{arith}
 use native.Mathlib.Decide.{ℕ-discrete}
 use mathlib.Core.Path.{_≡_, refl, sym, ap, subst, _∙_}
 use mathlib.Core.Logic.{⊎-elim}
-use mathlib.Core.List.{List, [], _∷_, _++_, map, List·Memᴰ·head, List·Memᴰ·tail, List·Memᴰ·cases-cons}
+use mathlib.Core.List.{List, [], _∷_, _++_, List·Memᴰ·head, List·Memᴰ·tail, List·Memᴰ·cases-cons}
 use mathlib.Core.Bool.{cond}
 use lib.ListN.{length, getD, set, take, drop, length-set, length-append, take-append-drop}
 use lib.Seq.{getD-set-same, getD-set-other}
 use lib.Dec.{ltb}
 use borrow.Author.Tests.{lt-ltb, le-ltb}
-use borrow.Rule.Slice.PartMut.{putMid, set-mid-at}
-use Rattle.lists.specs.Stretches.{stretch, length-stretch, getD-stretch}
+use borrow.Rule.Slice.PartMut.{putMid}
+use Rattle.lists.specs.Stretches.{stretch, part-get, part-set}
 use Rattle.lists.specs.Lists.{_∈_, Nodup}
 use Rattle.lists.specs.Members.{in-map, map-same}
 use Rattle.lists.specs.TurnedLists.{turn-in}
 use Rattle.edges.specs.Table.{Laid}
-use Rattle.links.specs.Tables.{Links, linksOf, follow, IsLoop, sizeAt, ownEnd, slotsAt, codesAt, ringAt, Chain, Own, Held, Stands, Linked, Turned, fusedIn, fusedAt, FusableIn, Fusable}
-use Rattle.links.specs.Chains.{length-follow, chain-follow, chain-turned, chain-other, nodup-turned, map-turned, Front, front}
+use Rattle.links.specs.Tables.{Links, linksOf, follow, IsLoop, ownEnd, slotsAt, codesAt, ringAt, Chain, Own, Held, Stands, Linked, Turned, fusedIn, fusedAt, FusableIn, Fusable}
+use Rattle.links.specs.Chains.{chain-follow, chain-turned, chain-other, nodup-turned, map-turned, Front, front}
 
 -- a loop that stands in some slots has no others
 pub stands-in : (t : Links) (k : ℕ) (l : List ℕ) → Stands t k l → slotsAt t k ≡ l
@@ -40,16 +40,6 @@ turned-is codes nexts head codes′ nexts′ head′ start p x q after eq ea ec 
   links = en ∙ ap (set nexts (p - start)) (ea ∙ ap (λ z. getD nexts (z - start) 0) eq);
   front = eh;
 }
-
--- a store in a lent part is a store in the list
-part-set : (l part : List ℕ) (a e p x : ℕ) → a ≤ p → p < e → e ≤ length l → part ≡ set (stretch l a e) (p - a) x → putMid a (e - a) l part ≡ set l p x
-part-set l part a e p x low high inside h =
-    let z : a + (p - a) ≡ p = omega arith in
-    ap (putMid a (e - a) l) h ∙ set-mid-at a (e - a) (p - a) l x (omega (arith, length-stretch l a e inside)) ∙ ap (λ i. set l i x) z
-
--- what is read in a lent part
-part-get : (l : List ℕ) (a e p : ℕ) → a ≤ p → p < e → getD (stretch l a e) (p - a) 0 ≡ getD l p 0
-part-get l a e p low high = let z : a + (p - a) ≡ p = omega arith in getD-stretch l a e (p - a) 0 (omega arith) ∙ ap (λ i. getD l i 0) z
 
 -- the slot of the item y, its loop, and where the loop's own stretch starts and ends, as the code finds them
 module _ (t : Links) (y x p k start bound : ℕ) (can : Fusable t y) (ep : p ≡ getD (t .spots) y 0) (ek : k ≡ getD (t .owners) p 0) (es : start ≡ getD (t .stretches) (2 * k) 0)
@@ -77,7 +67,7 @@ module _ (t : Links) (y x p k start bound : ℕ) (can : Fusable t y) (ep : p ≡
   slot-after = omega (arith, here-can .own .from-start)
 
   next-is : getD (stretch (t .nexts) start bound) (p - start) 0 ≡ getD (t .nexts) p 0
-  next-is = part-get (t .nexts) start bound p slot-after (omega (arith, here-can .own .to-end))
+  next-is = part-get (t .nexts) start bound p 0 slot-after (omega (arith, here-can .own .to-end))
 
   pub next-after : start ≤ getD (stretch (t .nexts) start bound) (p - start) 0
   next-after = omega (arith, next-is, here-can .next-own .from-start)
@@ -91,7 +81,7 @@ module _ (t : Links) (y x p k start bound : ℕ) (can : Fusable t y) (ep : p ≡
   fuse-is e codes nexts head spots stretches ee w es′ et =
       let after : getD (stretch (t .nexts) start bound) (getD (stretch (t .nexts) start bound) (p - start) 0 - start) 0 ≡ getD (t .nexts) (getD (t .nexts) p 0) 0 =
       ap (λ z. getD (stretch (t .nexts) start bound) (z - start) 0) next-is
-      ∙ part-get (t .nexts) start bound (getD (t .nexts) p 0) (omega (arith, here-can .next-own .from-start)) (omega (arith, here-can .next-own .to-end)) in
+      ∙ part-get (t .nexts) start bound (getD (t .nexts) p 0) 0 (omega (arith, here-can .next-own .from-start)) (omega (arith, here-can .next-own .to-end)) in
       let ec : putMid start (bound - start) (t .codes) codes ≡ set (t .codes) p x =
       part-set (t .codes) codes start bound p x slot-after (omega (arith, here-can .own .to-end)) lent-codes (w .items) in
       let en : putMid start (bound - start) (t .nexts) nexts ≡ set (t .nexts) p (getD (t .nexts) (getD (t .nexts) p 0) 0) =

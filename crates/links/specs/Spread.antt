@@ -1,25 +1,25 @@
 -- In sound loops that lie one after the other no item stands twice, so that they can be linked.
-use Prim.Native.Nat.{ℕ, _+_, _*_, _-_, _/_, _%_, _≤_, _<_}
+use Prim.Native.Nat.{ℕ, _+_, _*_, _-_, _/_, _≤_, _<_}
 use native.Mathlib.Omega.{arith}
 use native.Mathlib.Decide.{ℕ-discrete, decLt}
 use mathlib.Core.Path.{_≡_, refl, sym, ap, subst, _∙_}
 use mathlib.Core.List.{List, map}
 use mathlib.Core.Bool.{Bool, true, false, cond}
 use lib.ListN.{length, getD, length-map}
-use Rattle.lists.specs.Lists.{_∈_, below, keep, sumOf}
+use Rattle.lists.specs.Lists.{_∈_, below, sumOf}
 use Rattle.lists.specs.Runs.{in-below, length-below, getD-below}
 use Rattle.lists.specs.Members.{in-map, getD-map}
 use Rattle.lists.specs.Membership.{getD-in}
 use Rattle.lists.specs.KeepCounts.{keep-counts, sum-member}
 use Rattle.lists.specs.Sums.{sum-ge₂, sum-map, keep-sum}
-use Rattle.lists.specs.Stretches.{length-stretch, getD-stretch}
+use Rattle.lists.specs.Stretches.{length-stretch, part-get}
 use Rattle.rules.specs.declared.Item.{Item}
 use Rattle.rules.specs.declared.EdgeData.{EdgeData}
 use Rattle.rules.specs.Join.{edgeDataAt}
 use Rattle.edges.specs.Table.{itemIn, loopAt, Laid}
 use Rattle.theorems.specs.Linked.{isItem, itemTimes, LoopsSound}
 use Rattle.theorems.specs.EdgesAfter.{active-inside}
-use Rattle.theorems.specs.Trails.{is-item, LoopSound, loop-sound}
+use Rattle.theorems.specs.Trails.{is-item, loop-sound}
 use Rattle.links.specs.Tables.{IsLoop}
 use Rattle.links.specs.Link.{InLoop, Linkable}
 
@@ -54,9 +54,8 @@ module _ (es : List EdgeData) (items stretches : List ℕ) (laid : Laid stretche
   stands-at j r p =
       let a : ℕ = getD stretches (2 * j) 0 in
       let e : ℕ = getD stretches (2 * j + 1) 0 in
-      let back : a + (r - a) ≡ r = omega (arith, p .from-start) in
       getD-map itemIn (loopAt items stretches j) (r - a) (itemIn 0) 0 (omega (arith, length-stretch items a e (laid .inside j (p .is)), p .from-start, p .to-end))
-      ∙ ap itemIn (getD-stretch items a e (r - a) 0 (omega (arith, p .from-start, p .to-end)) ∙ ap (λ i. getD items i 0) back)
+      ∙ ap itemIn (part-get items a e r 0 (p .from-start) (p .to-end))
 
   stands-in-loop : (j r : ℕ) → InLoop stretches j r → itemIn (getD items r 0) ∈ laidLoop items stretches j
   stands-in-loop j r p = subst (λ x. x ∈ laidLoop items stretches j) (stands-at j r p) (getD-in (laidLoop items stretches j) (r - getD stretches (2 * j) 0) none (place j r p))

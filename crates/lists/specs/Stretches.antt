@@ -4,9 +4,9 @@ use mathlib.Core.List.{List, [], _∷_, _++_, map, append-assoc}
 use Prim.Native.Nat.{ℕ, zero, suc, _+_, _-_, _≤_, _<_}
 use native.Mathlib.Nat.{not-suc-le-zero}
 use native.Mathlib.Omega.{arith}
-use lib.ListN.{length, getD, take, drop, length-append, length-take, length-drop, take-append-drop}
+use lib.ListN.{length, getD, set, take, drop, length-append, length-take, length-drop, take-append-drop}
 use lib.Seq.{take-append-le, drop-append-le, drop-append-add, drop-drop, take-at, drop-at, take-take, length-take-le, getD-take, getD-drop}
-use borrow.Rule.Slice.PartMut.{postOf, putMid, post-is, take-put}
+use borrow.Rule.Slice.PartMut.{postOf, putMid, post-is, take-put, set-mid-at}
 
 -- the members from place a up to place e
 abbrev pub stretch : {A : Type 0} → List A → ℕ → ℕ → List A
@@ -38,7 +38,17 @@ drop-map f (suc n) (x ∷ l) = drop-map f n l
 pub stretch-map : {A B : Type 0} (f : A → B) (l : List A) (a e : ℕ) → stretch (map f l) a e ≡ map f (stretch l a e)
 stretch-map f l a e = ap (take (e - a)) (drop-map f a l) ∙ take-map f (e - a) (drop a l)
 
+-- what is read in a stretch, by its place in the list
+pub part-get : {A : Type 0} (l : List A) (a e p : ℕ) (d : A) → a ≤ p → p < e → getD (stretch l a e) (p - a) d ≡ getD l p d
+part-get l a e p d low high = let z : a + (p - a) ≡ p = omega arith in getD-stretch l a e (p - a) d (omega arith) ∙ ap (λ i. getD l i d) z
+
 -- ONE STRETCH REWRITTEN
+
+-- a store in a lent stretch is a store in the list
+pub part-set : {A : Type 0} (l part : List A) (a e p : ℕ) (x : A) → a ≤ p → p < e → e ≤ length l → part ≡ set (stretch l a e) (p - a) x → putMid a (e - a) l part ≡ set l p x
+part-set l part a e p x low high inside h =
+    let z : a + (p - a) ≡ p = omega arith in
+    ap (putMid a (e - a) l) h ∙ set-mid-at a (e - a) (p - a) l x (omega (arith, length-stretch l a e inside)) ∙ ap (λ i. set l i x) z
 
 -- a stretch within the first part of a list
 stretch-front : {A : Type 0} (f r : List A) (b g : ℕ) → b ≤ g → g ≤ length f → stretch (f ++ r) b g ≡ stretch f b g
