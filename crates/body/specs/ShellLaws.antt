@@ -20,7 +20,7 @@ use Rattle.rules.specs.Groups.{labelOf}
 use Rattle.rules.specs.Shells.{Nested, shellFaces, voidsOf, lumpOf, lumps}
 use Rattle.rules.specs.Body.{rec, lumpRecords}
 use Rattle.fields.specs.Wrote.{Wrote, wrote-more}
-use Rattle.stages_out.specs.Writing.{length-fields}
+use Rattle.fields.specs.Tabled.{length-field-bytes}
 use Rattle.shells.specs.Table.{nestedOne, nestedIn}
 use Rattle.body.specs.Writing.{wrote-as, wrote-if, wrote-not, wrote-record}
 use Rattle.body.specs.Rows.{shellFaceRow, shellBytes, voidRow, voidRows, lumpRow}
@@ -65,7 +65,7 @@ module _ (boundaries members : List ℕ) (b : ℕ) where
   pub shell-wrote : (before mid after : List ℕ) (at p q size : ℕ) → size ≡ 0 + length (fieldBytes (shellFaces boundaries members b)) → Wrote before at (bytes32 (4 * (size / 4)) ++ bytes16 28) mid p
       → Wrote mid p (fieldBytes (shellFaces boundaries members b)) after q → Wrote before at (framed (rec 28 (shellFaces boundaries members b))) after q
   shell-wrote before mid after at p q size e u w =
-      wrote-record (shellFaces boundaries members b) before mid after at p q 28 (size / 4) (omega (arith, e, length-fields (shellFaces boundaries members b))) u w
+      wrote-record (shellFaces boundaries members b) before mid after at p q 28 (size / 4) (omega (arith, e, length-field-bytes (shellFaces boundaries members b))) u w
 
 -- VOIDS AND LUMPS
 

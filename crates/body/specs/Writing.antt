@@ -19,8 +19,7 @@ use Rattle.rules.specs.Frame.{framed}
 use Rattle.rules.specs.Body.{rec}
 use Rattle.rules.specs.Sew.{written, ended, fitting, Ends}
 use Rattle.fields.specs.Wrote.{Wrote, wrote-none, wrote-more}
-use Rattle.fields.specs.Tabled.{length-bytes32}
-use Rattle.stages_out.specs.Writing.{length-fields}
+use Rattle.fields.specs.Tabled.{length-bytes32, length-field-bytes}
 
 -- BYTES
 
@@ -53,7 +52,7 @@ pub length-record : (kind : ℕ) (fields : List ℕ) → length (framed (rec kin
 unfolding framed
 length-record kind fields =
     omega
-    (arith, length-append (bytes32 (4 * length fields) ++ bytes16 kind) (fieldBytes fields), length-append (bytes32 (4 * length fields)) (bytes16 kind), length-bytes32 (4 * length fields), length-fields fields)
+    (arith, length-append (bytes32 (4 * length fields) ++ bytes16 kind) (fieldBytes fields), length-append (bytes32 (4 * length fields)) (bytes16 kind), length-bytes32 (4 * length fields), length-field-bytes fields)
 
 -- ROWS
 

@@ -7,13 +7,20 @@ use mathlib.Core.List.{List, [], _∷_, _++_, flatMap}
 use lib.ListN.{length, getD, take}
 use lib.Seq.{take-suc}
 use Rattle.lists.specs.Members.{flatMap-append}
+use Rattle.lists.specs.Rows.{flatMap-even}
 use Rattle.rules.specs.Fields.{bytes32, fieldBytes}
 use Rattle.fields.specs.Wrote.{Wrote, wrote-none, wrote-more}
 
+-- a number has four bytes
 pub length-bytes32 : (v : ℕ) → length (bytes32 v) ≡ 4
 unfolding bytes32
 length-bytes32 v = refl
 
+-- fields have four bytes each
+pub length-field-bytes : (fs : List ℕ) → length (fieldBytes fs) ≡ 4 * length fs
+length-field-bytes fs = flatMap-even bytes32 4 fs length-bytes32
+
+-- one number as fields
 one-field : (v : ℕ) → fieldBytes (v ∷ []) ≡ bytes32 v
 unfolding flatMap bytes32
 one-field v = refl

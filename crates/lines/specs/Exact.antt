@@ -11,7 +11,6 @@ use lib.Seq.{take-at, drop-at, sets-eq}
 use lib.Dec.{leb}
 use Rattle.lists.specs.Lists.{_∈_}
 use Rattle.lists.specs.Members.{flatMap-append}
-use Rattle.lists.specs.Rows.{flatMap-even}
 use Rattle.rules.specs.declared.Ending.{Ending}
 use Rattle.rules.specs.Outcome.{Outcome, ok, refuse, _>>=_, need}
 use Rattle.rules.specs.Fields.{le16, le32, fieldsIn, bytes16, bytes32, fieldBytes}
@@ -23,7 +22,7 @@ use Rattle.rules.specs.Rules.{Rules}
 use Rattle.rules.specs.Body.{Body, bodyRecords}
 use Rattle.rules.specs.Sew.{rebuild, fitting, sewn, Ends}
 use Rattle.rules.specs.Listing.{listingOf, sewnRecords, listing}
-use Rattle.fields.specs.Tabled.{length-bytes32}
+use Rattle.fields.specs.Tabled.{length-bytes32, length-field-bytes}
 use Rattle.fields.specs.Wrote.{Wrote}
 use Rattle.theorems.specs.Reporting.{field-back}
 use Rattle.theorems.specs.Narrow.{Below}
@@ -66,7 +65,7 @@ unfolding framed
 framed-length r =
     let a : List ℕ = bytes32 (4 * length (r .fields)) in
     let b : List ℕ = bytes16 (r .kind) in
-    omega (arith, length-append (a ++ b) (fieldBytes (r .fields)), length-append a b, length-bytes32 (4 * length (r .fields)), flatMap-even bytes32 4 (r .fields) length-bytes32)
+    omega (arith, length-append (a ++ b) (fieldBytes (r .fields)), length-append a b, length-bytes32 (4 * length (r .fields)), length-field-bytes (r .fields))
 
 record-back : (r : Record) → Fits r → (more : List ℕ) → (recordAt (framed r ++ more) ≡ r) × (recordSize (framed r ++ more) ≡ length (framed r))
 unfolding recordAt recordSize
@@ -170,7 +169,7 @@ rows-back fixed counted rows h each =
     cut-put (rowAt fixed counted) (rowSize fixed counted) (row-some fixed counted h) fieldBytes rows
     (λ row m more.
     let n = row-length fixed counted row more (each row m) in
-    (ap (λ k. fieldsIn k (fieldBytes row ++ more)) n ∙ fields-back row more (each row m .fields), ap (λ k. 4 * k) n ∙ sym (flatMap-even bytes32 4 row length-bytes32)))
+    (ap (λ k. fieldsIn k (fieldBytes row ++ more)) n ∙ fields-back row more (each row m .fields), ap (λ k. 4 * k) n ∙ sym (length-field-bytes row)))
 
 -- the bytes of a stage, as document 01 puts its fields one after the other
 pub bytes-by-rows : {A : Type 0} (f : A → List ℕ) (xs : List A) → fieldBytes (flatMap f xs) ≡ flatMap fieldBytes (map f xs)
@@ -181,7 +180,21 @@ bytes-by-rows f (x ∷ xs) = flatMap-append bytes32 (f x) (flatMap f xs) ∙ ap 
 -- WHAT IS SHOWN
 
 -- a text that the page has room for is shown whole
-pub shown-whole : (before after text : List ℕ) (q : ℕ) → Wrote before 0 text after q → length text ≤ length before → take q after ≡ text
+shown-whole : (before after text : List ℕ) (q : ℕ) → Wrote before 0 text after q → length text ≤ length before → take q after ≡ text
 shown-whole before after text q w le =
     let e : q ≡ length text = omega (arith, w .1) in
     ap (λ n. take n after) e ∙ ap (take (length text)) (w .0 ∙ sets-eq text before 0 (omega arith)) ∙ take-at text (drop (0 + length text) before) (length text) refl
+
+-- a page on which a text was put: the place after the text, which is at most the bound, and the whole text where the page has room
+pub record Printed (text page printed : List ℕ) (bound r : ℕ) : Type 0 where
+  pub wrote : Wrote page 0 text printed r
+  pub few : r ≤ bound
+  pub whole : r ≤ length page → take r printed ≡ text
+
+-- a text that has no more characters than the bound is put so
+pub prints : (text page printed : List ℕ) (bound r : ℕ) → Wrote page 0 text printed r → length text ≤ bound → Printed text page printed bound r
+prints text page printed bound r w le = record {
+  wrote = w;
+  few = omega (arith, w .1, le);
+  whole = λ room. shown-whole page printed text r w (omega (arith, w .1, room));
+}

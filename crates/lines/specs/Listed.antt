@@ -1,17 +1,16 @@
 -- The records of a job of bytes fit their bytes, so that sewing's answer is listed as document 01 says.
-use Prim.Native.Nat.{ℕ, _+_, _*_, _<_, _≤_}
+use Prim.Native.Nat.{ℕ, _<_}
 use native.Mathlib.Omega.{arith}
-use mathlib.Core.Path.{_≡_, refl, sym, ap, _∙_, subst}
-use mathlib.Core.Logic.{⊎-elim}
-use mathlib.Core.List.{List, [], _∷_, _++_, flatMap, List·Memᴰ·not-nil, List·Memᴰ·cases-cons}
-use lib.ListN.{length, getD, take, length-append}
-use lib.Dec.{leb}
-use borrow.Author.Tests.{leb-true}
+use mathlib.Core.Path.{_≡_, refl, sym, subst}
+use mathlib.Core.List.{List}
+use lib.ListN.{length, getD}
 use Rattle.lists.specs.Lists.{_∈_}
 use Rattle.lists.specs.Membership.{in-getD}
+use Rattle.lists.specs.Members.{flatMap-length}
+use Rattle.lists.specs.KeepCounts.{sum-member}
 use Rattle.rules.specs.declared.Ending.{Ending}
-use Rattle.rules.specs.Outcome.{Outcome, ok, refuse, _>>=_, need}
-use Rattle.rules.specs.OutcomeLaws.{ok-one, bind-ok, need-ok}
+use Rattle.rules.specs.Outcome.{Outcome, ok, refuse}
+use Rattle.rules.specs.OutcomeLaws.{ok-one, bind-ok}
 use Rattle.rules.specs.Frame.{Record, framed, framedAll}
 use Rattle.rules.specs.Load.{loaded}
 use Rattle.rules.specs.Rules.{Table, fullTable, ordinary}
@@ -23,23 +22,12 @@ use Rattle.theorems.specs.Demand3.{withTable}
 use Rattle.theorems.specs.Narrow.{Below, rebuilt-narrow}
 use Rattle.lines.specs.Text.{recorded}
 use Rattle.lines.specs.Writing.{wrote-same}
-use Rattle.lines.specs.Exact.{Fits, AllFit, framed-length, room-listing, listing-is, shown-whole}
-use Rattle.lines.specs.Room.{listed-small, sewn-within}
+use Rattle.lines.specs.Exact.{Fits, AllFit, framed-length, room-listing, listing-is, Printed, prints}
+use Rattle.lines.specs.Room.{Within, listed-small, sewn-within}
 
 -- bytes place by place
 pub bytes-below : (l : List ℕ) → ((i : ℕ) → getD l i 0 < 256) → Below 256 l
 bytes-below l h x m = let r = in-getD 0 m in subst (λ y. y < 256) (r .2) (h (r .0))
-
--- a record takes no more bytes than all
-one-of : (rs : List Record) (r : Record) → r ∈ rs → length (framed r) ≤ length (framedAll rs)
-unfolding flatMap
-one-of [] r m = absurd (List·Memᴰ·not-nil m)
-one-of (s ∷ rs) r m =
-    let later = one-of rs r in
-    ⊎-elim
-    (λ e. omega (arith, ap (λ x. length (framed x)) e, length-append (framed s) (framedAll rs)))
-    (λ i. omega (arith, later i, length-append (framed s) (framedAll rs)))
-    (List·Memᴰ·cases-cons m)
 
 -- AllFit by what the outcome can be
 all-fit-by : (o : Outcome (List Record)) → ((rs : List Record) → o ≡ ok rs → (r : Record) → r ∈ rs → Fits r) → AllFit o
@@ -54,13 +42,11 @@ all-fit t job room bytes h = all-fit-by (sewnRecords (withTable t) job room) (λ
     let b = bind-ok (rebuild (withTable t) (a .0)) _ rs (a .2) in
     let body : Body = b .0 in
     let c = bind-ok (fitting room (framedAll (bodyRecords body))) (λ _. ok (bodyRecords body)) rs (b .2) in
-    let n = need-ok (leb (length (framedAll (bodyRecords body))) room) 40 (length (framedAll (bodyRecords body))) (ok (framedAll (bodyRecords body))) (c .0) (c .1) in
-    let few : length (framedAll (bodyRecords body)) ≤ room = leb-true (length (framedAll (bodyRecords body))) room (n .0) in
     let i : r ∈ bodyRecords body = subst (λ l. r ∈ l) (sym (ok-one (c .2))) m in
     let narrow = rebuilt-narrow t job (a .0) body bytes (a .1) (b .1) r i in
     record {
       kind = narrow .0;
-      size = omega (arith, few, one-of (bodyRecords body) r i, framed-length r);
+      size = omega (arith, subst (Within room) e (sewn-within (withTable t) job room), flatMap-length framed rs, sum-member (λ s. length (framed s)) m, framed-length r);
       fields = narrow .1;
     })
 
@@ -76,18 +62,14 @@ abbrev pub SewnInto : List ℕ → List ℕ → List ℕ → Type 0
 SewnInto job before after = (e : Ending) × Ends (sewn ordinary job (length before)) before after e
 
 -- a page on which a job's listing was put: the place after the text, which is at most 196,608, and the whole text where the page has room
-pub record Lists (job page printed : List ℕ) (r : ℕ) : Type 0 where
-  pub wrote : Wrote page 0 (listing ordinary job) printed r
-  pub few : r ≤ 196608
-  pub whole : r ≤ length page → take r printed ≡ listing ordinary job
+abbrev pub Lists : List ℕ → List ℕ → List ℕ → ℕ → Type 0
+Lists job page printed r = Printed (listing ordinary job) page printed 196608 r
 
+-- the text of sewing's answer is put as the job's listing
 pub lists : (job before after page printed : List ℕ) (q : ℕ) (e : Ending) → Below 256 job → length before ≡ 65536
     → Ends (sewn ordinary job (length before)) before after e → Wrote page 0 (listingOf (recorded after e)) printed q → Lists job page printed q
 lists job before after page printed q e bytes n E w =
     let fit = all-fit fullTable job 65536 bytes (omega arith) in
-    let put : Wrote page 0 (listing ordinary job) printed q = wrote-same page printed (listingOf (recorded after e)) (listing ordinary job) 0 q (listing-is ordinary job before after e fit n E) w in
-    record {
-      wrote = put;
-      few = omega (arith, put .1, listed-small (sewnRecords ordinary job 65536) fit (sewn-within ordinary job 65536));
-      whole = λ h. shown-whole page printed (listing ordinary job) q put (omega (arith, put .1));
-    }
+    prints (listing ordinary job) page printed 196608 q
+    (wrote-same page printed (listingOf (recorded after e)) (listing ordinary job) 0 q (listing-is ordinary job before after e fit n E) w)
+    (listed-small (sewnRecords ordinary job 65536) fit (sewn-within ordinary job 65536))

@@ -9,7 +9,7 @@ use lib.Seq.{take-at, drop-at}
 use lib.Dec.{leb}
 use Rattle.lists.specs.Lists.{below, keep}
 use Rattle.lists.specs.Members.{flatMap-append}
-use Rattle.lists.specs.Rows.{flatMap-each, flatMap-even, flatMap-single}
+use Rattle.lists.specs.Rows.{flatMap-each, flatMap-single}
 use Rattle.rules.specs.Outcome.{Outcome, ok, refuse, _>>=_, need}
 use Rattle.rules.specs.OutcomeLaws.{bind-then, bind-same}
 use Rattle.rules.specs.Fields.{le32, fieldsIn, field, bytes32, fieldBytes}
@@ -28,7 +28,7 @@ use Rattle.rules.specs.Sew.{walked, fanned, edged, throughJoining, shellsOf, fi
 use Rattle.rules.specs.Stage.{useFields, groupFields, keptFields, keptUses, walkFields, loopFields, fanFields, edgeFields, faceLoopFields, joiningFields, shellFields, lumpShellFields, lumpFields}
 use Rattle.rules.specs.Stage.{stageBytes, readStage, pairStage, mergeStage, vertexLoopStage, walkStage, loopStage, fanStage, edgeStage, joiningStage, shellStage, lumpStage}
 use Rattle.rules.specs.Rows.{readRows, pairRows, mergeRows, vertexLoopRows, walkRows, loopRows, fanRows, tableRows, edgeRows, joiningRows as joinedRows, shellRows, lumpRowsFrom, lumpRows, stagedRows}
-use Rattle.fields.specs.Tabled.{length-bytes32}
+use Rattle.fields.specs.Tabled.{length-field-bytes}
 use Rattle.theorems.specs.Shapes.{Shaped, Laid}
 use Rattle.lines.specs.Text.{rowsIn, joiningRows}
 use Rattle.lines.specs.Exact.{fields-back, rows-back, bytes-by-rows}
@@ -163,10 +163,6 @@ module _ (rules : Rules) (job : List ℕ) (room : ℕ) where
 
 -- THE ROWS READ BACK
 
--- the bytes of a row are four for each field
-pub row-bytes : (row : List ℕ) → length (fieldBytes row) ≡ 4 * length row
-row-bytes row = flatMap-even bytes32 4 row length-bytes32
-
 -- the rows of edges and joining are read back from their bytes
 pub laid-back : (rows : List (List ℕ)) → Laid rows → joiningRows (flatMap fieldBytes rows) ≡ rows
 unfolding joiningRows flatMap
@@ -178,12 +174,12 @@ laid-back rows L =
     let y : List ℕ = flatMap fieldBytes es in
     let z : List ℕ = flatMap fieldBytes ls in
     let three : length c ≡ 3 = omega (arith, L .first .shape) in
-    let front : length x ≡ 12 = omega (arith, row-bytes c, three) in
+    let front : length x ≡ 12 = omega (arith, length-field-bytes c, three) in
     let all : flatMap fieldBytes rows ≡ x ++ (y ++ z) = ap (flatMap fieldBytes) (L .laid) ∙ ap (λ l. x ++ l) (flatMap-append fieldBytes es ls) in
     let third : le32 (x ++ (y ++ z)) 8 ≡ length es =
     sym (field-in 3 (x ++ (y ++ z)) 0 2 (omega arith)) ∙ ap (λ n. field (fieldsIn n (x ++ (y ++ z))) 2) (sym three) ∙ ap (λ l. field l 2) (fields-back c (y ++ z) (L .first .fields)) ∙ L .third in
     let end : length y ≡ 28 * length es =
-    flatMap-each fieldBytes 28 es (λ row m. let e = row-bytes row in let s = L .edge row m .shape in omega arith) in
+    flatMap-each fieldBytes 28 es (λ row m. let e = length-field-bytes row in let s = L .edge row m .shape in omega arith) in
     let rest : drop 12 (x ++ (y ++ z)) ≡ y ++ z = drop-at x (y ++ z) 12 front in
     ap joiningRows all
     ∙ (λ i. rowsIn 3 0 (take-at x (y ++ z) 12 front i) ++ rowsIn 7 0 (take (28 * third i) (rest i)) ++ rowsIn 2 2 (drop (28 * third i) (rest i)))

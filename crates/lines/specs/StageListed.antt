@@ -21,15 +21,16 @@ use Rattle.rules.specs.Rows.{readRows, pairRows, mergeRows, vertexLoopRows, wal
 use Rattle.rules.specs.Rows.{allRows, stageListing}
 use Rattle.rules.specs.Operation.{operation}
 use Rattle.fields.specs.Wrote.{Wrote, wrote-none}
+use Rattle.fields.specs.Tabled.{length-field-bytes}
 use Rattle.theorems.specs.Narrow.{Below}
 use Rattle.theorems.specs.Shapes.{Shaped, AllShaped, Laid, read-shaped, pair-shaped, merge-shaped, vertex-loops-shaped, walk-shaped, loops-shaped, fans-shaped, edges-laid, joining-laid, shells-shaped}
 use Rattle.theorems.specs.Shapes.{lumps-shaped}
 use Rattle.lines.specs.Text.{rowsIn, joiningRows, fixedOf, countedOf, stageRows, stageText}
 use Rattle.lines.specs.Writing.{wrote-same}
-use Rattle.lines.specs.Exact.{rows-back, shown-whole}
+use Rattle.lines.specs.Exact.{rows-back, Printed, prints}
 use Rattle.lines.specs.Room.{row-eleven, refusal-short}
 use Rattle.lines.specs.StageBytes.{rowBytes, read-bytes, pair-bytes, merge-bytes, vertex-loop-bytes, walk-bytes, loop-bytes, fan-bytes, edge-bytes, joining-bytes, shell-bytes, lump-bytes}
-use Rattle.lines.specs.StageBytes.{row-bytes, laid-back}
+use Rattle.lines.specs.StageBytes.{laid-back}
 
 -- ROWS THAT FIT AND ARE READ BACK
 
@@ -207,7 +208,7 @@ rows-eleven (row ∷ rows) some low =
       length-append (rowText row) (flatMap rowText rows),
       length-append (fieldBytes row) (flatMap fieldBytes rows),
       row-eleven row (low row (List·Memᴰ·head refl)) (some row (List·Memᴰ·head refl)),
-      row-bytes row,
+      length-field-bytes row,
       rows-eleven rows (λ r m. some r (List·Memᴰ·tail m)) (λ r m. low r (List·Memᴰ·tail m)),
     )
 
@@ -237,10 +238,8 @@ pub stays : (stage : ℕ) (job out : List ℕ) → (stage ≡ 0) ⊎ (11 < stage
 stays stage job out none = (λ some most. not-both stage some most none, λ _. refl)
 
 -- a page on which a stage's lines were put: the place after the text, which is at most 360,448, and the whole text where the page has room
-pub record StageLists (stage : ℕ) (job page printed : List ℕ) (r : ℕ) : Type 0 where
-  pub wrote : Wrote page 0 (stageListing stage ordinary job 131072) printed r
-  pub few : r ≤ 360448
-  pub whole : r ≤ length page → take r printed ≡ stageListing stage ordinary job 131072
+abbrev pub StageLists : ℕ → List ℕ → List ℕ → List ℕ → ℕ → Type 0
+StageLists stage job page printed r = Printed (stageListing stage ordinary job 131072) page printed 360448 r
 
 -- the lines of a stage are put as its listing says
 pub lists-stage : (stage : ℕ) (job before after page printed : List ℕ) (q : ℕ) (e : Ending) → 0 < stage → stage ≤ 11 → Below 256 job → length before ≡ 131072
@@ -248,15 +247,11 @@ pub lists-stage : (stage : ℕ) (job before after page printed : List ℕ) (q : 
 lists-stage stage job before after page printed q e h k b n E w =
     let text : List ℕ = stageListing stage ordinary job 131072 in
     let is : stageText stage after e ≡ text = stage-text stage job before after e h k b E ∙ ap (stageListing stage ordinary job) n in
-    let put : Wrote page 0 text printed q = wrote-same page printed (stageText stage after e) text 0 q is w in
-    record {
-      wrote = put;
-      few = omega (arith, put .1, stage-small stage job h k b);
-      whole = λ le. shown-whole page printed text q put (omega (arith, put .1));
-    }
+    prints text page printed 360448 q (wrote-same page printed (stageText stage after e) text 0 q is w) (stage-small stage job h k b)
 
 -- nothing is put for a number that is no stage
 pub lists-none : (stage : ℕ) (job page : List ℕ) → (stage ≡ 0) ⊎ (11 < stage) → StageLists stage job page page 0
 lists-none stage job page h =
-    let none : [] ≡ stageListing stage ordinary job 131072 = sym (no-stage stage h ordinary job 131072) in
-    record { wrote = wrote-same page page [] (stageListing stage ordinary job 131072) 0 0 none (wrote-none page 0); few = omega arith; whole = λ le. none }
+    let text : List ℕ = stageListing stage ordinary job 131072 in
+    let none : [] ≡ text = sym (no-stage stage h ordinary job 131072) in
+    prints text page page 360448 0 (wrote-same page page [] text 0 0 none (wrote-none page 0)) (omega (arith, ap length none))

@@ -11,20 +11,17 @@ use lib.Dec.{leb}
 use borrow.Author.Tests.{le-leb, lt-leb}
 use Rattle.lists.specs.Lists.{from, below}
 use Rattle.lists.specs.Members.{flatMap-append}
-use Rattle.lists.specs.Rows.{flatMap-even, rows-more}
+use Rattle.lists.specs.Rows.{rows-more}
 use Rattle.rules.specs.declared.Ending.the-variants.{Written, Refused}
 use Rattle.rules.specs.Outcome.{ok, refuse, need}
 use Rattle.rules.specs.Fields.{bytes32, fieldBytes}
 use Rattle.rules.specs.Sew.{written, ended}
 use Rattle.rules.specs.Stage.{stageBytes}
 use Rattle.fields.specs.Wrote.{Wrote, wrote-none, wrote-more}
-use Rattle.fields.specs.Tabled.{length-bytes32}
+use Rattle.fields.specs.Tabled.{length-field-bytes}
 use Rattle.stages_out.specs.Rows.{Staged}
 
 -- FIELDS
-
-pub length-fields : (fs : List ℕ) → length (fieldBytes fs) ≡ 4 * length fs
-length-fields fs = flatMap-even bytes32 4 fs length-bytes32
 
 -- one field, and two groups of fields one after the other
 pub wrote-one : (before after : List ℕ) (at a q : ℕ) → Wrote before at (bytes32 a) after q → Wrote before at (fieldBytes (a ∷ [])) after q
@@ -45,7 +42,7 @@ wrote-nothing before at = wrote-none before at
 
 -- the place after fields
 pub place-after : (xs before after : List ℕ) (at q : ℕ) → Wrote before at (fieldBytes xs) after q → q ≡ at + 4 * length xs
-place-after xs before after at q w = w .1 ∙ ap (λ n. at + n) (length-fields xs)
+place-after xs before after at q w = w .1 ∙ ap (λ n. at + n) (length-field-bytes xs)
 
 -- ROWS
 
@@ -80,7 +77,7 @@ short-need bytes room lt = rw (lt-leb (length bytes) room lt)
 -- fields that fit are written from the start on
 pub staged-written : (fs before after : List ℕ) (needed p : ℕ) → needed ≡ 4 * length fs → needed ≤ length before → Wrote before 0 (fieldBytes fs) after p → Staged fs before after (Written needed)
 staged-written fs before after needed p e fits w =
-    let n : length (fieldBytes fs) ≡ needed = length-fields fs ∙ sym e in
+    let n : length (fieldBytes fs) ≡ needed = length-field-bytes fs ∙ sym e in
     let z : 0 + length (fieldBytes fs) ≡ length (fieldBytes fs) = omega arith in
     let q : stageBytes (length before) fs ≡ ok (fieldBytes fs) = whole-need (fieldBytes fs) (length before) (omega arith) in (
       ap Written (sym n) ∙ sym (ap ended q),
@@ -90,7 +87,7 @@ staged-written fs before after needed p e fits w =
 -- fields that do not fit are refused with the bytes needed
 pub staged-short : (fs before : List ℕ) (needed : ℕ) → needed ≡ 4 * length fs → length before < needed → Staged fs before before (Refused 40 needed)
 staged-short fs before needed e short =
-    let n : length (fieldBytes fs) ≡ needed = length-fields fs ∙ sym e in
+    let n : length (fieldBytes fs) ≡ needed = length-field-bytes fs ∙ sym e in
     let q : stageBytes (length before) fs ≡ refuse 40 (length (fieldBytes fs)) = short-need (fieldBytes fs) (length before) (omega arith) in (
       ap (Refused 40) (sym n) ∙ sym (ap ended q),
       sym (ap (λ o. written o before) q),
