@@ -141,9 +141,7 @@ module _ (bytes ix : List ℕ) (c : Counts) (room : ℕ) (O : Opened bytes ix c)
 -- READING
 
 module _ (bytes ix : List ℕ) (c : Counts) (us : List Use) (R : ReadIn bytes ix c us) where
-  pub read-few : length us ≤ 2048
-  read-few = omega (arith, ap length (R .uses), opened-counted bytes ix c (R .opened) .uses, opened-limited bytes ix c (R .opened) .uses)
-
+  -- the uses read are as many as are counted
   pub read-count : length us ≡ c .uses
   read-count = ap length (R .uses) ∙ sym (opened-counted bytes ix c (R .opened) .uses)
 
