@@ -231,7 +231,8 @@ fn points_in_small(
     points_chained(number, uses, starts, labels, names, &mut heads, &mut nexts)
 }
 
-// In tables for as many as there may be.
+// In tables for up to 2,048 fans, which stand at up to 1,024 points. They are on 512 chains, so that two points share one:
+// a head for every point would make sewing's stack deeper.
 fn points_in_large(
     number: usize,
     uses: &[u32],

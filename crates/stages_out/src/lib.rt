@@ -57,11 +57,10 @@ fn put_records(records: [Use; 2048], n: usize, out: &mut [u8]) -> usize
     requires { ⌜ n ≤ 2048 ⌝ }
     ensures { λ r. ⌜ Rowed (useRow records) 4 (now (out .entry)) (now (out .exit)) r n ⌝ }
 {
-    let lent = records;
     let mut p: usize = 0;
     let mut h: usize = 0;
     while h < n {
-        let u = use_at(&lent, h);
+        let u = use_at(&records, h);
         p = put_use(out, p, u);
         h += 1;
     }

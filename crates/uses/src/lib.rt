@@ -110,7 +110,7 @@ fn record_of(uses: &[u32], h: usize) -> Use
     }
 }
 
-// All uses of the table as records, and after them uses of no edge.
+// All uses of the table as records, and after them records that are all zeros.
 pub fn records_of(uses: &[u32]) -> [Use; 2048]
     requires { ⌜ length (usesIn (now uses)) ≤ 2048 ⌝ }
     ensures { λ r. ⌜ Records (usesIn (now (uses .entry))) r (length (usesIn (now (uses .entry)))) ⌝ }
