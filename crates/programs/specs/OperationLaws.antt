@@ -69,7 +69,8 @@ NoStage k =
 -- it is past them all, but for 0
 past-all : (k : ℕ) → 0 < k → NoStage k → 11 < k
 past-all k h n =
-    past 10 k (past 9 k (past 8 k (past 7 k (past 6 k (past 5 k (past 4 k (past 3 k (past 2 k (past 1 k (past 0 k h (n .0)) (n .1)) (n .2)) (n .3)) (n .4)) (n .5)) (n .6)) (n .7)) (n .8)) (n .9)) (n .10)
+    let five : 5 < k = past 4 k (past 3 k (past 2 k (past 1 k (past 0 k h (n .0)) (n .1)) (n .2)) (n .3)) (n .4) in
+    past 10 k (past 9 k (past 8 k (past 7 k (past 6 k (past 5 k five (n .5)) (n .6)) (n .7)) (n .8)) (n .9)) (n .10)
 
 pub is-sewing : (k : ℕ) → NoStage k → sewn ordinary ≡ operation k
 unfolding operation

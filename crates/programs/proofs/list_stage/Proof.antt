@@ -44,10 +44,11 @@ returns-3 c =
     let some : 0 < a .stage = omega (arith, else1 .if1 .left) in
     let most : a .stage ≤ 11 = omega (arith, else2 .if2 .left) in
     let bytes = bytes-below (a .job .now) (λ i. known .shared-slice-known .given i .fits) in
-    let after = ran .operate .last .1 .1 .0 in
-    (runs (a .stage) (a .job .now) (a .out .now) after (ran .operate .result) some most (ran .operate .ensures),
-    lists-stage (a .stage) (a .job .now) (a .out .now) after (a .page .now) (put .put-stage .last .0) (put .put-stage .result) (ran .operate .result) some most
-    bytes (size .0 .1) (ran .operate .ensures) (put .put-stage .ensures))
+    let after = ran .operate .last .1 .1 .0 in (
+      runs (a .stage) (a .job .now) (a .out .now) after (ran .operate .result) some most (ran .operate .ensures),
+      lists-stage (a .stage) (a .job .now) (a .out .now) after (a .page .now) (put .put-stage .last .0) (put .put-stage .result) (ran .operate .result) some most
+          bytes (size .0 .1) (ran .operate .ensures) (put .put-stage .ensures),
+    )
 
 pub list-stage-spec : {M : Type 1} → statement M
 list-stage-spec = tie.close (tie.spec returns returns-2 operate-requires put-stage-requires same-length returns-3)

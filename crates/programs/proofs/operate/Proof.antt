@@ -108,9 +108,10 @@ same-length-6 c = search needs
 returns-6 : tie.Need-returns-6
 returns-6 c =
     let start : tie.Start = search in
+    let at-loop-stage : tie.After-loop-stage = search in
     let at-match : tie.At-match-keys6 = search in
     let a = start .args in
-    let s = c .before .before .loop-stage in
+    let s = at-loop-stage .loop-stage in
     ends-by (a .number) (loopStage ordinary) (a .job .now) (a .out .now) (s .last .1 .0) (s .result) (is-6 (a .number) (at-match .match .keys6)) (s .ensures .0)
 
 same-length-7 : tie.Need-same-length-7

@@ -28,38 +28,51 @@ record-of-requires-2 c κs = search needs
 mul-records : tie.Need-mul-records Inv-loop μ-loop
 mul-records c =
     let start : tie.Start Inv-loop μ-loop = search in
-    omega (arith, c .before .loop-test .taken, c .before .before .loop .inv .0, start .pre)
+    let head : tie.At-loop Inv-loop μ-loop = search in
+    let turn : tie.In-loop Inv-loop μ-loop = search in
+    omega (arith, turn .loop-test .taken, head .loop .inv .0, start .pre)
 
 array-set-from-records : tie.Need-array-set-from-records Inv-loop μ-loop
 array-set-from-records c =
     let start : tie.Start Inv-loop μ-loop = search in
-    omega (arith, c .before .loop-test .taken, c .before .before .loop .inv .0, start .pre)
+    let head : tie.At-loop Inv-loop μ-loop = search in
+    let turn : tie.In-loop Inv-loop μ-loop = search in
+    omega (arith, turn .loop-test .taken, head .loop .inv .0, start .pre)
 
 add-h : tie.Need-add-h Inv-loop μ-loop
 add-h c =
     let start : tie.Start Inv-loop μ-loop = search in
-    omega (arith, c .before .loop-test .taken, c .before .before .loop .inv .0, start .pre)
+    let head : tie.At-loop Inv-loop μ-loop = search in
+    let turn : tie.In-loop Inv-loop μ-loop = search in
+    omega (arith, turn .loop-test .taken, head .loop .inv .0, start .pre)
 
 loop-less : tie.Need-loop-less Inv-loop μ-loop
-loop-less c = omega (arith, c .before .loop-test .taken)
+loop-less c =
+    let turn : tie.In-loop Inv-loop μ-loop = search in
+    omega (arith, turn .loop-test .taken)
 
 loop-again : tie.Need-loop-again Inv-loop μ-loop
 loop-again c =
     let start : tie.Start Inv-loop μ-loop = search in
-    let l = c .before .before .loop in
+    let head : tie.At-loop Inv-loop μ-loop = search in
+    let turn : tie.In-loop Inv-loop μ-loop = search in
+    let made : tie.After-record-of2 Inv-loop μ-loop = search in
+    let l = head .loop in
     let us = usesIn (start .args .uses .now) in (
       l .inv .0,
-      omega (arith, c .before .loop-test .taken),
-      records-more us (l .records) _ (l .h) (c .record-of2 .result) (l .inv .2)
-          (omega (arith, c .before .loop-test .taken, l .inv .0, start .pre)) (c .record-of2 .ensures) refl,
+      omega (arith, turn .loop-test .taken),
+      records-more us (l .records) _ (l .h) (made .record-of2 .result) (l .inv .2)
+          (omega (arith, turn .loop-test .taken, l .inv .0, start .pre)) (made .record-of2 .ensures) refl,
     )
 
 returns : tie.Need-returns Inv-loop μ-loop
 returns c =
     let start : tie.Start Inv-loop μ-loop = search in
-    let l = c .before .loop in
+    let head : tie.At-loop Inv-loop μ-loop = search in
+    let done : tie.After-loop Inv-loop μ-loop = search in
+    let l = head .loop in
     let us = usesIn (start .args .uses .now) in
-    let e : l .h ≡ length us = omega (arith, c .loop-test .left, l .inv .0, l .inv .1) in
+    let e : l .h ≡ length us = omega (arith, done .loop-test .left, l .inv .0, l .inv .1) in
     subst (Records us (l .records)) e (l .inv .2)
 
 pub records-of-spec : {M : Type 1} → statement M
