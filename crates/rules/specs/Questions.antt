@@ -63,10 +63,11 @@ numbered number (a ∷ more) other v =
     let later = numbered number more other v in
     cond (eqb v (number a)) a later
 
--- the answer of a number
+-- the answer of kind 8 that has a number: undecided, if no other has it
 unfoldable pub surfaceAnswer : ℕ → SurfaceAnswer
 surfaceAnswer v = numbered surfaceNumber (Different ∷ Agreeing ∷ Opposed ∷ Vanishing ∷ []) SurfaceUndecided v
 
+-- the answer of kinds 9 to 13 that has a number: undecided, if no other has it
 unfoldable pub verdict : ℕ → Verdict
 verdict v = numbered verdictNumber (No ∷ Yes ∷ []) Undecided v
 

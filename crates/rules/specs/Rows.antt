@@ -59,9 +59,11 @@ fanRows rules j = fanned rules j >>= λ f.
 unfoldable pub tableRows : Joining → List (List ℕ)
 tableRows s = (s .joins ∷ s .rings ∷ length (s .edges) ∷ []) ∷ (map edgeFields (s .edges) ++ map faceLoopFields (s .loops))
 
+-- `edges`: the edges and loops as they are before joining
 unfoldable pub edgeRows : Rules → Job → Outcome (List (List ℕ))
 edgeRows rules j = edged rules j >>= λ x. ok (tableRows (x .joining))
 
+-- `joining`: the edges and loops as joining leaves them
 unfoldable pub joiningRows : Rules → Job → Outcome (List (List ℕ))
 joiningRows rules j = throughJoining rules j >>= λ x. ok (tableRows (x .joining))
 
@@ -71,11 +73,12 @@ shellRows rules j = throughJoining rules j >>= λ x.
     shellsOf j (x .fan .walk) >>= λ ss.
     ok (map shellFields ss)
 
--- `lumps`: shell, lumps by outer shell and the voids of a lump after its outer shell
+-- the shells of some lumps, lump after lump, each with its lump's number, which is n for the first lump
 unfoldable pub lumpRowsFrom : ℕ → List (List (List ℕ)) → List (List ℕ)
 lumpRowsFrom n [] = []
 lumpRowsFrom n (lump ∷ more) = map (lumpShellFields n) lump ++ lumpRowsFrom (suc n) more
 
+-- `lumps`: shell, lumps by outer shell and the voids of a lump after its outer shell
 unfoldable pub lumpRows : Rules → Job → Outcome (List (List ℕ))
 lumpRows rules j = throughJoining rules j >>= λ x.
     shellsOf j (x .fan .walk) >>= λ ss.
