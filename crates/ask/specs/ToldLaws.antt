@@ -32,7 +32,6 @@ use Rattle.answers.specs.Index.{placeFor, valueAt, Indexed}
 use Rattle.answers.specs.ChainLaws.{placed-right}
 use Rattle.ask.specs.declared.Answer.{Answer}
 use Rattle.ask.specs.declared.Answer.the-variants.{Value as Valued, Missing}
-use Rattle.ask.specs.declared.Surface.{Surface}
 use Rattle.ask.specs.declared.Surface.the-variants.{Says as Surfaced, Missing as NoSurface}
 use Rattle.ask.specs.declared.Answered.{Answered}
 use Rattle.ask.specs.declared.Answered.the-variants.{Says, Missing as NoAnswer}

@@ -4,7 +4,7 @@ use native.Mathlib.Omega.{arith}
 use native.Mathlib.Decide.{ℕ-discrete, decLt}
 use native.Mathlib.Nat.{not-suc-le-zero}
 use native.Mathlib.Numerals.{add-one}
-use mathlib.Core.Path.{_≡_, refl, sym, ap, ap₂, subst, _∙_}
+use mathlib.Core.Path.{_≡_, refl, sym, ap, subst, _∙_}
 use mathlib.Core.Logic.{_⊎_, inl, inr, ⊎-elim}
 use mathlib.Core.List.{List, [], _∷_, map}
 use mathlib.Core.Bool.{cond}
@@ -16,7 +16,7 @@ use Rattle.lists.specs.Lists.{_∈_, from}
 use Rattle.lists.specs.Runs.{from-in, from-nodup, length-from}
 use Rattle.lists.specs.Members.{map-same}
 use Rattle.edges.specs.Table.{loopAt, Laid}
-use Rattle.links.specs.Tables.{Links, linksOf, IsLoop, sizeAt, ownEnd, slotsAt, codesAt, ringAt, Chain, Own, Held, Stands, Linked}
+use Rattle.links.specs.Tables.{Links, linksOf, IsLoop, ownEnd, codesAt, ringAt, Chain, Stands, Linked}
 use Rattle.links.specs.Fuse.{stands-in, own-next, own-last}
 use Rattle.links.specs.Lay.{laid-before}
 
