@@ -31,9 +31,10 @@ returns c =
     let sew = sewn .sew in
     let put = listed .put-listing in
     let bytes = bytes-below (a .job .now) (λ i. known .shared-slice-known .given i .fits) in
-    let size = lent .sew-arg .given .0 .1 in
-    ((sew .result, sew .ensures .0),
-    lists (a .job .now) (a .out .now) (sew .last .1 .0) (a .page .now) (put .last .0) (put .result) (sew .result) bytes size (sew .ensures .0) (put .ensures))
+    let size = lent .sew-arg .given .0 .1 in (
+      (sew .result, sew .ensures .0),
+      lists (a .job .now) (a .out .now) (sew .last .1 .0) (a .page .now) (put .last .0) (put .result) (sew .result) bytes size (sew .ensures .0) (put .ensures),
+    )
 
 pub list-spec : {M : Type 1} → statement M
 list-spec = tie.close (tie.spec sew-requires put-listing-requires same-length returns)
