@@ -61,6 +61,9 @@ recorded-listing t job before after e bytes h E = room-listing (withTable t) job
 abbrev pub SewnInto : List ℕ → List ℕ → List ℕ → Type 0
 SewnInto job before after = (e : Ending) × Ends (sewn ordinary job (length before)) before after e
 
+pub sews : (job before after : List ℕ) (e : Ending) → Ends (sewn ordinary job (length before)) before after e → SewnInto job before after
+sews job before after e E = (e, E)
+
 -- a page on which a job's listing was put: the place after the text, which is at most 196,608, and the whole text where the page has room
 abbrev pub Lists : List ℕ → List ℕ → List ℕ → ℕ → Type 0
 Lists job page printed r = Printed (listing ordinary job) page printed 196608 r

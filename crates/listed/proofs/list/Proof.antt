@@ -1,4 +1,4 @@
-use Rattle.lines.specs.Listed.{bytes-below, lists}
+use Rattle.lines.specs.Listed.{bytes-below, sews, lists}
 use borrow.Author.Needs.{needs}
 use Rattle.listed.proofs.list.Statement.{statement}
 use Rattle.listed.proofs.list.Tie as tie
@@ -32,7 +32,7 @@ returns c =
     let put = listed .put-listing in
     let bytes = bytes-below (a .job .now) (λ i. known .shared-slice-known .given i .fits) in
     let size = lent .sew-arg .given .0 .1 in (
-      (sew .result, sew .ensures .0),
+      sews (a .job .now) (a .out .now) (sew .last .1 .0) (sew .result) (sew .ensures .0),
       lists (a .job .now) (a .out .now) (sew .last .1 .0) (a .page .now) (put .last .0) (put .result) (sew .result) bytes size (sew .ensures .0) (put .ensures),
     )
 
