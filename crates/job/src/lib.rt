@@ -10,7 +10,7 @@ use rules::Sense;
 ghost use mathlib.Core.Path.{_≡_};
 ghost use Prim.Native.Nat.{_+_, _*_, _<_, _≤_};
 ghost use lib.ListN.{getD};
-ghost use Rattle.rules.specs.Sense.{senseOf, senseNumber, sameSense, reverse as reversed, product as productOf};
+ghost use Rattle.rules.specs.Sense.{senseOf, senseNumber, sameSense, reverse as reversed, FourAnswers};
 ghost use Rattle.rules.specs.Job.{edgeAt, faceAt, startBy, endBy};
 ghost use Rattle.rules.specs.Read.{storedSense};
 ghost use Rattle.rules.specs.Kinds.{kindOf};
@@ -61,9 +61,10 @@ pub fn reverse(s: Sense) -> Sense
     }
 }
 
-// Same exactly when both are equal.
+// Case by case, to be held against ISO 10303-42: an oriented edge with orientation true (Same) runs along its edge, one
+// with orientation false (Reversed) runs against it.
 pub fn product(a: Sense, b: Sense) -> Sense
-    ensures { λ r. ⌜ r ≡ productOf a b ⌝ }
+    ensures { λ r. ⌜ FourAnswers a b r ⌝ }
 {
     match a {
         Sense::Same => match b {

@@ -14,7 +14,8 @@ use Rattle.lists.specs.Cyclic.{nextPlace}
 use Rattle.rules.specs.declared.Sense.{Sense}
 use Rattle.rules.specs.declared.Sense.the-variants.{Same, Reversed}
 use Rattle.rules.specs.declared.Item.{Item}
-use Rattle.rules.specs.Sense.{senseOf, reverse, product}
+use Rattle.rules.specs.Sense.{senseOf, reverse, product, FourAnswers}
+use Rattle.rules.specs.SenseLaws.{answers-product}
 use Rattle.rules.specs.Fields.{le16, le32, fieldsIn}
 use Rattle.rules.specs.Job.{ofItems, atVertex, itemsOf}
 use Rattle.rules.specs.Read.{traversed, contentItems, loopUses, useAt}
@@ -100,7 +101,7 @@ traversed-at Reversed xs k h = reversed-at xs k h ∙ (λ i. record { edge = ite
 
 -- a use as the code makes it is the one at its place of the loop
 pub use-made : (bytes : List ℕ) (face first at n k p edge word next : ℕ) (s read sense : Sense) → k < n → p ≡ placeOf s n k → p < n → edge ≡ le32 bytes (at + 8 * p)
-    → word ≡ le32 bytes (at + 8 * p + 4) → read ≡ senseOf word → sense ≡ product read s → next ≡ first + nextPlace k n
+    → word ≡ le32 bytes (at + 8 * p + 4) → read ≡ senseOf word → FourAnswers read s sense → next ≡ first + nextPlace k n
     → record { edge = edge; face = face; sense = sense; next = next } ≡ useAt (loopUses face first first (traversed s (itemsIn bytes at n))) k
 unfolding itemIn
 use-made bytes face first at n k p edge word next s read sense h a lt b d e f g =
@@ -127,7 +128,7 @@ use-made bytes face first at n k p edge word next s read sense h a lt b d e f g 
         traversed-at s xs k (omega (arith, long))
         ∙ (λ i. record {
           edge = (ap (λ (x : Item). x .edge) there ∙ sym b) i;
-          sense = (ap (λ t. product t s) (ap (λ (x : Item). x .sense) there ∙ ap senseOf (sym d) ∙ sym e) ∙ sym f) i;
+          sense = (ap (λ t. product t s) (ap (λ (x : Item). x .sense) there ∙ ap senseOf (sym d) ∙ sym e) ∙ sym (answers-product read s sense f)) i;
         })
 
 -- WHAT THE CODE FINDS

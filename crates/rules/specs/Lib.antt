@@ -35,3 +35,4 @@ pub mod Tables
 pub mod Parts
 pub mod Cases
 pub mod MoreCases
+pub mod RequestCases

@@ -1,5 +1,6 @@
 -- Senses, as both programs have them.
 use Prim.Native.Nat.{ℕ}
+use mathlib.Core.Path.{_≡_}
 use mathlib.Core.Bool.{Bool, true, false, cond}
 use lib.Dec.{eqb}
 use Rattle.rules.specs.declared.Sense.{Sense}
@@ -25,6 +26,15 @@ product Same Same = Same
 product Same Reversed = Reversed
 product Reversed Same = Reversed
 product Reversed Reversed = Same
+
+-- Request Four: the four answers of `product`, r being the answer for a and b. To be held against ISO 10303-42: an oriented edge runs
+-- along its edge if its orientation is true, against it if it is false; Same stands for true, Reversed for false
+unfoldable pub FourAnswers : Sense → Sense → Sense → Type 0
+FourAnswers a b r =
+    (a ≡ Same → b ≡ Same → r ≡ Same)
+    × (a ≡ Same → b ≡ Reversed → r ≡ Reversed)
+    × (a ≡ Reversed → b ≡ Same → r ≡ Reversed)
+    × (a ≡ Reversed → b ≡ Reversed → r ≡ Same)
 
 -- two senses are equal, as a test
 abbrev pub sameSense : Sense → Sense → Bool
