@@ -20,6 +20,7 @@ impl Found {
 
 pub fn features(job: &Job, trail: &Trail) -> Vec<&'static str> {
     let mut found = Found::default();
+    note_products(job, &mut found);
     note_faces(job, trail, &mut found);
     note_turns(trail, &mut found);
     note_edges(job, trail, &mut found);
@@ -27,6 +28,42 @@ pub fn features(job: &Job, trail: &Trail) -> Vec<&'static str> {
     note_shells(trail, &mut found);
     note_answers(job, trail, &mut found);
     found.0
+}
+
+/// The four products of senses, each of a face (own times selected) and of a
+/// use (as stored, times selected).
+fn note_products(job: &Job, found: &mut Found) {
+    use Sense::{Reversed, Same};
+    let of_faces = [
+        (Same, Same, "a face Same times Same"),
+        (Same, Reversed, "a face Same times Reversed"),
+        (Reversed, Same, "a face Reversed times Same"),
+        (Reversed, Reversed, "a face Reversed times Reversed"),
+    ];
+    for (own, selected, name) in of_faces {
+        let mut faces = job.faces.iter();
+        let there = faces.any(|face| (face.own, face.selected) == (own, selected));
+        found.note(name, there);
+    }
+    let of_uses = [
+        (Same, Same, "a use Same times Same"),
+        (Same, Reversed, "a use Same times Reversed"),
+        (Reversed, Same, "a use Reversed times Same"),
+        (Reversed, Reversed, "a use Reversed times Reversed"),
+    ];
+    for (sense, selected, name) in of_uses {
+        let faces = job.faces.iter().filter(|face| face.selected == selected);
+        let stored = faces.flat_map(|face| &face.loops).flat_map(stored_uses);
+        let mut senses = stored.map(|(_, sense)| *sense);
+        found.note(name, senses.any(|s| s == sense));
+    }
+}
+
+fn stored_uses(of: &Loop) -> &[(usize, Sense)] {
+    match of {
+        Loop::Uses(stored) => stored,
+        Loop::Vertex(_) => &[],
+    }
 }
 
 fn note_faces(job: &Job, trail: &Trail, found: &mut Found) {

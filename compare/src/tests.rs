@@ -6,10 +6,16 @@ use crate::compare::{ROOM, compare};
 use crate::generate::rng::Rng;
 use crate::generate::{self, Sample, limits};
 use crate::{run, second, text, vectors};
+use std::collections::BTreeSet;
+use std::path::Path;
+
+/// A part of document 01, by its number.
+fn part(number: usize) -> (Vec<u8>, String) {
+    part_in(format!("{}/parts/P{number}.txt", env!("CARGO_MANIFEST_DIR")).as_ref())
+}
 
 /// The part's bytes and the lines marked `#>` in its file.
-fn part(number: usize) -> (Vec<u8>, String) {
-    let path = format!("{}/parts/P{number}.txt", env!("CARGO_MANIFEST_DIR"));
+fn part_in(path: &Path) -> (Vec<u8>, String) {
     let file = std::fs::read_to_string(path).expect("the part is there");
     let marked = file.lines().filter_map(|line| line.strip_prefix("#> "));
     let expected = marked.map(|line| format!("{line}\n")).collect();
@@ -36,6 +42,27 @@ fn parts_give_what_their_files_say() {
         let (job, expected) = part(number);
         assert_eq!(listing(&job), expected, "P{number}");
     }
+}
+
+/// The parts made for the requests of document 02, in both implementations.
+#[test]
+fn parts_of_the_requests_give_what_their_files_say() {
+    let folder = format!("{}/parts/requests", env!("CARGO_MANIFEST_DIR"));
+    let files = std::fs::read_dir(folder).expect("the parts are there");
+    let mut seen = 0;
+    for file in files {
+        let path = file.expect("a part of a request").path();
+        let (job, expected) = part_in(&path);
+        assert_eq!(listing(&job), expected, "{}", path.display());
+        let differences = compare(&job, ROOM).differences;
+        assert!(
+            differences.is_empty(),
+            "{}: {differences:?}",
+            path.display()
+        );
+        seen += 1;
+    }
+    assert!(seen >= 3, "{seen} parts");
 }
 
 #[test]
@@ -104,6 +131,15 @@ fn generated_jobs_agree() {
         let differences = run::judge(&sample).differences;
         assert!(differences.is_empty(), "job {index}: {differences:?}");
     }
+}
+
+/// Request Four: accepted jobs meet each product, of a face and of a use.
+#[test]
+fn the_four_products_of_senses_are_met() {
+    let of = |index| run::judge(&generate::sample(1, index)).features;
+    let met: BTreeSet<&str> = (0..500).flat_map(of).collect();
+    let products = met.iter().filter(|name| name.contains(" times "));
+    assert_eq!(products.count(), 8, "{met:?}");
 }
 
 #[test]

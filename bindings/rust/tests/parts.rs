@@ -1,4 +1,4 @@
-//! Parts P1 to P9 of document 01, and the edges of the interface.
+//! Parts P1 to P9 of document 01, those of the requests, and the edges of the interface.
 use std::fs;
 use std::path::Path;
 use zaxclover::{Refusal, Stage, body, list, listing, loop_payload, sew, stage};
@@ -73,6 +73,21 @@ fn parts_list_as_document_01_prints_them() {
         let (job, expected) = part(&format!("P{n}.txt"));
         assert_eq!(shown(&job), expected, "P{n}");
     }
+}
+
+/// The parts made for the requests of document 02.
+#[test]
+fn parts_of_the_requests_list_as_their_files_say() {
+    let folder = Path::new(env!("CARGO_MANIFEST_DIR")).join("../../compare/parts/requests");
+    let mut seen = 0;
+    for file in fs::read_dir(folder).expect("compare/parts/requests") {
+        let name = file.expect("a part").file_name();
+        let name = format!("requests/{}", name.to_string_lossy());
+        let (job, expected) = part(&name);
+        assert_eq!(shown(&job), expected, "{name}");
+        seen += 1;
+    }
+    assert!(seen >= 3, "{seen} parts");
 }
 
 #[test]
