@@ -68,6 +68,10 @@ answers-told a b x y r ea eb er = (told Same Same, told Same Reversed, told Reve
     told : (s t : Sense) → a ≡ s → b ≡ t → r ≡ product s t
     told s t p q = er ∙ (λ i. product ((sym ea ∙ p) i) ((sym eb ∙ q) i))
 
+-- and the product has them
+pub product-answers : (a b : Sense) → FourAnswers a b (product a b)
+product-answers a b = answers-told a b a b (product a b) refl refl refl
+
 -- document 01's sentence: Same exactly when both are equal
 pub product-when : (a b : Sense) → isSame (product a b) ≡ sameSense a b
 product-when Same Same = refl
@@ -86,15 +90,6 @@ pub end-reverse : (s : Sense) (e : Edge) → endBy (reverse s) e ≡ startBy s e
 end-reverse Same e = refl
 end-reverse Reversed e = refl
 
--- ISO 10303-42, an oriented edge with orientation false runs against its edge. Of the four answers: Same times a sense runs an edge as
--- that sense does, Reversed times it runs the edge against it
-pub runs-along : (s r : Sense) (e : Edge) → FourAnswers Same s r → (startBy r e ≡ startBy s e) × (endBy r e ≡ endBy s e)
-runs-along s r e f = (ap (λ t. startBy t e) (same-times s r f), ap (λ t. endBy t e) (same-times s r f))
-
-pub runs-against : (s r : Sense) (e : Edge) → FourAnswers Reversed s r → (startBy r e ≡ endBy s e) × (endBy r e ≡ startBy s e)
-runs-against s r e f =
-    (ap (λ t. startBy t e) (reversed-times s r f) ∙ start-reverse s e, ap (λ t. endBy t e) (reversed-times s r f) ∙ end-reverse s e)
-
 -- the same for an edge of the result
 pub start-against : (s : Sense) (e : EdgeData) → startFan s e ≡ endFan (reverse s) e
 start-against Same e = refl
@@ -103,3 +98,12 @@ start-against Reversed e = refl
 pub end-against : (s : Sense) (e : EdgeData) → endFan s e ≡ startFan (reverse s) e
 end-against Same e = refl
 end-against Reversed e = refl
+
+-- ISO 10303-42, an oriented edge with orientation false runs against its edge. Of the four answers: Same times a sense runs an edge as
+-- that sense does, Reversed times it runs the edge against it
+pub runs-along : (s r : Sense) (e : Edge) → FourAnswers Same s r → (startBy r e ≡ startBy s e) × (endBy r e ≡ endBy s e)
+runs-along s r e f = (ap (λ t. startBy t e) (same-times s r f), ap (λ t. endBy t e) (same-times s r f))
+
+pub runs-against : (s r : Sense) (e : Edge) → FourAnswers Reversed s r → (startBy r e ≡ endBy s e) × (endBy r e ≡ startBy s e)
+runs-against s r e f =
+    (ap (λ t. startBy t e) (reversed-times s r f) ∙ start-reverse s e, ap (λ t. endBy t e) (reversed-times s r f) ∙ end-reverse s e)
