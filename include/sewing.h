@@ -48,10 +48,10 @@ enum {
 /* The records of a job, in this order; answers (7 to 13) stand in any order. */
 enum zaxclover_job_kind {
     ZAXCLOVER_HEAD = 1,         /* 1 if outer shells are proven, else 0 */
-    ZAXCLOVER_VERTEX = 2,       /* point */
+    ZAXCLOVER_VERTEX = 2,       /* point; several vertices may stand on one */
     ZAXCLOVER_EDGE = 3,         /* curve, sense, start vertex, end vertex; none in both: a ring */
     ZAXCLOVER_FACE = 4,         /* surface, own sense, selected sense */
-    ZAXCLOVER_LOOP = 5,         /* of the latest face, one or more of: edge, sense */
+    ZAXCLOVER_LOOP = 5,         /* of the latest face, one or more of: edge, sense; each ends at the point where the next starts */
     ZAXCLOVER_VERTEX_LOOP = 6,  /* of the latest face: vertex */
     ZAXCLOVER_RADIAL = 7,       /* edge, then its uses in order round it; no use: undecided */
     ZAXCLOVER_SURFACE = 8,      /* lower use of a pair; 0 different, 1 same, 2 same and opposed, 3 vanishing, 4 undecided */
@@ -161,7 +161,7 @@ static inline const char *zaxclover_words(size_t number)
     case ZAXCLOVER_WRONG_RECORD: return "unknown kind, wrong length or wrong position of a record, or no Head";
     case ZAXCLOVER_WRONG_FIELD: return "a field is not permitted, or no loop has the number asked for";
     case ZAXCLOVER_LIMIT_PASSED: return "a limit is passed";
-    case ZAXCLOVER_BROKEN_JOINT: return "a loop's uses do not join end to start";
+    case ZAXCLOVER_BROKEN_JOINT: return "a loop's uses do not join end to start, by point";
     case ZAXCLOVER_ANSWERED_BEFORE: return "the question was answered before";
     case ZAXCLOVER_EQUAL_SENSES: return "two uses of the edge in one sense";
     case ZAXCLOVER_ODD_USES: return "one use of the edge, or an odd number";

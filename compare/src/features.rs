@@ -24,6 +24,7 @@ pub fn features(job: &Job, trail: &Trail) -> Vec<&'static str> {
     note_faces(job, trail, &mut found);
     note_turns(trail, &mut found);
     note_edges(job, trail, &mut found);
+    note_vertices(job, trail, &mut found);
     note_joining(trail, &mut found);
     note_shells(trail, &mut found);
     note_answers(job, trail, &mut found);
@@ -139,6 +140,36 @@ fn note_edges(job: &Job, trail: &Trail, found: &mut Found) {
         "an edge of six uses or more",
         crowds.values().any(|&n| n >= 6),
     );
+}
+
+/// Where two vertex records on one point stand for one corner.
+fn note_vertices(job: &Job, trail: &Trail, found: &mut Found) {
+    let Some(reading) = &trail.reading else {
+        return;
+    };
+    let uses = &reading.uses;
+    let ends = |u: &Use| job.edges[u.edge].ends_of_use(u.sense);
+    let start = |u: &Use| ends(u).map(|(start, _)| start);
+    let split = |u: &Use| ends(u).map(|(_, end)| end) != start(&uses[u.successor]);
+    found.note("a joint of two vertices", uses.iter().any(split));
+    let alone = |h: usize| uses[h].successor == h && split(&uses[h]);
+    let met = (0..uses.len()).any(alone);
+    found.note("a use alone between two vertices", met);
+    let mut starts: BTreeMap<(u32, usize), BTreeSet<usize>> = BTreeMap::new();
+    for (h, fan) in trail
+        .fans
+        .iter()
+        .flat_map(|fans| fans.of_use.iter().enumerate())
+    {
+        if let (Some(fan), Some(vertex)) = (fan, start(&uses[h])) {
+            starts
+                .entry((fan.point, fan.number))
+                .or_default()
+                .insert(vertex);
+        }
+    }
+    let several = starts.values().any(|vertices| vertices.len() > 1);
+    found.note("a fan that starts at two vertices", several);
 }
 
 fn note_joining(trail: &Trail, found: &mut Found) {

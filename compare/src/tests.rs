@@ -4,7 +4,10 @@
 use crate::answer::{Wanted, answer};
 use crate::compare::{ROOM, compare};
 use crate::generate::rng::Rng;
+use crate::generate::split::split_vertices;
 use crate::generate::{self, Sample, limits};
+use crate::records;
+use crate::second::load::MAX_BYTES;
 use crate::{run, second, text, vectors};
 use std::collections::BTreeSet;
 use std::path::Path;
@@ -62,7 +65,7 @@ fn parts_of_the_requests_give_what_their_files_say() {
         );
         seen += 1;
     }
-    assert!(seen >= 3, "{seen} parts");
+    assert!(seen >= 14, "{seen} parts");
 }
 
 #[test]
@@ -108,16 +111,21 @@ fn parts_have_the_lines_of_the_paper() {
     assert_eq!([count(3, "face"), count(3, "loop")], [1, 0]);
 }
 
-/// The text form gives every stored job back, damaged ones too.
-#[test]
-fn stored_jobs_come_back_from_their_text() {
+/// The jobs that the gate replays.
+fn stored_jobs() -> Vec<Vec<u8>> {
     let path = format!(
         "{}/../crates/replay/data/vectors",
         env!("CARGO_MANIFEST_DIR")
     );
     let packed = std::fs::read(path).expect("the vectors are there");
-    let jobs = vectors::jobs_of(&packed).expect("they are packed");
-    assert_eq!(jobs.len(), 610);
+    vectors::jobs_of(&packed).expect("they are packed")
+}
+
+/// The text form gives every stored job back, damaged ones too.
+#[test]
+fn stored_jobs_come_back_from_their_text() {
+    let jobs = stored_jobs();
+    assert_eq!(jobs.len(), 612);
     for job in jobs {
         let text = job_text::show(&job);
         assert_eq!(job_text::assemble(text.as_bytes()), Ok(job));
@@ -140,6 +148,52 @@ fn the_four_products_of_senses_are_met() {
     let met: BTreeSet<&str> = (0..500).flat_map(of).collect();
     let products = met.iter().filter(|name| name.contains(" times "));
     assert_eq!(products.count(), 8, "{met:?}");
+}
+
+/// Request Three: accepted jobs meet vertex records that share a point, drawn
+/// ones and stored ones.
+#[test]
+fn vertices_that_share_a_point_are_met() {
+    let drawn = (0..500).map(|index| generate::sample(1, index).job);
+    for jobs in [drawn.collect(), stored_jobs()] {
+        let features = jobs.iter().flat_map(|job| compare(job, ROOM).features);
+        let met: Vec<&str> = features.collect();
+        for name in [
+            "a joint of two vertices",
+            "a use alone between two vertices",
+            "a fan that starts at two vertices",
+        ] {
+            let count = met.iter().filter(|&&feature| feature == name).count();
+            assert!(count > 10, "{name}: {count}");
+        }
+    }
+}
+
+/// Request Three: how many vertex records stand on a point changes no answer
+/// of a job that loads.
+#[test]
+fn split_vertices_change_no_answer() {
+    let answers = |job: &[u8]| {
+        ["walk", "fans", "joining", "sew"].map(|name| {
+            let wanted = Wanted::of_words(&[name.to_string()]).expect("a word");
+            answer(job, wanted, ROOM)
+        })
+    };
+    let mut more = 0;
+    for index in 0..1_000 {
+        let job = generate::sample(2, index).job;
+        if second::load(&job).is_err() {
+            continue;
+        }
+        let (mut split, _) = records::split(&job);
+        split_vertices(&mut split, 50, &mut Rng::new(3, index));
+        let split = records::to_bytes(&split);
+        if split.len() <= MAX_BYTES {
+            assert_eq!(answers(&split), answers(&job), "job {index}");
+            more += usize::from(split.len() > job.len());
+        }
+    }
+    assert!(more > 500, "{more} jobs have more vertices");
 }
 
 #[test]

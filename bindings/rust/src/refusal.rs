@@ -26,7 +26,7 @@ const TABLE: [(usize, &str, &str); 21] = [
     (5, "a limit is passed", "record at byte"),
     (
         6,
-        "a loop's uses do not join end to start",
+        "a loop's uses do not join end to start, by point",
         "record at byte",
     ),
     (7, "the question was answered before", "record at byte"),

@@ -87,7 +87,7 @@ fn parts_of_the_requests_list_as_their_files_say() {
         assert_eq!(shown(&job), expected, "{name}");
         seen += 1;
     }
-    assert!(seen >= 3, "{seen} parts");
+    assert!(seen >= 14, "{seen} parts");
 }
 
 #[test]

@@ -108,6 +108,10 @@ fn draft_of(class: &str, rng: &mut Rng) -> Draft {
     if rng.chance(10) {
         grow::vertex_loops(&mut sketch, 2, rng);
     }
+    let mut aside = rng.aside();
+    if aside.chance(35) {
+        sketch.split = *aside.pick(&[10, 40, 100]);
+    }
     Draft::of_sketch(&sketch, style, rng)
 }
 

@@ -62,7 +62,7 @@ fn some_index_of(list: &[Record], kind: u16, rng: &mut Rng) -> Option<usize> {
 /// Damages one record, or the order of records.
 pub fn one_record(draft: &Draft, rng: &mut Rng) -> Damaged {
     let list = draft.records(rng);
-    match rng.below(24) {
+    match rng.below(25) {
         0 | 1 => cut_header(&list, rng),
         2 | 3 => cut_payload(&list, rng),
         4 => long_length(&list, rng),
@@ -80,6 +80,7 @@ pub fn one_record(draft: &Draft, rng: &mut Rng) -> Damaged {
         19 | 20 => repeated(&list, rng),
         21 => too_long(&list, rng),
         22 => two_faults(&list, draft.counts, rng),
+        23 => moved_vertex(&list, rng),
         _ => lost(&list, rng),
     }
 }
@@ -282,6 +283,7 @@ fn broken_joint(list: &[Record], rng: &mut Rng) -> Damaged {
         return (records::to_bytes(list), Expected::Unknown);
     };
     let edges = edges(list);
+    let points = points(list);
     let fields = &mut damaged[index].1;
     let item = 2 * rng.below(fields.len() / 2);
     match rng.below(4) {
@@ -297,27 +299,53 @@ fn broken_joint(list: &[Record], rng: &mut Rng) -> Damaged {
     }
     let refusal = match fields.is_empty() {
         true => expected(3, place(list, index)),
-        false => expected_if(!closed(fields, &edges), 6, place(list, index)),
+        false => expected_if(!closed(fields, &edges, &points), 6, place(list, index)),
     };
     (records::to_bytes(&damaged), refusal)
 }
 
-/// Whether a loop leads from vertex to vertex and back, or is a ring alone.
-fn closed(items: &[u32], edges: &[&Vec<u32>]) -> bool {
-    let last = &items[items.len() - 2..];
-    let mut at = ends(last, edges).1;
+/// Whether a loop leads from point to point and back, or is a ring alone.
+fn closed(items: &[u32], edges: &[&Vec<u32>], points: &[u32]) -> bool {
+    let ring = |item: &[u32]| edges[item[0] as usize][2] == NONE;
+    if items.chunks_exact(2).any(ring) {
+        return items.len() == 2;
+    }
+    let point = |vertex: u32| points[vertex as usize];
+    let mut at = point(ends(&items[items.len() - 2..], edges).1);
     for item in items.chunks_exact(2) {
         let (start, end) = ends(item, edges);
-        let alone = items.len() == 2;
-        if start != at || start == NONE && !alone {
+        if point(start) != at {
             return false;
         }
-        at = end;
+        at = point(end);
     }
     true
 }
 
-/// Where an item starts and ends.
+/// A vertex on another point, in which a bit is turned; the first loop that no
+/// longer joins there is refused.
+fn moved_vertex(list: &[Record], rng: &mut Rng) -> Damaged {
+    let Some(vertex) = some_index_of(list, 2, rng) else {
+        return (records::to_bytes(list), Expected::Unknown);
+    };
+    let mut damaged = list.to_vec();
+    damaged[vertex].1[0] ^= 1 << rng.below(32);
+    let (edges, points) = (edges(&damaged), points(&damaged));
+    let open = |(kind, fields): &Record| *kind == 5 && !closed(fields, &edges, &points);
+    let refusal = match damaged.iter().position(open) {
+        Some(index) => expected(6, place(list, index)),
+        None => Expected::Unknown,
+    };
+    (records::to_bytes(&damaged), refusal)
+}
+
+/// The point of each vertex.
+fn points(list: &[Record]) -> Vec<u32> {
+    let vertices = list.iter().filter(|(kind, _)| *kind == 2);
+    vertices.map(|(_, fields)| fields[0]).collect()
+}
+
+/// The vertices where an item starts and ends.
 fn ends(item: &[u32], edges: &[&Vec<u32>]) -> (u32, u32) {
     let edge = edges[item[0] as usize];
     match item[1] {
@@ -349,9 +377,13 @@ fn ring_not_alone(list: Vec<Record>, rng: &mut Rng) -> Damaged {
     (records::to_bytes(&damaged), refusal)
 }
 
-/// A loop of one use whose ends are different vertices.
+/// A loop of one use whose ends are at different points.
 fn open_loop(list: &[Record], rng: &mut Rng) -> Damaged {
-    let open = edges(list).iter().position(|fields| fields[2] != fields[3]);
+    let points = points(list);
+    let point = |vertex: u32| points.get(vertex as usize);
+    let open = edges(list)
+        .iter()
+        .position(|fields| point(fields[2]) != point(fields[3]));
     let (Some(edge), Some(index)) = (open, some_index_of(list, 5, rng)) else {
         return (records::to_bytes(list), Expected::Unknown);
     };

@@ -10,6 +10,12 @@ impl Rng {
         Self(start ^ job.wrapping_mul(0xD134_2543_DE82_EF95))
     }
 
+    /// Other numbers, which leave those to come as they are. With these the
+    /// jobs that are timed stay as they were first drawn.
+    pub fn aside(&self) -> Self {
+        Self::new(self.0, 7)
+    }
+
     fn next(&mut self) -> u64 {
         self.0 = self.0.wrapping_add(0x9E37_79B9_7F4A_7C15);
         let mut z = self.0;

@@ -2,6 +2,7 @@
 //! 2p and 2p + 1 are the two sides of pair p; each leads to its next half.
 
 use super::rng::Rng;
+use super::split::split_vertices;
 use crate::records::Record;
 use std::collections::BTreeMap;
 
@@ -18,6 +19,8 @@ pub struct Sketch {
     pub touches: Vec<(usize, usize)>,
     /// Points of vertices that no edge uses; equal labels are one point.
     pub spots: Vec<usize>,
+    /// Of a hundred ends of edges and vertex loops, how many have a vertex record of their own.
+    pub split: usize,
     pub proven: bool,
 }
 
@@ -178,6 +181,9 @@ pub fn write(sketch: &Sketch, rng: &mut Rng) -> Written {
         for _ in 0..sketch.faces[face].copies {
             write_face(sketch, face, &starts, &numbers, &mut written, rng);
         }
+    }
+    if sketch.split > 0 {
+        split_vertices(&mut written.records, sketch.split, &mut rng.aside());
     }
     written
 }

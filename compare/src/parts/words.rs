@@ -9,7 +9,7 @@ const REFUSALS: [(u32, &str); 21] = [
     (3, "unknown kind, wrong length or position; no Head"),
     (4, "a field is not permitted"),
     (5, "a limit is passed"),
-    (6, "a loop's uses do not join end to start"),
+    (6, "a loop's uses do not join end to start, by point"),
     (7, "the question was answered before"),
     (10, "two uses of the edge in one sense"),
     (11, "one use of the edge, or an odd number"),

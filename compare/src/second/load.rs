@@ -167,9 +167,11 @@ fn joints_hold(record: &Record, job: &Job) -> bool {
     if ends.contains(&None) {
         return count == 1;
     }
+    // The two vertices may be different records that stand on one point.
+    let point = |vertex: usize| job.vertices[vertex];
     (0..count).all(|i| {
         let (this, successor) = (ends[i], ends[(i + 1) % count]);
-        this.map(|(_, end)| end) == successor.map(|(start, _)| start)
+        this.map(|(_, end)| point(end)) == successor.map(|(start, _)| point(start))
     })
 }
 

@@ -39,7 +39,7 @@ loadAs k f s =
     (need (rightLength k (f .size) && rightPosition k (s .counts .part)) 3 (f .at)
     (need (not (limitPassed k (s .counts) (length (f .fields)))) 5 (f .at)
     (need (fieldsPermitted k (s .counts) (f .fields)) 4 (f .at)
-    (need (rightJoints k (s .job .edges) (f .fields)) 6 (f .at)
+    (need (rightJoints k (s .job .points) (s .job .edges) (f .fields)) 6 (f .at)
     (need (not (answeredBefore k (s .job .answers) (f .fields))) 7 (f .at)
     (ok (record { counts = counted k (length (f .fields)) (s .counts); job = extended k (f .at) (f .fields) (s .job) })))))))
 

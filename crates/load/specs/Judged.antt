@@ -17,7 +17,7 @@ use Rattle.rules.specs.Job.{Answer}
 use Rattle.rules.specs.Kinds.{kindOf, numberOf, isAnswer, questionOf, rightLength, rightPosition, limitPassed, fieldsPermitted}
 use Rattle.rules.specs.Load.{Loading, counted, extended, rightJoints, answeredBefore, loadRecord}
 use Rattle.theorems.specs.Sound.{Limited}
-use Rattle.job.specs.Lists.{edgesIn, fieldsAt, answersIn, jobIn}
+use Rattle.job.specs.Lists.{pointsIn, edgesIn, fieldsAt, answersIn, jobIn}
 use Rattle.answers.specs.Question.{RightAnswer}
 use Rattle.answers.specs.Index.{Indexed}
 use Rattle.records.specs.Limits.{whole-fields}
@@ -126,10 +126,10 @@ module _ (bytes ix : List ℕ) (c : Counts) (at : ℕ) (k : Kind) (size : ℕ) (
       pub judge-fields : x ≡ false → Judged bytes ix c at k 4
       judge-fields b = stop bytes ix c at k 4 (omega arith) (stop-fields f s k (sym (H .kind)) refl right p (limit m false m-is room) (permitted false b))
 
-      module _ (x-ok : x ≡ true) (j : Bool) (j-is : j ≡ rightJoints k (edgesIn bytes c) (fieldsIn n (drop (at + 6) bytes))) where
-        joints : (u : Bool) → j ≡ u → rightJoints k (jobIn bytes ix c .edges) (fieldsAt bytes at) ≡ u
+      module _ (x-ok : x ≡ true) (j : Bool) (j-is : j ≡ rightJoints k (pointsIn bytes c) (edgesIn bytes c) (fieldsIn n (drop (at + 6) bytes))) where
+        joints : (u : Bool) → j ≡ u → rightJoints k (jobIn bytes ix c .points) (jobIn bytes ix c .edges) (fieldsAt bytes at) ≡ u
         unfolding jobIn
-        joints u b = ap (rightJoints k (edgesIn bytes c)) (sym (fields n e)) ∙ sym j-is ∙ b
+        joints u b = ap (rightJoints k (pointsIn bytes c) (edgesIn bytes c)) (sym (fields n e)) ∙ sym j-is ∙ b
 
         -- 6
         pub judge-joints : j ≡ false → Judged bytes ix c at k 6

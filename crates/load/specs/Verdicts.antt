@@ -33,11 +33,11 @@ module _ (f : Frame) (s : Loading) (k : Kind) (kind : kindOf (f .kind) ≡ k) (w
       stop-fields x = rw (kind, w, l, p, m, x)
 
       module _ (x : fieldsPermitted k (s .counts) (f .fields) ≡ true) where
-        pub stop-joints : rightJoints k (s .job .edges) (f .fields) ≡ false → loadRecord f s ≡ refuse 6 (f .at)
+        pub stop-joints : rightJoints k (s .job .points) (s .job .edges) (f .fields) ≡ false → loadRecord f s ≡ refuse 6 (f .at)
         unfolding loadRecord need
         stop-joints j = rw (kind, w, l, p, m, x, j)
 
-        module _ (j : rightJoints k (s .job .edges) (f .fields) ≡ true) where
+        module _ (j : rightJoints k (s .job .points) (s .job .edges) (f .fields) ≡ true) where
           pub stop-answered : answeredBefore k (s .job .answers) (f .fields) ≡ true → loadRecord f s ≡ refuse 7 (f .at)
           unfolding loadRecord need
           stop-answered a = rw (kind, w, l, p, m, x, j, a)

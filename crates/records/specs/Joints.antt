@@ -15,79 +15,88 @@ use Rattle.rules.specs.declared.Kind.the-variants.{LoopRecord}
 use Rattle.rules.specs.Fields.{le32, fieldsIn}
 use Rattle.rules.specs.FieldLaws.{itemAt, itemsFrom, item-more, item-none, items-half}
 use Rattle.rules.specs.Sense.{senseOf}
-use Rattle.rules.specs.Job.{unset, edgeAt, ofRing, startBy, endBy, startVertex, endVertex}
+use Rattle.rules.specs.Job.{unset, edgeAt, ofRing, startBy, endBy, pointAt, startPoint, endPoint}
 use Rattle.rules.specs.Kinds.{numberOf}
 use Rattle.rules.specs.Load.{joint, loneRing, jointed, rightJoints}
 
--- the edge of the item at a place, and the vertices where it starts and ends, as read field by field
+-- the edge of the item at a place, as read
 pub item-ring : (es : List Edge) (s : List ℕ) (p e r : ℕ) → e ≡ le32 s p → r ≡ edgeAt es e .start → eqb r unset ≡ ofRing es (itemAt s p)
 item-ring es s p e r q a = ap (λ v. eqb v unset) (a ∙ ap (λ k. edgeAt es k .start) q)
 
-pub item-starts : (es : List Edge) (s : List ℕ) (p e w r : ℕ) (t : Sense) → e ≡ le32 s p → w ≡ le32 s (p + 4) → t ≡ senseOf w → r ≡ startBy t (edgeAt es e)
-    → r ≡ startVertex es (itemAt s p)
-item-starts es s p e w r t q v u a = a ∙ (λ i. startBy ((u ∙ ap senseOf v) i) (edgeAt es (q i)))
+module _ (points : List ℕ) (es : List Edge) (s : List ℕ) where
+  -- the points where the item at a place starts and ends, as read field by field: edge e, sense t of word w, vertex v, point o
+  pub item-starts : (p e w v o : ℕ) (t : Sense) → e ≡ le32 s p → w ≡ le32 s (p + 4) → t ≡ senseOf w → v ≡ startBy t (edgeAt es e) → o ≡ pointAt points v
+      → o ≡ startPoint points es (itemAt s p)
+  item-starts p e w v o t edge word sense vertex point =
+      point ∙ ap (pointAt points) (vertex ∙ (λ i. startBy ((sense ∙ ap senseOf word) i) (edgeAt es (edge i))))
 
-pub item-ends : (es : List Edge) (s : List ℕ) (p e w r : ℕ) (t : Sense) → e ≡ le32 s p → w ≡ le32 s (p + 4) → t ≡ senseOf w → r ≡ endBy t (edgeAt es e)
-    → r ≡ endVertex es (itemAt s p)
-item-ends es s p e w r t q v u a = a ∙ (λ i. endBy ((u ∙ ap senseOf v) i) (edgeAt es (q i)))
+  pub item-ends : (p e w v o : ℕ) (t : Sense) → e ≡ le32 s p → w ≡ le32 s (p + 4) → t ≡ senseOf w → v ≡ endBy t (edgeAt es e) → o ≡ pointAt points v
+      → o ≡ endPoint points es (itemAt s p)
+  item-ends p e w v o t edge word sense vertex point =
+      point ∙ ap (pointAt points) (vertex ∙ (λ i. endBy ((sense ∙ ap senseOf word) i) (edgeAt es (edge i))))
 
--- the joints of the item at p and of `left` items after it, the last with a first one
-abbrev pub jointsFrom : List Edge → List ℕ → Item → ℕ → ℕ → Bool
-jointsFrom es s f p left = all (joint es) (neighboursFrom f (itemAt s p) (itemsFrom s (p + 8) left))
+  -- the items at two places are a joint
+  abbrev pub jointAt : ℕ → ℕ → Bool
+  jointAt p q = joint points es (record { here = itemAt s p; next = itemAt s q })
 
-joints-more : (es : List Edge) (s : List ℕ) (f : Item) (p left : ℕ) → 0 < left
-    → jointsFrom es s f p left ≡ (joint es (record { here = itemAt s p; next = itemAt s (p + 8) }) && jointsFrom es s f (p + 8) (left - 1))
-unfolding all neighboursFrom
-joints-more es s f p left h = ap (λ l. all (joint es) (neighboursFrom f (itemAt s p) l)) (item-more left s (p + 8) h)
+  -- the joints of the item at p and of `left` items after it, the last with the item at f
+  abbrev pub jointsFrom : ℕ → ℕ → ℕ → Bool
+  jointsFrom f p left = all (joint points es) (neighboursFrom (itemAt s f) (itemAt s p) (itemsFrom s (p + 8) left))
 
--- the item at p and its successor are no joint, are one, and the last item
-pub joints-not : (es : List Edge) (s : List ℕ) (f : Item) (p left : ℕ) (t : Bool) → 0 < left → t ≡ joint es (record { here = itemAt s p; next = itemAt s (p + 8) }) → t ≡ false
-    → jointsFrom es s f p left ≡ false
-joints-not es s f p left t h e q = joints-more es s f p left h ∙ rw (← e, q)
+  joints-more : (f p left : ℕ) → 0 < left → jointsFrom f p left ≡ (jointAt p (p + 8) && jointsFrom f (p + 8) (left - 1))
+  unfolding all neighboursFrom
+  joints-more f p left h = ap (λ l. all (joint points es) (neighboursFrom (itemAt s f) (itemAt s p) l)) (item-more left s (p + 8) h)
 
-pub joints-on : (es : List Edge) (s : List ℕ) (f : Item) (p left : ℕ) (t : Bool) → 0 < left → t ≡ joint es (record { here = itemAt s p; next = itemAt s (p + 8) }) → t ≡ true
-    → jointsFrom es s f p left ≡ jointsFrom es s f (p + 8) (left - 1)
-joints-on es s f p left t h e q = joints-more es s f p left h ∙ rw (← e, q)
+  -- the item at p and its successor are no joint, are one, and the last item
+  pub joints-not : (f p left : ℕ) (t : Bool) → 0 < left → t ≡ jointAt p (p + 8) → t ≡ false → jointsFrom f p left ≡ false
+  joints-not f p left t h e q = joints-more f p left h ∙ rw (← e, q)
 
-pub joints-last : (es : List Edge) (s : List ℕ) (f : Item) (p left : ℕ) → left ≤ 0 → jointsFrom es s f p left ≡ joint es (record { here = itemAt s p; next = f })
-unfolding all neighboursFrom
-joints-last es s f p left h =
-    ap (λ l. all (joint es) (neighboursFrom f (itemAt s p) l)) (item-none left s (p + 8) h) ∙ and-true (joint es (record { here = itemAt s p; next = f }))
-  where
-    and-true : (t : Bool) → (t && true) ≡ t
-    and-true true = refl
-    and-true false = refl
+  pub joints-on : (f p left : ℕ) (t : Bool) → 0 < left → t ≡ jointAt p (p + 8) → t ≡ true → jointsFrom f p left ≡ jointsFrom f (p + 8) (left - 1)
+  joints-on f p left t h e q = joints-more f p left h ∙ rw (← e, q)
 
--- all joints of n items, begun at the first
-pub joints-first : (es : List Edge) (s : List ℕ) (p n : ℕ) → 0 < n → all (joint es) (neighbours (itemsFrom s p n)) ≡ jointsFrom es s (itemAt s p) p (n - 1)
-unfolding neighbours
-joints-first es s p n h = ap (λ l. all (joint es) (neighbours l)) (item-more n s p h)
+  pub joints-last : (f p left : ℕ) → left ≤ 0 → jointsFrom f p left ≡ jointAt p f
+  unfolding all neighboursFrom
+  joints-last f p left h =
+      ap (λ l. all (joint points es) (neighboursFrom (itemAt s f) (itemAt s p) l)) (item-none left s (p + 8) h) ∙ and-true (jointAt p f)
+    where
+      and-true : (t : Bool) → (t && true) ≡ t
+      and-true true = refl
+      and-true false = refl
 
-pub joints-none : (es : List Edge) (s : List ℕ) (p n : ℕ) → n ≤ 0 → all (joint es) (neighbours (itemsFrom s p n)) ≡ true
-unfolding all neighbours
-joints-none es s p n h = ap (λ l. all (joint es) (neighbours l)) (item-none n s p h)
+  -- all joints of n items from p on
+  abbrev pub allJoints : ℕ → ℕ → Bool
+  allJoints p n = all (joint points es) (neighbours (itemsFrom s p n))
 
-jointed-one : (es : List Edge) (s : List ℕ) (p : ℕ) → jointed es (itemsFrom s p 1) ≡ (ofRing es (itemAt s p) || all (joint es) (neighbours (itemsFrom s p 1)))
-unfolding jointed loneRing
-jointed-one es s p = ap (λ l. loneRing es l || all (joint es) (neighbours (itemsFrom s p 1))) (item-more 1 s p (omega arith) ∙ ap {B = List Item} (λ l. itemAt s p ∷ l) (item-none 0 s (p + 8) (omega arith)))
+  -- begun at the first
+  pub joints-first : (p n : ℕ) → 0 < n → allJoints p n ≡ jointsFrom p p (n - 1)
+  unfolding neighbours
+  joints-first p n h = ap (λ l. all (joint points es) (neighbours l)) (item-more n s p h)
 
--- one item, of a ring, and of none; and none or more items
-pub jointed-ring : (es : List Edge) (s : List ℕ) (p n : ℕ) (t : Bool) → n ≡ 1 → t ≡ ofRing es (itemAt s p) → t ≡ true → jointed es (itemsFrom s p n) ≡ true
-jointed-ring es s p n t h e q = ap (λ m. jointed es (itemsFrom s p m)) h ∙ jointed-one es s p ∙ rw (← e, q)
+  pub joints-none : (p n : ℕ) → n ≤ 0 → allJoints p n ≡ true
+  unfolding all neighbours
+  joints-none p n h = ap (λ l. all (joint points es) (neighbours l)) (item-none n s p h)
 
-pub jointed-plain : (es : List Edge) (s : List ℕ) (p n : ℕ) (t : Bool) → n ≡ 1 → t ≡ ofRing es (itemAt s p) → t ≡ false
-    → jointed es (itemsFrom s p n) ≡ all (joint es) (neighbours (itemsFrom s p 1))
-jointed-plain es s p n t h e q = ap (λ m. jointed es (itemsFrom s p m)) h ∙ jointed-one es s p ∙ rw (← e, q)
+  jointed-one : (p : ℕ) → jointed points es (itemsFrom s p 1) ≡ (ofRing es (itemAt s p) || allJoints p 1)
+  unfolding jointed loneRing
+  jointed-one p =
+      ap (λ l. loneRing es l || allJoints p 1) (item-more 1 s p (omega arith) ∙ ap {B = List Item} (λ l. itemAt s p ∷ l) (item-none 0 s (p + 8) (omega arith)))
 
-pub jointed-other : (es : List Edge) (s : List ℕ) (p n : ℕ) → (n ≡ 1 → ⊥) → jointed es (itemsFrom s p n) ≡ all (joint es) (neighbours (itemsFrom s p n))
-unfolding jointed loneRing
-jointed-other es s p zero h = ap (λ l. loneRing es l || all (joint es) (neighbours (itemsFrom s p 0))) (item-none 0 s p (omega arith))
-jointed-other es s p (suc zero) h = absurd (h refl)
-jointed-other es s p (suc (suc n)) h =
-    ap (λ l. loneRing es l || all (joint es) (neighbours (itemsFrom s p (suc (suc n)))))
-    (item-more (suc (suc n)) s p (omega arith) ∙ ap {B = List Item} (λ l. itemAt s p ∷ l) (item-more (suc (suc n) - 1) s (p + 8) (omega arith)))
+  -- one item, of a ring, and of none; and none or more items
+  pub jointed-ring : (p n : ℕ) (t : Bool) → n ≡ 1 → t ≡ ofRing es (itemAt s p) → t ≡ true → jointed points es (itemsFrom s p n) ≡ true
+  jointed-ring p n t h e q = ap (λ m. jointed points es (itemsFrom s p m)) h ∙ jointed-one p ∙ rw (← e, q)
 
--- refusal 6 looks at the items of a loop
-pub loop-joints : (es : List Edge) (s : List ℕ) (p n : ℕ) (k : Kind) → k ≡ LoopRecord → rightJoints k es (fieldsIn n (drop p s)) ≡ jointed es (itemsFrom s p (n / 2))
-unfolding rightJoints numberOf
-loop-joints es s p n k e = ap (λ j. rightJoints j es (fieldsIn n (drop p s))) e ∙ ap (jointed es) (items-half n s p)
+  pub jointed-plain : (p n : ℕ) (t : Bool) → n ≡ 1 → t ≡ ofRing es (itemAt s p) → t ≡ false → jointed points es (itemsFrom s p n) ≡ allJoints p 1
+  jointed-plain p n t h e q = ap (λ m. jointed points es (itemsFrom s p m)) h ∙ jointed-one p ∙ rw (← e, q)
+
+  pub jointed-other : (p n : ℕ) → (n ≡ 1 → ⊥) → jointed points es (itemsFrom s p n) ≡ allJoints p n
+  unfolding jointed loneRing
+  jointed-other p zero h = ap (λ l. loneRing es l || allJoints p 0) (item-none 0 s p (omega arith))
+  jointed-other p (suc zero) h = absurd (h refl)
+  jointed-other p (suc (suc n)) h =
+      ap (λ l. loneRing es l || allJoints p (suc (suc n)))
+      (item-more (suc (suc n)) s p (omega arith) ∙ ap {B = List Item} (λ l. itemAt s p ∷ l) (item-more (suc (suc n) - 1) s (p + 8) (omega arith)))
+
+  -- refusal 6 looks at the items of a loop
+  pub loop-joints : (p n : ℕ) (k : Kind) → k ≡ LoopRecord → rightJoints k points es (fieldsIn n (drop p s)) ≡ jointed points es (itemsFrom s p (n / 2))
+  unfolding rightJoints numberOf
+  loop-joints p n k e = ap (λ j. rightJoints j points es (fieldsIn n (drop p s))) e ∙ ap (jointed points es) (items-half n s p)

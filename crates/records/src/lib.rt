@@ -11,11 +11,11 @@ ghost use lib.Dec.{eqb, ltb, leb};
 ghost use Rattle.lists.specs.Lists.{all, neighbours};
 ghost use Rattle.rules.specs.Fields.{le32, fieldsIn};
 ghost use Rattle.rules.specs.FieldLaws.{itemAt, itemsFrom};
-ghost use Rattle.rules.specs.Job.{ofRing, startVertex, endVertex};
+ghost use Rattle.rules.specs.Job.{ofRing, startPoint, endPoint};
 ghost use Rattle.rules.specs.Kinds.{isAnswer, inTurn, isSense, exists, endsPermitted, itemsPermitted, fieldsPermitted, rightLength, rightPosition, limitPassed};
 ghost use Rattle.rules.specs.Load.{joint, jointed as jointedOf, rightJoints, counted};
 ghost use Rattle.theorems.specs.Sound.{Limited};
-ghost use Rattle.job.specs.Lists.{edgesIn};
+ghost use Rattle.job.specs.Lists.{pointsIn, edgesIn};
 
 // LENGTH AND POSITION
 
@@ -408,29 +408,31 @@ fn is_ring(job: &[u8], c: Counts, p: usize) -> bool
     start == UNSET
 }
 
-// The vertices where the item at a place starts and ends.
+// The points where the item at a place starts and ends.
 fn item_start(job: &[u8], c: Counts, p: usize) -> usize
     requires { ⌜ Limited c × (p < 2 ^ 59) ⌝ }
-    ensures { λ r. ⌜ r ≡ startVertex (edgesIn (now (job .entry)) c) (itemAt (now (job .entry)) p) ⌝ }
+    ensures { λ r. ⌜ r ≡ startPoint (pointsIn (now (job .entry)) c) (edgesIn (now (job .entry)) c) (itemAt (now (job .entry)) p) ⌝ }
 {
     let e = word(job, p);
     let s = job::sense_of(word(job, p + 4));
-    job::start_by(job, c, e, s)
+    let v = job::start_by(job, c, e, s);
+    job::point(job, c, v)
 }
 
 fn item_end(job: &[u8], c: Counts, p: usize) -> usize
     requires { ⌜ Limited c × (p < 2 ^ 59) ⌝ }
-    ensures { λ r. ⌜ r ≡ endVertex (edgesIn (now (job .entry)) c) (itemAt (now (job .entry)) p) ⌝ }
+    ensures { λ r. ⌜ r ≡ endPoint (pointsIn (now (job .entry)) c) (edgesIn (now (job .entry)) c) (itemAt (now (job .entry)) p) ⌝ }
 {
     let e = word(job, p);
     let s = job::sense_of(word(job, p + 4));
-    job::end_by(job, c, e, s)
+    let v = job::end_by(job, c, e, s);
+    job::point(job, c, v)
 }
 
-// The item at p ends where the one at q starts, and neither is of a ring.
+// The item at p ends at the point where the one at q starts, and neither is of a ring.
 fn is_joint(job: &[u8], c: Counts, p: usize, q: usize) -> bool
     requires { ⌜ Limited c × (p < 2 ^ 59) × (q < 2 ^ 59) ⌝ }
-    ensures { λ r. ⌜ r ≡ joint (edgesIn (now (job .entry)) c) (record { here = itemAt (now (job .entry)) p; next = itemAt (now (job .entry)) q }) ⌝ }
+    ensures { λ r. ⌜ r ≡ joint (pointsIn (now (job .entry)) c) (edgesIn (now (job .entry)) c) (record { here = itemAt (now (job .entry)) p; next = itemAt (now (job .entry)) q }) ⌝ }
 {
     if is_ring(job, c, p) {
         return false;
@@ -446,7 +448,7 @@ fn is_joint(job: &[u8], c: Counts, p: usize, q: usize) -> bool
 // Each of n items with its successor is a joint, the last with the first.
 fn joined(job: &[u8], c: Counts, body: usize, n: usize) -> bool
     requires { ⌜ Limited c × (body + 8 * n < 2 ^ 59) ⌝ }
-    ensures { λ r. ⌜ r ≡ all (joint (edgesIn (now (job .entry)) c)) (neighbours (itemsFrom (now (job .entry)) body n)) ⌝ }
+    ensures { λ r. ⌜ r ≡ all (joint (pointsIn (now (job .entry)) c) (edgesIn (now (job .entry)) c)) (neighbours (itemsFrom (now (job .entry)) body n)) ⌝ }
 {
     if n == 0 {
         return true;
@@ -468,7 +470,7 @@ fn joined(job: &[u8], c: Counts, body: usize, n: usize) -> bool
 // A ring's use alone, or joints.
 fn jointed(job: &[u8], c: Counts, body: usize, n: usize) -> bool
     requires { ⌜ Limited c × (body + 8 * n < 2 ^ 59) ⌝ }
-    ensures { λ r. ⌜ r ≡ jointedOf (edgesIn (now (job .entry)) c) (itemsFrom (now (job .entry)) body n) ⌝ }
+    ensures { λ r. ⌜ r ≡ jointedOf (pointsIn (now (job .entry)) c) (edgesIn (now (job .entry)) c) (itemsFrom (now (job .entry)) body n) ⌝ }
 {
     if n != 1 {
         return joined(job, c, body, n);
@@ -482,7 +484,7 @@ fn jointed(job: &[u8], c: Counts, body: usize, n: usize) -> bool
 // 6: a loop's joints hold.
 pub fn right_joints(job: &[u8], kind: Kind, c: Counts, body: usize, n: usize) -> bool
     requires { ⌜ Limited c × (body + 4 * n < 2 ^ 59) ⌝ }
-    ensures { λ r. ⌜ r ≡ rightJoints kind (edgesIn (now (job .entry)) c) (fieldsIn n (drop body (now (job .entry)))) ⌝ }
+    ensures { λ r. ⌜ r ≡ rightJoints kind (pointsIn (now (job .entry)) c) (edgesIn (now (job .entry)) c) (fieldsIn n (drop body (now (job .entry)))) ⌝ }
 {
     match kind {
         Kind::LoopRecord => jointed(job, c, body, n / 2),

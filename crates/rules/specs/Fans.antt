@@ -6,7 +6,7 @@ use lib.ListN.{length, getD}
 use Rattle.lists.specs.Lists.{below, keep}
 use Rattle.rules.specs.declared.Edge.{Edge}
 use Rattle.rules.specs.declared.Use.{Use}
-use Rattle.rules.specs.Job.{ring}
+use Rattle.rules.specs.Job.{ring, pointAt}
 use Rattle.rules.specs.Read.{useAt, edgeOfUse, useStart}
 use Rattle.rules.specs.Groups.{alone, joined, isLowest}
 use Rattle.rules.specs.Pair.{twinOf}
@@ -37,7 +37,7 @@ fanNames es us rm g = keep (namesFan es us rm g) (below (length us))
 
 -- the point where each use starts
 unfoldable pub startPoints : List ℕ → List Edge → List Use → List ℕ
-startPoints points es us = map (λ u. getD points (useStart es u) 0) us
+startPoints points es us = map (λ u. pointAt points (useStart es u)) us
 
 -- Fans: a fan's point is where its uses start
 abbrev pub fanPoint : List ℕ → ℕ → ℕ

@@ -77,12 +77,23 @@ abbrev pub endBy : Sense → Edge → ℕ
 endBy Same e = e .end
 endBy Reversed e = e .start
 
+-- Job records, kind 2: the point of vertex v
+abbrev pub pointAt : List ℕ → ℕ → ℕ
+pointAt points v = getD points v 0
+
 -- the vertex where an item starts, and where it ends
 abbrev pub startVertex : List Edge → Item → ℕ
 startVertex es x = startBy (x .sense) (edgeAt es (x .edge))
 
 abbrev pub endVertex : List Edge → Item → ℕ
 endVertex es x = endBy (x .sense) (edgeAt es (x .edge))
+
+-- the point where an item starts, and where it ends
+abbrev pub startPoint : List ℕ → List Edge → Item → ℕ
+startPoint points es x = pointAt points (startVertex es x)
+
+abbrev pub endPoint : List ℕ → List Edge → Item → ℕ
+endPoint points es x = pointAt points (endVertex es x)
 
 -- Job records, kind 5: fields as items, one for each edge and sense
 unfoldable pub itemsOf : List ℕ → List Item

@@ -14,15 +14,15 @@ use Rattle.rules.specs.Outcome.{Outcome, ok, refuse, _>>=_, need, throug
 use Rattle.rules.specs.Sense.{senseOf}
 use Rattle.rules.specs.Fields.{field}
 use Rattle.rules.specs.Frame.{Frame, frames}
-use Rattle.rules.specs.Job.{ofItems, atVertex, Loop, Stretch, Answer, Job, ofRing, startVertex, endVertex, itemsOf}
+use Rattle.rules.specs.Job.{ofItems, atVertex, Loop, Stretch, Answer, Job, ofRing, startPoint, endPoint, itemsOf}
 use Rattle.rules.specs.Questions.{find, isFound}
 use Rattle.rules.specs.Kinds.{kindOf, numberOf, isLoop, isAnswer, rightLength, partOf, rightPosition, limitPassed, fieldsPermitted, questionLength, questionOf}
 
 -- JOINTS
 
--- Job records, the term "joint": a use ends at the vertex where its successor starts, and neither is of a ring
-unfoldable pub joint : List Edge → Neighbours Item → Bool
-joint es p = not (ofRing es (p .here)) && (not (ofRing es (p .next)) && eqb (endVertex es (p .here)) (startVertex es (p .next)))
+-- document 02, Three: the vertices where a use ends and where its successor starts have equal point numbers; neither is of a ring
+unfoldable pub joint : List ℕ → List Edge → Neighbours Item → Bool
+joint points es p = not (ofRing es (p .here)) && (not (ofRing es (p .next)) && eqb (endPoint points es (p .here)) (startPoint points es (p .next)))
 
 -- a ring's use, alone in its loop
 unfoldable pub loneRing : List Edge → List Item → Bool
@@ -31,8 +31,8 @@ loneRing es (x ∷ []) = ofRing es x
 loneRing es (x ∷ y ∷ ys) = false
 
 -- Job records, joints: a ring's use is alone; otherwise each use with its successor, the last leading to the first, is a joint
-unfoldable pub jointed : List Edge → List Item → Bool
-jointed es xs = loneRing es xs || all (joint es) (neighbours xs)
+unfoldable pub jointed : List ℕ → List Edge → List Item → Bool
+jointed points es xs = loneRing es xs || all (joint points es) (neighbours xs)
 
 -- ONE RECORD
 
@@ -92,8 +92,8 @@ extended k at x j = record {
 }
 
 -- Endings, 6: a loop's joints hold
-unfoldable pub rightJoints : Kind → List Edge → List ℕ → Bool
-rightJoints k es x = not (eqb (numberOf k) 5) || jointed es (itemsOf x)
+unfoldable pub rightJoints : Kind → List ℕ → List Edge → List ℕ → Bool
+rightJoints k points es x = not (eqb (numberOf k) 5) || jointed points es (itemsOf x)
 
 -- Endings, 7: the question is answered before
 unfoldable pub answeredBefore : Kind → List Answer → List ℕ → Bool
@@ -110,7 +110,7 @@ loadRecord f s =
     (need (rightLength k (f .size) && rightPosition k (c .part)) 3 (f .at)
     (need (not (limitPassed k c (length x))) 5 (f .at)
     (need (fieldsPermitted k c x) 4 (f .at)
-    (need (rightJoints k (j .edges) x) 6 (f .at)
+    (need (rightJoints k (j .points) (j .edges) x) 6 (f .at)
     (need (not (answeredBefore k (j .answers) x)) 7 (f .at)
     (ok (record { counts = counted k (length x) c; job = extended k (f .at) x j })))))))
 

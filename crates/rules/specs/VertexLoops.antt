@@ -6,7 +6,7 @@ use lib.ListN.{getD}
 use lib.Dec.{eqb}
 use Rattle.rules.specs.declared.KeptVertexLoop.{KeptVertexLoop}
 use Rattle.rules.specs.Outcome.{Outcome, ok, _>>=_, throughout}
-use Rattle.rules.specs.Job.{Content, ofItems, atVertex, Loop, Answer}
+use Rattle.rules.specs.Job.{Content, ofItems, atVertex, Loop, Answer, pointAt}
 use Rattle.rules.specs.Questions.{askSame}
 
 -- Vertex loops: held against those kept in the merged face so far, in order, up to the first that is the same
@@ -26,7 +26,7 @@ keepUnlessThere answers face point ks = alreadyThere answers face point ks >>= �
 -- one loop of the job, in the merged face of its face
 abbrev pub contentStep : List Answer → List ℕ → ℕ → Content → List KeptVertexLoop → Outcome (List KeptVertexLoop)
 contentStep answers points face (ofItems xs) ks = ok ks
-contentStep answers points face (atVertex v) ks = keepUnlessThere answers face (getD points v 0) ks
+contentStep answers points face (atVertex v) ks = keepUnlessThere answers face (pointAt points v) ks
 
 abbrev pub vertexLoopStep : List Answer → List ℕ → List ℕ → Loop → List KeptVertexLoop → Outcome (List KeptVertexLoop)
 vertexLoopStep answers points numbers l ks = contentStep answers points (getD numbers (l .face) 0) (l .content) ks

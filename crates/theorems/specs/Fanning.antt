@@ -5,14 +5,17 @@ use mathlib.Core.Path.{_≡_, refl, sym, ap, _∙_, subst}
 use mathlib.Core.Logic.{⊎-elim}
 use mathlib.Core.Bool.{true, false, not, cond}
 use mathlib.Core.List.{List}
-use lib.ListN.{length, getD}
+use lib.ListN.{length}
 use borrow.Author.Tests.{eq-eqb, not-true}
 use Rattle.lists.specs.Lists.{below, _∈_, Nodup, iterate}
 use Rattle.lists.specs.Tests.{both-ways, and-both, both-and, not-is}
 use Rattle.lists.specs.Runs.{in-below, below-in, below-nodup}
 use Rattle.lists.specs.Members.{in-keep, keep-in, keep-nodup, getD-map}
+use Rattle.rules.specs.Outcome.{ok}
 use Rattle.rules.specs.Sense.{reverse}
-use Rattle.rules.specs.Job.{Job, edgeAt, ring, startBy, endBy}
+use Rattle.rules.specs.Job.{Job, edgeAt, ring, startBy, endBy, pointAt}
+use Rattle.rules.specs.Load.{loaded}
+use Rattle.rules.specs.Rules.{Table}
 use Rattle.rules.specs.Read.{noUse, useAt, edgeOfUse, useStart, oldSuccessor}
 use Rattle.rules.specs.Groups.{labelOf, isLowest}
 use Rattle.rules.specs.Pair.{twinOf}
@@ -20,11 +23,11 @@ use Rattle.rules.specs.Merge.{isRemoved}
 use Rattle.rules.specs.Walk.{over, turn, successor}
 use Rattle.rules.specs.Fans.{keptWithEnds, fans, namesFan, fanNames, startPoints, fanPoint}
 use Rattle.rules.specs.Sew.{Walked}
-use Rattle.theorems.specs.Demand3.{KeptUse, Meets}
+use Rattle.theorems.specs.Demand3.{KeptUse, Meets, Settled}
 use Rattle.rules.specs.GroupLaws.{Lowest}
 use Rattle.theorems.specs.Connected.{value-equivalence, fans-length, fans-lowest, fans-corner, fans-within}
 use Rattle.rules.specs.SenseLaws.{other-sense, start-reverse, end-reverse}
-use Rattle.theorems.specs.Ground.{onRing, startOf, endOf, Ground}
+use Rattle.theorems.specs.Ground.{onRing, startOf, endOf, Ground, ground}
 
 -- USES
 
@@ -58,15 +61,17 @@ module _ (j : Job) (w : Walked) (G : Ground j w) where
   -- a twin starts where its use ends, and ends where it starts
   start-twin : (h : ℕ) → h < length (w .uses) → startOf j w (twin w h) ≡ endOf j w h
   start-twin h lt =
-      ap (λ e. startBy (useAt (w .uses) (twin w h) .sense) (edgeAt (j .edges) e)) (G .twins .edge h lt)
-      ∙ ap (λ s. startBy s (edgeOfUse (j .edges) (useAt (w .uses) h))) (twin-sense h lt) ∙ start-reverse (useAt (w .uses) h .sense) (edgeOfUse (j .edges) (useAt (w .uses) h))
+      ap (pointAt (j .points))
+      (ap (λ e. startBy (useAt (w .uses) (twin w h) .sense) (edgeAt (j .edges) e)) (G .twins .edge h lt)
+      ∙ ap (λ s. startBy s (edgeOfUse (j .edges) (useAt (w .uses) h))) (twin-sense h lt) ∙ start-reverse (useAt (w .uses) h .sense) (edgeOfUse (j .edges) (useAt (w .uses) h)))
 
   end-twin : (h : ℕ) → h < length (w .uses) → endOf j w (twin w h) ≡ startOf j w h
   end-twin h lt =
-      ap (λ e. endBy (useAt (w .uses) (twin w h) .sense) (edgeAt (j .edges) e)) (G .twins .edge h lt)
-      ∙ ap (λ s. endBy s (edgeOfUse (j .edges) (useAt (w .uses) h))) (twin-sense h lt) ∙ end-reverse (useAt (w .uses) h .sense) (edgeOfUse (j .edges) (useAt (w .uses) h))
+      ap (pointAt (j .points))
+      (ap (λ e. endBy (useAt (w .uses) (twin w h) .sense) (edgeAt (j .edges) e)) (G .twins .edge h lt)
+      ∙ ap (λ s. endBy s (edgeOfUse (j .edges) (useAt (w .uses) h))) (twin-sense h lt) ∙ end-reverse (useAt (w .uses) h .sense) (edgeOfUse (j .edges) (useAt (w .uses) h)))
 
-  -- the uses of a turn are all of rings or none is; they start at one vertex
+  -- the uses of a turn are all of rings or none is; they start at one point
   ring-turn : (k h : ℕ) → h < length (w .uses) → onRing j w (turn (w .uses) (w .twins) h k) ≡ onRing j w h
   unfolding iterate
   ring-turn zero h lt = refl
@@ -134,7 +139,7 @@ pub record FansHold (j : Job) (w : Walked) : Type 0 where
   pub onePoint : (h : ℕ) → EndedUse j w h → fanPoint (fanStarts j w) (labelOf (fanLabels j w) h) ≡ fanPoint (fanStarts j w) h
 
 module _ (j : Job) (w : Walked) (G : Ground j w) where
-  -- one more than the vertex where a kept use with ends starts, and 0 for any other use
+  -- one more than the point where a kept use with ends starts, and 0 for any other use
   abbrev mark : ℕ → ℕ
   mark h = cond (keptWithEnds (j .edges) (w .uses) (w .merge .removed) h) (suc (startOf j w h)) 0
 
@@ -175,9 +180,9 @@ module _ (j : Job) (w : Walked) (G : Ground j w) where
       (labelOf (fanLabels j w) h) h below (e .0) (fan-lowest .stands h lt)
       ∙ mark-ended h e)
 
-  point-is : (h : ℕ) → h < length (w .uses) → fanPoint (fanStarts j w) h ≡ getD (j .points) (startOf j w h) 0
+  point-is : (h : ℕ) → h < length (w .uses) → fanPoint (fanStarts j w) h ≡ startOf j w h
   unfolding startPoints
-  point-is h lt = getD-map (λ u. getD (j .points) (useStart (j .edges) u) 0) (w .uses) h 0 noUse lt
+  point-is h lt = getD-map (λ u. pointAt (j .points) (useStart (j .edges) u)) (w .uses) h 0 noUse lt
 
   pub fans-hold : FansHold j w
   fans-hold = record {
@@ -192,5 +197,14 @@ module _ (j : Job) (w : Walked) (G : Ground j w) where
         (below-in (length (w .uses)) v (r .0), and-both _ (isLowest (fanLabels j w) v) (r .1) .0);
     onePoint = λ h e.
         let l = name-ended h e in
-        point-is (labelOf (fanLabels j w) h) (l .0 .0) ∙ ap (λ v. getD (j .points) v 0) (l .1) ∙ sym (point-is h (e .0));
+        point-is (labelOf (fanLabels j w) h) (l .0 .0) ∙ l .1 ∙ sym (point-is h (e .0));
   }
+
+-- document 02, Three: any two uses of a fan start at one point, be it by one vertex or by two; for every job that loads and pairs, merges and walks
+pub fan-starts : (t : Table) (job : List ℕ) (j : Job) (w : Walked) → loaded job ≡ ok j → Settled t j w → (h k : ℕ) → EndedUse j w h → EndedUse j w k
+    → labelOf (fanLabels j w) h ≡ labelOf (fanLabels j w) k → startOf j w h ≡ startOf j w k
+fan-starts t job j w l s h k e f one =
+    let G = ground t job j w l s in
+    let F = fans-hold j w G in
+    let at = point-is j w G in
+    sym (at h (e .0)) ∙ sym (F .onePoint h e) ∙ ap (fanPoint (fanStarts j w)) one ∙ F .onePoint k f ∙ at k (f .0)

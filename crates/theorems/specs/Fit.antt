@@ -38,7 +38,7 @@ pub record Taken (k : Kind) (x : List ℕ) (c : Counts) (j : Job) : Type 0 where
   pub position : rightPosition k (c .part) ≡ true
   pub limit : limitPassed k c (length x) ≡ false
   pub permitted : fieldsPermitted k c x ≡ true
-  pub joints : rightJoints k (j .edges) x ≡ true
+  pub joints : rightJoints k (j .points) (j .edges) x ≡ true
 
 -- one record more of each kind
 module _ (at : ℕ) (x : List ℕ) (c : Counts) (j : Job) (F : Fit c j) where
@@ -86,7 +86,7 @@ module _ (at : ℕ) (x : List ℕ) (c : Counts) (j : Job) (F : Fit c j) where
           ends = λ e h. subst (λ n. EndsExist n (edgeAt (j .edges) e)) (sym more) (ends-more (length (j .points)) (edgeAt (j .edges) e) (S .ends e h));
           face = S .face;
           items = S .items;
-          joints = S .joints;
+          joints = λ l xs m. absurd (no-loop early l m);
           vertex = λ l v m. absurd (no-loop early l m);
           few = S .few;
         };
@@ -177,7 +177,7 @@ module _ (at : ℕ) (x : List ℕ) (c : Counts) (j : Job) (F : Fit c j) where
   one-loop : (l : Loop) (s : Stretch) (uses : ℕ) → uses ≡ c .uses + itemsIn l → uses ≤ 2048 → c .loops < 1024 → c .part ≡ 4
       → l .face ≡ length (j .faces) - 1
       → ((i : Item) → i ∈ contentItems (l .content) → i .edge < length (j .edges))
-      → ((xs : List Item) → l .content ≡ ofItems xs → jointed (j .edges) xs ≡ true)
+      → ((xs : List Item) → l .content ≡ ofItems xs → jointed (j .points) (j .edges) xs ≡ true)
       → ((v : ℕ) → l .content ≡ atVertex v → v < length (j .points))
       → Fit
       (record { part = 4; vertices = c .vertices; edges = c .edges; faces = c .faces; loops = c .loops + 1; uses = uses; answers = c .answers })
@@ -205,7 +205,7 @@ module _ (at : ℕ) (x : List ℕ) (c : Counts) (j : Job) (F : Fit c j) where
           face = snoc-members (λ (l : Loop). l .face < length (j .faces)) (j .loops) l (S .face) (omega (arith, face, some));
           items = snoc-members (λ (l : Loop). (x : Item) → x ∈ contentItems (l .content) → x .edge < length (j .edges)) (j .loops) l (S .items) items;
           joints = λ k xs m.
-              snoc-members (λ (l : Loop). (xs : List Item) → l .content ≡ ofItems xs → jointed (j .edges) xs ≡ true) (j .loops) l
+              snoc-members (λ (l : Loop). (xs : List Item) → l .content ≡ ofItems xs → jointed (j .points) (j .edges) xs ≡ true) (j .loops) l
               (λ k m xs. S .joints k xs m) joints k m xs;
           vertex = λ k v m.
               snoc-members (λ (l : Loop). (v : ℕ) → l .content ≡ atVertex v → v < length (j .points)) (j .loops) l
@@ -224,7 +224,7 @@ module _ (at : ℕ) (x : List ℕ) (c : Counts) (j : Job) (F : Fit c j) where
       (omega (arith, items-of-length x)) (ltb-false 2048 (c .uses + length x / 2) (limits .1)) (leb-false 1024 (c .loops) (limits .0))
       (eqb-true (c .part) 4 (t .position)) refl
       (λ i m. subst (λ n. i .edge < n) (F .counted .edges) (items-exist (c .edges) x (t .permitted) i m))
-      (λ xs e. let q : itemsOf x ≡ xs = cc in subst (λ ys. jointed (j .edges) ys ≡ true) q (t .joints))
+      (λ xs e. let q : itemsOf x ≡ xs = cc in subst (λ ys. jointed (j .points) (j .edges) ys ≡ true) q (t .joints))
       (λ v e. let z : _≡_ {A = ℕ} 0 1 = cc in absurd (omega arith))
 
   fit-vertex-loop : Taken VertexLoop x c j → Fit (counted VertexLoop (length x) c) (extended VertexLoop at x j)

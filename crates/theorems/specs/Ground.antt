@@ -8,7 +8,7 @@ use lib.ListN.{length}
 use Rattle.rules.specs.declared.Use.{Use}
 use Rattle.rules.specs.Outcome.{ok}
 use Rattle.rules.specs.OutcomeLaws.{ok-one, bind-ok, bind-on}
-use Rattle.rules.specs.Job.{Job, ring}
+use Rattle.rules.specs.Job.{Job, ring, pointAt}
 use Rattle.rules.specs.Load.{loaded}
 use Rattle.rules.specs.Read.{usesOf, useAt, edgeOfUse, useStart, faceOfUse, oldSuccessor}
 use Rattle.rules.specs.Groups.{labelOf}
@@ -49,12 +49,12 @@ walked-settled t j w e =
 abbrev pub onRing : Job → Walked → ℕ → Bool
 onRing j w h = ring (edgeOfUse (j .edges) (useAt (w .uses) h))
 
--- the vertices where use h starts and ends
+-- the points where use h starts and ends
 abbrev pub startOf : Job → Walked → ℕ → ℕ
-startOf j w h = useStart (j .edges) (useAt (w .uses) h)
+startOf j w h = pointAt (j .points) (useStart (j .edges) (useAt (w .uses) h))
 
 abbrev pub endOf : Job → Walked → ℕ → ℕ
-endOf j w h = useEnd (j .edges) (useAt (w .uses) h)
+endOf j w h = pointAt (j .points) (useEnd (j .edges) (useAt (w .uses) h))
 
 -- what the stages through the walks give to those after them
 pub record Ground (j : Job) (w : Walked) : Type 0 where
@@ -89,7 +89,9 @@ ground t job j w l s =
           subst (λ (u : List Use). (h : ℕ) → h < length u → ring (edgeOfUse (j .edges) (useAt u (oldSuccessor u h))) ≡ ring (edgeOfUse (j .edges) (useAt u h))) e
           (next-ring j S);
       nextStart =
-          subst (λ (u : List Use). (h : ℕ) → h < length u → ring (edgeOfUse (j .edges) (useAt u h)) ≡ false → useStart (j .edges) (useAt u (oldSuccessor u h)) ≡ useEnd (j .edges) (useAt u h)) e
+          subst
+          (λ (u : List Use). (h : ℕ) → h < length u → ring (edgeOfUse (j .edges) (useAt u h)) ≡ false
+          → pointAt (j .points) (useStart (j .edges) (useAt u (oldSuccessor u h))) ≡ pointAt (j .points) (useEnd (j .edges) (useAt u h))) e
           (next-starts j S);
       apart =
           subst (λ (u : List Use). (h : ℕ) → (h < length u) × (isRemoved (w .merge .removed) h ≡ false)

@@ -41,6 +41,6 @@ pub record Sound (j : Job) : Type 0 where
   pub ends : (e : ℕ) → e < length (j .edges) → EndsExist (length (j .points)) (edgeAt (j .edges) e)
   pub face : (l : Loop) → l ∈ j .loops → l .face < length (j .faces)
   pub items : (l : Loop) → l ∈ j .loops → (x : Item) → x ∈ contentItems (l .content) → x .edge < length (j .edges)
-  pub joints : (l : Loop) (xs : List Item) → l ∈ j .loops → l .content ≡ ofItems xs → jointed (j .edges) xs ≡ true
+  pub joints : (l : Loop) (xs : List Item) → l ∈ j .loops → l .content ≡ ofItems xs → jointed (j .points) (j .edges) xs ≡ true
   pub vertex : (l : Loop) (v : ℕ) → l ∈ j .loops → l .content ≡ atVertex v → v < length (j .points)
   pub few : length (usesOf j) ≤ 2048

@@ -1,39 +1,57 @@
 use Rattle.records.specs.Joints.{jointed-ring, jointed-plain, jointed-other}
-use Rattle.job.specs.Lists.{edgesIn}
+use Rattle.job.specs.Lists.{pointsIn, edgesIn}
 use mathlib.Core.Path.{sym, _∙_}
 use borrow.Author.Needs.{needs}
 use Rattle.records.proofs.jointed.Statement.{statement}
 use Rattle.records.proofs.jointed.Tie as tie
-use Rattle.records.proofs.jointed.Reads as reads
-use Rattle.records.proofs.jointed.Lts as lts
-use Rattle.records.proofs.is_ring.Reads as is-ring-reads
-use Rattle.records.proofs.joined.Reads as joined-reads
 
--- src/lib.rt:452:9
 joined-requires : tie.Need-joined-requires
 joined-requires c κs = search needs
 
--- src/lib.rt:452:9
+-- none or more items
 returns : tie.Need-returns
-returns c = c .joined .ensures ∙ sym (jointed-other (edgesIn (c .before .before .before .args .job .now) (c .before .before .before .args .c)) (c .before .before .before .args .job .now) (c .before .before .before .args .body) (c .before .before .before .args .n) (c .before .if1 .taken))
+returns c =
+    let start : tie.Start = search in
+    let other : tie.Then1 = search in
+    let a = start .args in
+    c .joined .ensures
+    ∙ sym (jointed-other (pointsIn (a .job .now) (a .c)) (edgesIn (a .job .now) (a .c)) (a .job .now) (a .body) (a .n) (other .if1 .taken))
 
--- src/lib.rt:454:8
 is-ring-requires : tie.Need-is-ring-requires
 is-ring-requires c κs = search needs
 
--- src/lib.rt:455:9
+-- a ring's use alone
 returns-2 : tie.Need-returns-2
-returns-2 c = sym (jointed-ring (edgesIn (c .before .before .before .before .args .job .now) (c .before .before .before .before .args .c)) (c .before .before .before .before .args .job .now) (c .before .before .before .before .args .body) (c .before .before .before .before .args .n) (c .before .is-ring .result) (c .before .before .if1 .left) (c .before .is-ring .ensures) (c .if2 .taken))
+returns-2 c =
+    let start : tie.Start = search in
+    let one : tie.Else1 = search in
+    let ring : tie.After-is-ring = search in
+    let a = start .args in
+    sym (jointed-ring (pointsIn (a .job .now) (a .c)) (edgesIn (a .job .now) (a .c)) (a .job .now) (a .body) (a .n) (ring .is-ring .result)
+    (one .if1 .left) (ring .is-ring .ensures) (c .if2 .taken))
 
--- src/lib.rt:457:5
 joined-requires-2 : tie.Need-joined-requires-2
 joined-requires-2 c κs = search needs
 
--- src/lib.rt:447:1
+-- another use alone
 returns-3 : tie.Need-returns-3
-returns-3 c = c .joined2 .ensures ∙ sym (jointed-plain (edgesIn (c .before .before .before .before .before .args .job .now) (c .before .before .before .before .before .args .c)) (c .before .before .before .before .before .args .job .now) (c .before .before .before .before .before .args .body) (c .before .before .before .before .before .args .n) (c .before .before .is-ring .result) (c .before .before .before .if1 .left) (c .before .before .is-ring .ensures) (c .before .if2 .left))
+returns-3 c =
+    let start : tie.Start = search in
+    let one : tie.Else1 = search in
+    let ring : tie.After-is-ring = search in
+    let none : tie.Else2 = search in
+    let a = start .args in
+    c .joined2 .ensures
+    ∙ sym (jointed-plain (pointsIn (a .job .now) (a .c)) (edgesIn (a .job .now) (a .c)) (a .job .now) (a .body) (a .n) (ring .is-ring .result)
+    (one .if1 .left) (ring .is-ring .ensures) (none .if2 .left))
 
 pub jointed-spec : {M : Type 1} → statement M
 jointed-spec =
     tie.close
-    (tie.spec joined-requires returns is-ring-requires returns-2 joined-requires-2 returns-3)
+    (tie.spec
+    joined-requires
+    returns
+    is-ring-requires
+    returns-2
+    joined-requires-2
+    returns-3)
