@@ -1,11 +1,12 @@
 -- The joints of a loop's items as its bytes have them, one at a time.
 use Prim.Native.Nat.{ℕ, zero, suc, _+_, _-_, _/_, _<_, _≤_}
 use native.Mathlib.Omega.{arith}
-use mathlib.Core.Path.{_≡_, refl, ap, _∙_}
+use mathlib.Core.Path.{_≡_, refl, sym, ap, _∙_}
 use mathlib.Core.List.{List, _∷_}
 use mathlib.Core.Bool.{Bool, true, false, _&&_, _||_}
 use lib.ListN.{drop}
 use lib.Dec.{eqb}
+use borrow.Author.Tests.{eq-eqb, ne-eqb}
 use Rattle.lists.specs.Lists.{all, neighbours, neighboursFrom}
 use Rattle.rules.specs.declared.Edge.{Edge}
 use Rattle.rules.specs.declared.Item.{Item}
@@ -47,21 +48,49 @@ module _ (points : List ℕ) (es : List Edge) (s : List ℕ) where
   unfolding all neighboursFrom
   joints-more f p left h = ap (λ l. all (joint points es) (neighboursFrom (itemAt s f) (itemAt s p) l)) (item-more left s (p + 8) h)
 
-  -- the item at p and its successor are no joint, are one, and the last item
-  pub joints-not : (f p left : ℕ) (t : Bool) → 0 < left → t ≡ jointAt p (p + 8) → t ≡ false → jointsFrom f p left ≡ false
-  joints-not f p left t h e q = joints-more f p left h ∙ rw (← e, q)
-
-  pub joints-on : (f p left : ℕ) (t : Bool) → 0 < left → t ≡ jointAt p (p + 8) → t ≡ true → jointsFrom f p left ≡ jointsFrom f (p + 8) (left - 1)
-  joints-on f p left t h e q = joints-more f p left h ∙ rw (← e, q)
-
-  pub joints-last : (f p left : ℕ) → left ≤ 0 → jointsFrom f p left ≡ jointAt p f
+  joints-one : (f p left : ℕ) → left ≤ 0 → jointsFrom f p left ≡ jointAt p f
   unfolding all neighboursFrom
-  joints-last f p left h =
+  joints-one f p left h =
       ap (λ l. all (joint points es) (neighboursFrom (itemAt s f) (itemAt s p) l)) (item-none left s (p + 8) h) ∙ and-true (jointAt p f)
     where
       and-true : (t : Bool) → (t && true) ≡ t
       and-true true = refl
       and-true false = refl
+
+  -- begun at an item of a ring
+  ring-no-joint : (p q : ℕ) → ofRing es (itemAt s p) ≡ true → jointAt p q ≡ false
+  unfolding joint
+  ring-no-joint p q e = rw e
+
+  joints-of-ring : (f p left : ℕ) → ofRing es (itemAt s p) ≡ true → jointsFrom f p left ≡ false
+  joints-of-ring f p zero e = joints-one f p zero (omega arith) ∙ ring-no-joint p f e
+  joints-of-ring f p (suc left) e = joints-more f p (suc left) (omega arith) ∙ rw (ring-no-joint p (p + 8) e)
+
+  -- from an item at p on that is of no ring and ends at a point
+  module _ (f p left end : ℕ) (plain : ofRing es (itemAt s p) ≡ false) (ends : end ≡ endPoint points es (itemAt s p)) where
+    point-decides : (q start : ℕ) (t : Bool) → t ≡ ofRing es (itemAt s q) → t ≡ false → start ≡ startPoint points es (itemAt s q) → jointAt p q ≡ eqb end start
+    unfolding joint
+    point-decides q start t ring not-ring starts = rw (plain, ← ring, not-ring, ← ends, ← starts)
+
+    ring-decides : (q : ℕ) (t : Bool) → t ≡ ofRing es (itemAt s q) → t ≡ true → jointAt p q ≡ false
+    unfolding joint
+    ring-decides q t ring of-one = rw (plain, ← ring, of-one)
+
+    -- the next item is of a ring; it starts at another point; it starts there; there is none, and the first one starts at a point
+    pub joints-ring : (t : Bool) → 0 < left → t ≡ ofRing es (itemAt s (p + 8)) → t ≡ true → jointsFrom f p left ≡ false
+    joints-ring t h ring of-one = joints-more f p left h ∙ rw (ring-decides (p + 8) t ring of-one)
+
+    module _ (t : Bool) (start : ℕ) (h : 0 < left) (ring : t ≡ ofRing es (itemAt s (p + 8))) (not-ring : t ≡ false) (starts : start ≡ startPoint points es (itemAt s (p + 8))) where
+      pub joints-apart : (start ≡ end → ⊥) → jointsFrom f p left ≡ false
+      joints-apart apart =
+          joints-more f p left h ∙ rw (point-decides (p + 8) start t ring not-ring starts, ne-eqb end start (λ e. apart (sym e)))
+
+      pub joints-on : start ≡ end → jointsFrom f p left ≡ jointsFrom f (p + 8) (left - 1)
+      joints-on meets = joints-more f p left h ∙ rw (point-decides (p + 8) start t ring not-ring starts, eq-eqb end start (sym meets))
+
+    pub joints-last : (t : Bool) (first : ℕ) → left ≤ 0 → t ≡ ofRing es (itemAt s f) → t ≡ false → first ≡ startPoint points es (itemAt s f)
+        → jointsFrom f p left ≡ eqb end first
+    joints-last t first h ring not-ring starts = joints-one f p left h ∙ point-decides f first t ring not-ring starts
 
   -- all joints of n items from p on
   abbrev pub allJoints : ℕ → ℕ → Bool
@@ -71,6 +100,9 @@ module _ (points : List ℕ) (es : List Edge) (s : List ℕ) where
   pub joints-first : (p n : ℕ) → 0 < n → allJoints p n ≡ jointsFrom p p (n - 1)
   unfolding neighbours
   joints-first p n h = ap (λ l. all (joint points es) (neighbours l)) (item-more n s p h)
+
+  pub joints-none-of-ring : (p n : ℕ) (t : Bool) → 0 < n → t ≡ ofRing es (itemAt s p) → t ≡ true → allJoints p n ≡ false
+  joints-none-of-ring p n t h ring of-one = joints-first p n h ∙ joints-of-ring p p (n - 1) (sym ring ∙ of-one)
 
   pub joints-none : (p n : ℕ) → n ≤ 0 → allJoints p n ≡ true
   unfolding all neighbours

@@ -429,23 +429,8 @@ fn item_end(job: &[u8], c: Counts, p: usize) -> usize
     job::point(job, c, v)
 }
 
-// The item at p ends at the point where the one at q starts, and neither is of a ring.
-fn is_joint(job: &[u8], c: Counts, p: usize, q: usize) -> bool
-    requires { ⌜ Limited c × (p < 2 ^ 59) × (q < 2 ^ 59) ⌝ }
-    ensures { λ r. ⌜ r ≡ joint (pointsIn (now (job .entry)) c) (edgesIn (now (job .entry)) c) (record { here = itemAt (now (job .entry)) p; next = itemAt (now (job .entry)) q }) ⌝ }
-{
-    if is_ring(job, c, p) {
-        return false;
-    }
-    if is_ring(job, c, q) {
-        return false;
-    }
-    let end = item_end(job, c, p);
-    let start = item_start(job, c, q);
-    end == start
-}
-
-// Each of n items with its successor is a joint, the last with the first.
+// Each of n items with its successor is a joint, the last with the first: none is of a ring, and each starts at the
+// point where the one before ends. An item is read once.
 fn joined(job: &[u8], c: Counts, body: usize, n: usize) -> bool
     requires { ⌜ Limited c × (body + 8 * n < 2 ^ 59) ⌝ }
     ensures { λ r. ⌜ r ≡ all (joint (pointsIn (now (job .entry)) c) (edgesIn (now (job .entry)) c)) (neighbours (itemsFrom (now (job .entry)) body n)) ⌝ }
@@ -453,18 +438,27 @@ fn joined(job: &[u8], c: Counts, body: usize, n: usize) -> bool
     if n == 0 {
         return true;
     }
+    if is_ring(job, c, body) {
+        return false;
+    }
+    let first = item_start(job, c, body);
+    let mut end = item_end(job, c, body);
     let mut p = body;
     let mut left = n - 1;
     while 0 < left {
         let q = p + 8;
-        if is_joint(job, c, p, q) {
-            p = q;
-            left -= 1;
-        } else {
+        if is_ring(job, c, q) {
             return false;
         }
+        let start = item_start(job, c, q);
+        if start != end {
+            return false;
+        }
+        end = item_end(job, c, q);
+        p = q;
+        left -= 1;
     }
-    is_joint(job, c, p, body)
+    end == first
 }
 
 // A ring's use alone, or joints.
