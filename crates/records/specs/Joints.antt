@@ -19,22 +19,27 @@ use Rattle.rules.specs.Sense.{senseOf}
 use Rattle.rules.specs.Job.{unset, edgeAt, ofRing, startBy, endBy, pointAt, startPoint, endPoint}
 use Rattle.rules.specs.Kinds.{numberOf}
 use Rattle.rules.specs.Load.{joint, loneRing, jointed, rightJoints}
+use Rattle.records.specs.declared.Ends.{Ends}
 
 -- the edge of the item at a place, as read
 pub item-ring : (es : List Edge) (s : List ℕ) (p e r : ℕ) → e ≡ le32 s p → r ≡ edgeAt es e .start → eqb r unset ≡ ofRing es (itemAt s p)
 item-ring es s p e r q a = ap (λ v. eqb v unset) (a ∙ ap (λ k. edgeAt es k .start) q)
 
-module _ (points : List ℕ) (es : List Edge) (s : List ℕ) where
-  -- the points where the item at a place starts and ends, as read field by field: edge e, sense t of word w, vertex v, point o
-  pub item-starts : (p e w v o : ℕ) (t : Sense) → e ≡ le32 s p → w ≡ le32 s (p + 4) → t ≡ senseOf w → v ≡ startBy t (edgeAt es e) → o ≡ pointAt points v
-      → o ≡ startPoint points es (itemAt s p)
-  item-starts p e w v o t edge word sense vertex point =
-      point ∙ ap (pointAt points) (vertex ∙ (λ i. startBy ((sense ∙ ap senseOf word) i) (edgeAt es (edge i))))
+-- whether an item is of a ring, and the points where it starts and ends
+abbrev pub endsOf : List ℕ → List Edge → Item → Ends
+endsOf points es x = record { ring = ofRing es x; start = startPoint points es x; end = endPoint points es x }
 
-  pub item-ends : (p e w v o : ℕ) (t : Sense) → e ≡ le32 s p → w ≡ le32 s (p + 4) → t ≡ senseOf w → v ≡ endBy t (edgeAt es e) → o ≡ pointAt points v
-      → o ≡ endPoint points es (itemAt s p)
-  item-ends p e w v o t edge word sense vertex point =
-      point ∙ ap (pointAt points) (vertex ∙ (λ i. endBy ((sense ∙ ap senseOf word) i) (edgeAt es (edge i))))
+module _ (points : List ℕ) (es : List Edge) (s : List ℕ) where
+  -- those of the item at a place, as read field by field: edge e, sense t of word w, the edge's start b, vertices v and u, points o and i
+  pub item-reads : (p e w b v u o i : ℕ) (t : Sense) → e ≡ le32 s p → w ≡ le32 s (p + 4) → t ≡ senseOf w → b ≡ edgeAt es e .start
+      → v ≡ startBy t (edgeAt es e) → u ≡ endBy t (edgeAt es e) → o ≡ pointAt points v → i ≡ pointAt points u
+      → _≡_ {A = Ends} (record { ring = eqb b unset; start = o; end = i }) (endsOf points es (itemAt s p))
+  item-reads p e w b v u o i t edge word sense begin starts ends from to =
+      let turned : t ≡ senseOf (le32 s (p + 4)) = sense ∙ ap senseOf word in
+      let ring : eqb b unset ≡ ofRing es (itemAt s p) = item-ring es s p e b edge begin in
+      let start : o ≡ startPoint points es (itemAt s p) = from ∙ ap (pointAt points) (starts ∙ (λ k. startBy (turned k) (edgeAt es (edge k)))) in
+      let end : i ≡ endPoint points es (itemAt s p) = to ∙ ap (pointAt points) (ends ∙ (λ k. endBy (turned k) (edgeAt es (edge k)))) in
+      λ k. record { ring = ring k; start = start k; end = end k }
 
   -- the items at two places are a joint
   abbrev pub jointAt : ℕ → ℕ → Bool
@@ -68,29 +73,28 @@ module _ (points : List ℕ) (es : List Edge) (s : List ℕ) where
 
   -- from an item at p on that is of no ring and ends at a point
   module _ (f p left end : ℕ) (plain : ofRing es (itemAt s p) ≡ false) (ends : end ≡ endPoint points es (itemAt s p)) where
-    point-decides : (q start : ℕ) (t : Bool) → t ≡ ofRing es (itemAt s q) → t ≡ false → start ≡ startPoint points es (itemAt s q) → jointAt p q ≡ eqb end start
+    ring-decides : (q : ℕ) (x : Ends) → x ≡ endsOf points es (itemAt s q) → x .ring ≡ true → jointAt p q ≡ false
     unfolding joint
-    point-decides q start t ring not-ring starts = rw (plain, ← ring, not-ring, ← ends, ← starts)
+    ring-decides q x are of-one = rw (plain, ← ap (λ (y : Ends). y .ring) are, of-one)
 
-    ring-decides : (q : ℕ) (t : Bool) → t ≡ ofRing es (itemAt s q) → t ≡ true → jointAt p q ≡ false
+    point-decides : (q : ℕ) (x : Ends) → x ≡ endsOf points es (itemAt s q) → x .ring ≡ false → jointAt p q ≡ eqb end (x .start)
     unfolding joint
-    ring-decides q t ring of-one = rw (plain, ← ring, of-one)
+    point-decides q x are of-none = rw (plain, ← ap (λ (y : Ends). y .ring) are, of-none, ← ends, ← ap (λ (y : Ends). y .start) are)
 
-    -- the next item is of a ring; it starts at another point; it starts there; there is none, and the first one starts at a point
-    pub joints-ring : (t : Bool) → 0 < left → t ≡ ofRing es (itemAt s (p + 8)) → t ≡ true → jointsFrom f p left ≡ false
-    joints-ring t h ring of-one = joints-more f p left h ∙ rw (ring-decides (p + 8) t ring of-one)
+    -- the next item is of a ring; it starts at another point; it starts there
+    module _ (x : Ends) (h : 0 < left) (are : x ≡ endsOf points es (itemAt s (p + 8))) where
+      pub joints-ring : x .ring ≡ true → jointsFrom f p left ≡ false
+      joints-ring of-one = joints-more f p left h ∙ rw (ring-decides (p + 8) x are of-one)
 
-    module _ (t : Bool) (start : ℕ) (h : 0 < left) (ring : t ≡ ofRing es (itemAt s (p + 8))) (not-ring : t ≡ false) (starts : start ≡ startPoint points es (itemAt s (p + 8))) where
-      pub joints-apart : (start ≡ end → ⊥) → jointsFrom f p left ≡ false
-      joints-apart apart =
-          joints-more f p left h ∙ rw (point-decides (p + 8) start t ring not-ring starts, ne-eqb end start (λ e. apart (sym e)))
+      pub joints-apart : x .ring ≡ false → (x .start ≡ end → ⊥) → jointsFrom f p left ≡ false
+      joints-apart of-none apart = joints-more f p left h ∙ rw (point-decides (p + 8) x are of-none, ne-eqb end (x .start) (λ e. apart (sym e)))
 
-      pub joints-on : start ≡ end → jointsFrom f p left ≡ jointsFrom f (p + 8) (left - 1)
-      joints-on meets = joints-more f p left h ∙ rw (point-decides (p + 8) start t ring not-ring starts, eq-eqb end start (sym meets))
+      pub joints-on : x .ring ≡ false → x .start ≡ end → jointsFrom f p left ≡ jointsFrom f (p + 8) (left - 1)
+      joints-on of-none meets = joints-more f p left h ∙ rw (point-decides (p + 8) x are of-none, eq-eqb end (x .start) (sym meets))
 
-    pub joints-last : (t : Bool) (first : ℕ) → left ≤ 0 → t ≡ ofRing es (itemAt s f) → t ≡ false → first ≡ startPoint points es (itemAt s f)
-        → jointsFrom f p left ≡ eqb end first
-    joints-last t first h ring not-ring starts = joints-one f p left h ∙ point-decides f first t ring not-ring starts
+    -- there is none: the first one decides
+    pub joints-last : (x : Ends) → left ≤ 0 → x ≡ endsOf points es (itemAt s f) → x .ring ≡ false → jointsFrom f p left ≡ eqb end (x .start)
+    joints-last x h are of-none = joints-one f p left h ∙ point-decides f x are of-none
 
   -- all joints of n items from p on
   abbrev pub allJoints : ℕ → ℕ → Bool
@@ -101,8 +105,9 @@ module _ (points : List ℕ) (es : List Edge) (s : List ℕ) where
   unfolding neighbours
   joints-first p n h = ap (λ l. all (joint points es) (neighbours l)) (item-more n s p h)
 
-  pub joints-none-of-ring : (p n : ℕ) (t : Bool) → 0 < n → t ≡ ofRing es (itemAt s p) → t ≡ true → allJoints p n ≡ false
-  joints-none-of-ring p n t h ring of-one = joints-first p n h ∙ joints-of-ring p p (n - 1) (sym ring ∙ of-one)
+  -- at the first, which is of a ring
+  pub joints-of-first : (p n : ℕ) (x : Ends) → 0 < n → x ≡ endsOf points es (itemAt s p) → x .ring ≡ true → allJoints p n ≡ false
+  joints-of-first p n x h are of-one = joints-first p n h ∙ joints-of-ring p p (n - 1) (sym (ap (λ (y : Ends). y .ring) are) ∙ of-one)
 
   pub joints-none : (p n : ℕ) → n ≤ 0 → allJoints p n ≡ true
   unfolding all neighbours

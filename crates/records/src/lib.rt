@@ -11,11 +11,12 @@ ghost use lib.Dec.{eqb, ltb, leb};
 ghost use Rattle.lists.specs.Lists.{all, neighbours};
 ghost use Rattle.rules.specs.Fields.{le32, fieldsIn};
 ghost use Rattle.rules.specs.FieldLaws.{itemAt, itemsFrom};
-ghost use Rattle.rules.specs.Job.{ofRing, startPoint, endPoint};
+ghost use Rattle.rules.specs.Job.{ofRing};
 ghost use Rattle.rules.specs.Kinds.{isAnswer, inTurn, isSense, exists, endsPermitted, itemsPermitted, fieldsPermitted, rightLength, rightPosition, limitPassed};
 ghost use Rattle.rules.specs.Load.{joint, jointed as jointedOf, rightJoints, counted};
 ghost use Rattle.theorems.specs.Sound.{Limited};
 ghost use Rattle.job.specs.Lists.{pointsIn, edgesIn};
+ghost use Rattle.records.specs.Joints.{endsOf};
 
 // LENGTH AND POSITION
 
@@ -408,29 +409,32 @@ fn is_ring(job: &[u8], c: Counts, p: usize) -> bool
     start == UNSET
 }
 
-// The points where the item at a place starts and ends.
-fn item_start(job: &[u8], c: Counts, p: usize) -> usize
-    requires { ⌜ Limited c × (p < 2 ^ 59) ⌝ }
-    ensures { λ r. ⌜ r ≡ startPoint (pointsIn (now (job .entry)) c) (edgesIn (now (job .entry)) c) (itemAt (now (job .entry)) p) ⌝ }
-{
-    let e = word(job, p);
-    let s = job::sense_of(word(job, p + 4));
-    let v = job::start_by(job, c, e, s);
-    job::point(job, c, v)
+// Whether an item is of a ring, and the points where it starts and ends.
+struct Ends {
+    ring: bool,
+    start: usize,
+    end: usize,
 }
 
-fn item_end(job: &[u8], c: Counts, p: usize) -> usize
+// Those of the item at a place; its edge, vertices and points are read once.
+fn item_ends(job: &[u8], c: Counts, p: usize) -> Ends
     requires { ⌜ Limited c × (p < 2 ^ 59) ⌝ }
-    ensures { λ r. ⌜ r ≡ endPoint (pointsIn (now (job .entry)) c) (edgesIn (now (job .entry)) c) (itemAt (now (job .entry)) p) ⌝ }
+    ensures { λ r. ⌜ r ≡ endsOf (pointsIn (now (job .entry)) c) (edgesIn (now (job .entry)) c) (itemAt (now (job .entry)) p) ⌝ }
 {
     let e = word(job, p);
     let s = job::sense_of(word(job, p + 4));
-    let v = job::end_by(job, c, e, s);
-    job::point(job, c, v)
+    let start = job::edge_start(job, c, e);
+    let v = job::start_by(job, c, e, s);
+    let w = job::end_by(job, c, e, s);
+    Ends {
+        ring: start == UNSET,
+        start: job::point(job, c, v),
+        end: job::point(job, c, w),
+    }
 }
 
 // Each of n items with its successor is a joint, the last with the first: none is of a ring, and each starts at the
-// point where the one before ends. An item is read once.
+// point where the one before ends.
 fn joined(job: &[u8], c: Counts, body: usize, n: usize) -> bool
     requires { ⌜ Limited c × (body + 8 * n < 2 ^ 59) ⌝ }
     ensures { λ r. ⌜ r ≡ all (joint (pointsIn (now (job .entry)) c) (edgesIn (now (job .entry)) c)) (neighbours (itemsFrom (now (job .entry)) body n)) ⌝ }
@@ -438,27 +442,27 @@ fn joined(job: &[u8], c: Counts, body: usize, n: usize) -> bool
     if n == 0 {
         return true;
     }
-    if is_ring(job, c, body) {
+    let first = item_ends(job, c, body);
+    if first.ring {
         return false;
     }
-    let first = item_start(job, c, body);
-    let mut end = item_end(job, c, body);
+    let mut end = first.end;
     let mut p = body;
     let mut left = n - 1;
     while 0 < left {
         let q = p + 8;
-        if is_ring(job, c, q) {
+        let next = item_ends(job, c, q);
+        if next.ring {
             return false;
         }
-        let start = item_start(job, c, q);
-        if start != end {
+        if next.start != end {
             return false;
         }
-        end = item_end(job, c, q);
+        end = next.end;
         p = q;
         left -= 1;
     }
-    end == first
+    end == first.start
 }
 
 // A ring's use alone, or joints.
