@@ -423,11 +423,11 @@ fn item_ends(job: &[u8], c: Counts, p: usize) -> Ends
 {
     let e = word(job, p);
     let s = job::sense_of(word(job, p + 4));
-    let start = job::edge_start(job, c, e);
+    let ring = job::edge_start(job, c, e) == UNSET;
     let v = job::start_by(job, c, e, s);
     let w = job::end_by(job, c, e, s);
     Ends {
-        ring: start == UNSET,
+        ring,
         start: job::point(job, c, v),
         end: job::point(job, c, w),
     }
