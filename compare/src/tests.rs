@@ -196,6 +196,23 @@ fn split_vertices_change_no_answer() {
     assert!(more > 500, "{more} jobs have more vertices");
 }
 
+/// docs/SPEED.md has the times of these jobs: they stay as first drawn.
+#[test]
+fn timed_jobs_stay_as_drawn() {
+    let drawn = [
+        (1_300, 1_920),
+        (938, 10_440),
+        (1_478, 17_434),
+        (3_279, 34_774),
+        (2_729, 42_976),
+        (3_022, 47_022),
+    ];
+    for (index, bytes) in drawn {
+        let job = generate::sample(5, index).job;
+        assert_eq!(job.len(), bytes, "job {index}");
+    }
+}
+
 #[test]
 fn every_limit_is_reached_and_passed() {
     for sort in 0..limits::SORTS {
