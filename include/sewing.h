@@ -64,7 +64,7 @@ enum zaxclover_job_kind {
 
 /* The records of a body, in the order of document 01's part P9. */
 enum zaxclover_body_kind {
-    ZAXCLOVER_BODY = 21,             /* 0 Empty or 1 Solid, uses, removed, passed in total, joins, rings */
+    ZAXCLOVER_BODY = 21,             /* 0 Empty or 1 Solid, uses, removed, passed in total, joins, rings, face joins */
     ZAXCLOVER_BODY_VERTEX = 22,      /* point */
     ZAXCLOVER_BODY_EDGE = 23,        /* curve, sense, start, end; none in both: a ring */
     ZAXCLOVER_BODY_FACE = 24,        /* surface, sense */

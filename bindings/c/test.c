@@ -126,8 +126,9 @@ static void test_listing(const uint8_t *job, size_t length)
     uint8_t whole[1024];
     size_t value;
     size_t number = zaxclover_sew(job, length, out, sizeof out, &value);
+    expect(out[4] == ZAXCLOVER_BODY && out[30] == 1, "sew", "the face joins of P9");
     size_t needed = zaxclover_listing(number, value, out, sizeof out, whole, sizeof whole);
-    expect(needed < sizeof whole && memcmp(whole, "body 1 6 2 2 0 0\n", 17) == 0, "listing", "the body of P9");
+    expect(needed < sizeof whole && memcmp(whole, "body 1 6 2 2 0 0 1\n", 19) == 0, "listing", "the body of P9");
     for (size_t room = 0; room <= needed + 1; room++) {
         uint8_t *page = marked(room);
         size_t shown = room < needed ? room : needed;

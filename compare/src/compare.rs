@@ -1,6 +1,8 @@
 //! Holds the reference against the second implementation on one job.
 
+use crate::compared::{compared, in_room, lacking};
 use crate::features::features;
+use crate::records;
 use crate::second::{self, Job, Refusal, Stage, Trail};
 use crate::text;
 use reference::Ending;
@@ -49,8 +51,11 @@ fn compare_loaded(bytes: &[u8], job: &Job, room: usize) -> Compared {
     let trail = second::sew(job, &mut &job.answers);
     let mut differences = verdict.oddities.clone();
     compare_stages(&trail, &verdict.stages, &mut differences);
+    let whole = second::sew_output(&trail, usize::MAX).unwrap_or_default();
+    differences.extend(unlike_faces(job, &whole));
     let body = second::sew_output(&trail, room);
-    compare_bodies(&body, in_room(verdict.body, room), &mut differences);
+    let reference = in_room(verdict.body, lacking(&whole), room);
+    compare_bodies(&body, reference, &mut differences);
     compare_questions(&trail, &verdict.asked, &mut differences);
     let kinds = trail.asked.iter().map(|question| question.kind());
     let features = match body {
@@ -66,13 +71,14 @@ fn compare_loaded(bytes: &[u8], job: &Job, room: usize) -> Compared {
     }
 }
 
-/// 40 has no counterpart either, but its condition can be told.
-pub fn in_room(body: Result<Vec<u8>, Ending>, room: usize) -> Result<Vec<u8>, Ending> {
-    let body = body?;
-    if body.len() > room {
-        return Err((40, body.len() as u32));
-    }
-    Ok(body)
+/// Faces selected less face joins equals faces written.
+fn unlike_faces(job: &Job, body: &[u8]) -> Option<String> {
+    let (list, _) = records::split(body);
+    let (_, totals) = list.first()?;
+    let (selected, joins) = (job.faces.len(), totals[6] as usize);
+    let written = list.iter().filter(|(kind, _)| *kind == 24).count();
+    let told = format!("{selected} faces selected, {joins} face joins, {written} faces written");
+    (selected != joins + written).then_some(told)
 }
 
 fn ending(refusal: Refusal) -> Ending {
@@ -98,7 +104,7 @@ fn compare_bodies(
     reference: Result<Vec<u8>, Ending>,
     differences: &mut Vec<String>,
 ) {
-    let ours = ours.clone().map_err(ending);
+    let ours = ours.as_deref().map(compared).map_err(|r| ending(*r));
     if ours != reference {
         differences.push(format!(
             "sewing: reference {}, second {}",

@@ -76,7 +76,10 @@ fn note_faces(job: &Job, trail: &Trail, found: &mut Found) {
     if let Some(merged) = &trail.merged {
         let biggest = counts(merged.number.iter().copied()).into_values().max();
         found.note("three faces or more merged", biggest.unwrap_or(0) > 2);
+        found.note("a face join", merged.joins > 0);
+        found.note("three face joins or more", merged.joins > 2);
     }
+    note_groups(job, trail, found);
     if let Some(loops) = &trail.loops {
         let biggest = counts(loops.iter().map(|l| l.face)).into_values().max();
         found.note("several loops in a face", biggest.unwrap_or(0) > 1);
@@ -86,6 +89,39 @@ fn note_faces(job: &Job, trail: &Trail, found: &mut Found) {
     let kept = trail.vertex_loops.as_ref().map_or(0, Vec::len);
     found.note("a vertex loop kept", kept > 0);
     found.note("a vertex loop dropped", kept < stored);
+}
+
+/// How surface answers meet groups that others have joined.
+fn note_groups(job: &Job, trail: &Trail, found: &mut Found) {
+    let (Some(reading), Some(twins)) = (&trail.reading, &trail.twins) else {
+        return;
+    };
+    let mut group: Vec<usize> = (0..job.faces.len()).collect();
+    let [mut within, mut one_higher, mut both_higher] = [false; 3];
+    for question in &trail.asked {
+        let Question::Surface { lower_use } = question else {
+            continue;
+        };
+        let h = *lower_use as usize;
+        let (a, b) = (reading.uses[h].face, reading.uses[twins[h]].face);
+        let equal = reading.senses[a] == reading.senses[b];
+        let value = if equal { 1 } else { 2 };
+        if job.answers.get(question) != Some(&Reply::Value(value)) {
+            continue;
+        }
+        let (low, high) = (group[a].min(group[b]), group[a].max(group[b]));
+        within |= low == high;
+        one_higher |= low != high && (group[a] < a || group[b] < b);
+        both_higher |= low != high && group[a] < a && group[b] < b;
+        let of_high = group.iter_mut().filter(|of| **of == high);
+        of_high.for_each(|of| *of = low);
+    }
+    found.note("an answer within one group", within);
+    found.note("a face join through a face that is not lowest", one_higher);
+    found.note(
+        "a face join through two faces that are not lowest",
+        both_higher,
+    );
 }
 
 fn note_turns(trail: &Trail, found: &mut Found) {

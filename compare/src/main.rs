@@ -5,6 +5,7 @@ mod answer;
 mod bench;
 mod cli;
 mod compare;
+mod compared;
 mod features;
 mod generate;
 mod parts;

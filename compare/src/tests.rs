@@ -3,6 +3,7 @@
 
 use crate::answer::{Wanted, answer};
 use crate::compare::{ROOM, compare};
+use crate::compared::{compared, compared_lines, in_room, lacking};
 use crate::generate::rng::Rng;
 use crate::generate::split::split_vertices;
 use crate::generate::{self, Sample, limits};
@@ -65,7 +66,7 @@ fn parts_of_the_requests_give_what_their_files_say() {
         );
         seen += 1;
     }
-    assert!(seen >= 14, "{seen} parts");
+    assert!(seen >= 20, "{seen} parts");
 }
 
 #[test]
@@ -76,22 +77,22 @@ fn reference_agrees_on_the_parts() {
     }
 }
 
-/// The lines that document 01 itself gives.
+/// The lines that document 01 itself gives, with the face joins of document 02.
 #[test]
 fn parts_have_the_lines_of_the_paper() {
     let given: [(usize, &[&str]); 9] = [
-        (1, &["body 0 0 0 0 0 0"]),
+        (1, &["body 0 0 0 0 0 0 0"]),
         (2, &["edge 5 0 - -", "shell 0 1"]),
-        (3, &["body 1 2 2 0 0 0", "face 7 0"]),
+        (3, &["body 1 2 2 0 0 0 1", "face 7 0"]),
         (4, &["refused 10 0"]),
         (5, &["refused 11 0"]),
         (6, &["refused 6 50"]),
         (
             7,
-            &["body 1 4 0 0 1 1", "edge 5 1 - -", "loop 0 1", "loop 0 0"],
+            &["body 1 4 0 0 1 1 0", "edge 5 1 - -", "loop 0 1", "loop 0 0"],
         ),
         (8, &["edge 5 0 0 0"]),
-        (9, &["body 1 6 2 2 0 0", "loop 0 0 1 0", "loop 1 1 0 1"]),
+        (9, &["body 1 6 2 2 0 0 1", "loop 0 0 1 0", "loop 1 1 0 1"]),
     ];
     for (number, lines) in given {
         let listing = listing(&part(number).0);
@@ -194,6 +195,50 @@ fn split_vertices_change_no_answer() {
         }
     }
     assert!(more > 500, "{more} jobs have more vertices");
+}
+
+/// Request Six: surface answers join faces that are in a group already, and
+/// answer within one, in drawn jobs and in stored ones.
+#[test]
+fn face_joins_are_met() {
+    let drawn = (0..500).map(|index| generate::sample(1, index).job);
+    for jobs in [drawn.collect(), stored_jobs()] {
+        let features = jobs.iter().flat_map(|job| compare(job, ROOM).features);
+        let met: Vec<&str> = features.collect();
+        for name in [
+            "a face join",
+            "three face joins or more",
+            "a face join through a face that is not lowest",
+            "a face join through two faces that are not lowest",
+            "an answer within one group",
+        ] {
+            let count = met.iter().filter(|&&feature| feature == name).count();
+            assert!(count >= 5, "{name}: {count}");
+        }
+    }
+}
+
+/// The reference is compared on all but the face joins.
+#[test]
+fn a_body_is_compared_without_its_face_joins() {
+    let (job, _) = part(9);
+    let loaded = second::load(&job).expect("P9 loads");
+    let trail = second::sew(&loaded, &mut &loaded.answers);
+    let body = second::sew_output(&trail, ROOM).expect("P9 is accepted");
+    let lines = text::listing(&body).replace("body 1 6 2 2 0 0 1", "body 1 6 2 2 0 0");
+    assert_eq!(text::listing(&compared(&body)), lines);
+    assert_eq!(compared_lines(&text::listing(&body)), lines);
+    assert_eq!(lacking(&body), 4);
+    let reference = compared(&body);
+    let needed = body.len();
+    assert_eq!(
+        in_room(Ok(reference.clone()), 4, needed),
+        Ok(reference.clone())
+    );
+    assert_eq!(
+        in_room(Ok(reference), 4, needed - 1),
+        Err((40, needed as u32))
+    );
 }
 
 /// docs/SPEED.md has the times of these jobs: they stay as first drawn.

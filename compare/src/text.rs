@@ -27,6 +27,12 @@ pub fn listing(body: &[u8]) -> String {
     text
 }
 
+/// The kind that a line of a listing names.
+pub fn kind_named(word: &str) -> Option<u16> {
+    let named = KINDS.iter().find(|(_, name)| *name == word);
+    named.map(|(kind, _)| *kind)
+}
+
 /// Lines of decimal fields.
 pub fn field_lines(list: &[Vec<u32>]) -> String {
     let mut text = String::new();

@@ -4,8 +4,8 @@
 //! ```
 //! let job = [4, 0, 0, 0, 1, 0, 0, 0, 0, 0]; // Head only
 //! let mut out = [0u8; 64];
-//! assert_eq!(zaxclover::sew(&job, &mut out), Ok(30));
-//! assert_eq!(zaxclover::listing(&job).unwrap(), "body 0 0 0 0 0 0\n");
+//! assert_eq!(zaxclover::sew(&job, &mut out), Ok(34));
+//! assert_eq!(zaxclover::listing(&job).unwrap(), "body 0 0 0 0 0 0 0\n");
 //! assert_eq!(zaxclover::list(&job[..5]), "refused 2 0\n");
 //! ```
 //!

@@ -87,7 +87,44 @@ fn parts_of_the_requests_list_as_their_files_say() {
         assert_eq!(shown(&job), expected, "{name}");
         seen += 1;
     }
-    assert!(seen >= 14, "{seen} parts");
+    assert!(seen >= 20, "{seen} parts");
+}
+
+/// Request Six: the last number of the body's line, for P1 to P9 and the parts made for it.
+#[test]
+fn faces_selected_less_face_joins_are_the_faces_written() {
+    let joins = [
+        ("P1.txt", 0),
+        ("P2.txt", 0),
+        ("P3.txt", 1),
+        ("P7.txt", 0),
+        ("P8.txt", 0),
+        ("P9.txt", 1),
+        ("requests/six-joined-once.txt", 1),
+        ("requests/six-second-in-group.txt", 2),
+        ("requests/six-first-in-group.txt", 2),
+        ("requests/six-pairs.txt", 3),
+        ("requests/six-round.txt", 2),
+        ("requests/six-in-vain.txt", 1),
+    ];
+    for (name, joins) in joins {
+        let (job, _) = part(name);
+        let body = body(&job).expect("an accepted part");
+        let told = u32::from_le_bytes([body[30], body[31], body[32], body[33]]);
+        assert_eq!(told, joins, "{name}");
+        assert_eq!(records(&job, 4), told + records(&body, 24), "{name}");
+    }
+}
+
+/// How many records of a kind there are.
+fn records(bytes: &[u8], kind: u16) -> u32 {
+    let (mut at, mut count) = (0, 0);
+    while at < bytes.len() {
+        let length = u32::from_le_bytes([bytes[at], bytes[at + 1], bytes[at + 2], bytes[at + 3]]);
+        count += u32::from(u16::from_le_bytes([bytes[at + 4], bytes[at + 5]]) == kind);
+        at += 6 + length as usize;
+    }
+    count
 }
 
 #[test]

@@ -1,6 +1,7 @@
 //! What each program answers to a job: sewing and the eleven stages.
 
-use crate::compare::{ROOM, in_room};
+use crate::compare::ROOM;
+use crate::compared::{compared, compared_lines, in_room, lacking};
 use crate::records::field_bytes;
 use crate::second::{self, Stage};
 use crate::text;
@@ -29,6 +30,15 @@ impl Answers {
             stages,
             body,
             listing,
+        }
+    }
+
+    /// The answers with what the reference has too.
+    pub fn compared(&self) -> Self {
+        Self {
+            stages: self.stages.clone(),
+            body: self.body.as_deref().map(compared).map_err(|ending| *ending),
+            listing: compared_lines(&self.listing),
         }
     }
 
@@ -102,6 +112,8 @@ pub fn reference(job: &[u8]) -> (Answers, Vec<String>) {
     let verdict = reference::observe(job);
     let bytes = |records: reference::Records| field_bytes(&records.concat());
     let stages = verdict.stages.into_iter().map(|stage| stage.map(bytes));
-    let body = in_room(verdict.body, ROOM);
+    let whole = second::load(job).map(|loaded| second::sew(&loaded, &mut &loaded.answers));
+    let lacking = sew_answer(&whole, usize::MAX).map_or(0, |body| lacking(&body));
+    let body = in_room(verdict.body, lacking, ROOM);
     (Answers::listed(stages.collect(), body), verdict.oddities)
 }

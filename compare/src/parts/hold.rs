@@ -70,8 +70,14 @@ pub fn hold(job: &[u8], programs: &Programs) -> Held {
     let names = [programs.name, name];
     let mut differences: Vec<Difference> = odd;
     match (&tested, &other) {
+        (Ok(ours), Ok(theirs)) if loads => {
+            compare(&ours.compared(), theirs, names, &mut differences)
+        }
         (Ok(ours), Ok(theirs)) => compare(ours, theirs, names, &mut differences),
         _ => differences.extend(stops(names, [&tested, &other])),
+    }
+    if loads && programs.name != SECOND && differences.is_empty() {
+        differences.extend(left_out(job, programs.name, &tested));
     }
     let asked = loads && programs.name != SECOND && !differences.is_empty();
     Held {
@@ -139,13 +145,28 @@ fn uses(answers: &Answers) -> Option<usize> {
     Some(split::records(Stage::Read, read).len())
 }
 
+/// What the reference is not compared on is held against the second
+/// implementation.
+fn left_out(job: &[u8], name: &str, tested: &Given) -> Vec<Difference> {
+    let mut differences = Vec::new();
+    if let (Ok(ours), Ok(theirs)) = (tested, &caught(|| answers::second(job))) {
+        compare(ours, theirs, [name, SECOND], &mut differences);
+    }
+    differences
+}
+
 /// With whom the second implementation agrees.
-fn third(job: &[u8], names: [&str; 2], given: [&Given; 2]) -> String {
+fn third(job: &[u8], names: [&str; 2], [tested, reference]: [&Given; 2]) -> String {
     let second = caught(|| answers::second(job));
+    let compared = second.as_ref().ok().map(Answers::compared);
+    let agrees = [
+        second.is_ok() && second == *tested,
+        compared.is_some() && compared.as_ref() == reference.as_ref().ok(),
+    ];
     let alike: Vec<&str> = names
         .into_iter()
-        .zip(given)
-        .filter(|(_, given)| second.is_ok() && second == **given)
+        .zip(agrees)
+        .filter(|(_, agrees)| *agrees)
         .map(|(name, _)| name)
         .collect();
     match alike[..] {

@@ -8,6 +8,7 @@ use super::{csv, loops, page, report, split};
 use crate::generate;
 use crate::records::{self, fields_of};
 use crate::second::Stage;
+use crate::text;
 use std::path::PathBuf;
 
 fn part(number: usize) -> Vec<u8> {
@@ -75,6 +76,21 @@ fn lists_wrongly(job: &[u8]) -> Answers {
     answers
 }
 
+/// A program that counts one face join too many, in the body and its listing.
+fn counts_a_join_more(job: &[u8]) -> Answers {
+    let mut answers = answers::second(job);
+    if let Ok(body) = &mut answers.body {
+        body[30] += 1;
+        answers.listing = text::listing(body);
+    }
+    answers
+}
+
+/// A program that leaves the face joins out.
+fn counts_no_joins(job: &[u8]) -> Answers {
+    answers::second(job).compared()
+}
+
 fn refuses_all(job: &[u8]) -> Answers {
     let mut answers = answers::second(job);
     answers.body = Err((13, 0));
@@ -122,6 +138,21 @@ fn a_wrong_place_is_noticed() {
 fn a_wrong_listing_is_noticed() {
     let wanted = "listing: record 9: library `lamp`, reference `lump`";
     assert_eq!(told(&held(9, lists_wrongly)), [wanted]);
+}
+
+/// The reference has no face joins; the second implementation has.
+#[test]
+fn wrong_face_joins_are_noticed() {
+    let third = "the second implementation agrees with the reference";
+    for (tested, body) in [
+        (counts_a_join_more as fn(&[u8]) -> Answers, ".. 6 2 2 0 0 2"),
+        (counts_no_joins, ".. 6 2 2 0 0"),
+    ] {
+        let held = held(9, tested);
+        let wanted = format!("body records: record 0: library `{body}`, second `.. 6 2 2 0 0 1`");
+        assert_eq!(told(&held), [wanted]);
+        assert_eq!(held.third.as_deref(), Some(third));
+    }
 }
 
 #[test]

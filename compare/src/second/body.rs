@@ -44,7 +44,7 @@ pub fn body(parts: &Parts) -> Vec<BodyRecord> {
     records
 }
 
-/// Empty or Solid, uses, removed, passed in total, joins, rings.
+/// Empty or Solid, uses, removed, passed in total, joins, rings, face joins.
 fn head(parts: &Parts) -> Vec<u32> {
     let solid = !parts.job.faces.is_empty();
     let kept = parts.steps.iter().flatten();
@@ -57,6 +57,7 @@ fn head(parts: &Parts) -> Vec<u32> {
         passed,
         parts.joined.joins,
         parts.joined.rings,
+        parts.merged.joins,
     ]
 }
 

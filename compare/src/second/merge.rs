@@ -12,6 +12,8 @@ pub struct Merged {
     pub group: Vec<usize>,
     /// The lowest faces of the groups, ascending: the merged faces by number.
     pub lowest: Vec<usize>,
+    /// Surface questions whose answer joined two groups that were separate.
+    pub joins: u32,
     /// Merged face of each selected face.
     pub number: Vec<usize>,
     /// Whether each use is removed.
@@ -21,7 +23,7 @@ pub struct Merged {
 pub fn merge(reading: &Reading, twins: &[usize], asker: &mut Asker) -> Result<Merged, Refusal> {
     let faces = 0..reading.senses.len();
     let boundaries = boundaries(reading, twins);
-    let groups = groups(reading, twins, asker)?;
+    let (groups, joins) = groups(reading, twins, asker)?;
     let group: Vec<usize> = faces.clone().map(|f| groups.lowest(f)).collect();
     let lowest: Vec<usize> = faces.clone().filter(|&f| group[f] == f).collect();
     let below = |f: usize| lowest.iter().filter(|&&other| other < f).count();
@@ -30,6 +32,7 @@ pub fn merge(reading: &Reading, twins: &[usize], asker: &mut Asker) -> Result<Me
         boundary: faces.map(|f| boundaries.lowest(f)).collect(),
         number: number.collect(),
         removed: removed(reading, twins, &group),
+        joins,
         group,
         lowest,
     })
@@ -44,9 +47,15 @@ fn boundaries(reading: &Reading, twins: &[usize]) -> Partition {
     boundaries
 }
 
-/// Groups join where the surface is the same and the normals fit the senses.
-fn groups(reading: &Reading, twins: &[usize], asker: &mut Asker) -> Result<Partition, Refusal> {
+/// Groups join where the surface is the same and the normals fit the senses;
+/// and how many questions changed them.
+fn groups(
+    reading: &Reading,
+    twins: &[usize],
+    asker: &mut Asker,
+) -> Result<(Partition, u32), Refusal> {
     let mut groups = Partition::new(reading.senses.len());
+    let mut joins = 0;
     for (h, &twin) in twins.iter().enumerate() {
         let (a, b) = (reading.uses[h].face, reading.uses[twin].face);
         if h > twin || a == b {
@@ -54,12 +63,12 @@ fn groups(reading: &Reading, twins: &[usize], asker: &mut Asker) -> Result<Parti
         }
         if let Some(normals_agree) = asker.surface(h)? {
             let senses_equal = reading.senses[a] == reading.senses[b];
-            if normals_agree == senses_equal {
-                groups.join(a, b);
+            if normals_agree == senses_equal && groups.join(a, b) {
+                joins += 1;
             }
         }
     }
-    Ok(groups)
+    Ok((groups, joins))
 }
 
 /// A use goes when its face and its twin's have one group; so does a seam.

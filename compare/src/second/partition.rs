@@ -17,16 +17,18 @@ impl Partition {
     }
 
     /// Unites two parts by naming all members of the one after the other.
-    pub fn join(&mut self, a: usize, b: usize) {
+    /// Tells whether they were separate.
+    pub fn join(&mut self, a: usize, b: usize) -> bool {
         let (a, b) = (self.lowest[a], self.lowest[b]);
         let (low, high) = (a.min(b), a.max(b));
         if low == high {
-            return;
+            return false;
         }
         for name in &mut self.lowest {
             if *name == high {
                 *name = low;
             }
         }
+        true
     }
 }

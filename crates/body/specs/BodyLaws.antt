@@ -44,13 +44,13 @@ module _ (met t : List ℕ) (count : ℕ) (n : Numbering met t count) where
       ∙ sym (flatMap-map framed edgeRecord (map (withVertices met) (stillActive es)) ∙ flatMap-map (λ e. framed (edgeRecord e)) (withVertices met) (stillActive es)
       ∙ flatMap-keep (λ x. framed (edgeRecord (withVertices met x))) (λ x. x .active) es)
 
-pub vertices-and-edges-wrote : (starts before mid after vertices : List ℕ) (es : List EdgeData) (count q : ℕ) → Meeting starts before 30 (metFans (stillActive es)) vertices mid count
-    → Wrote mid (30 + 10 * count) (flatMap (edgeRow vertices count) es) after q → Wrote before 30 (vertexAndEdgeBytes starts es) after q
+pub vertices-and-edges-wrote : (starts before mid after vertices : List ℕ) (es : List EdgeData) (count q : ℕ) → Meeting starts before 34 (metFans (stillActive es)) vertices mid count
+    → Wrote mid (34 + 10 * count) (flatMap (edgeRow vertices count) es) after q → Wrote before 34 (vertexAndEdgeBytes starts es) after q
 unfolding vertexAndEdgeBytes fanBytes
 vertices-and-edges-wrote starts before mid after vertices es count q M w =
     let met : List ℕ = metFans (stillActive es) in
     let edges : List ℕ = framedAll (map edgeRecord (map (withVertices met) (stillActive es))) in
-    wrote-more before mid after (fanBytes starts met) edges 30 (30 + 10 * count) q (M .wrote) (wrote-as (flatMap (edgeRow vertices count) es) edges mid after (30 + 10 * count) q (edges-are met vertices count (M .numbers) es) w)
+    wrote-more before mid after (fanBytes starts met) edges 34 (34 + 10 * count) q (M .wrote) (wrote-as (flatMap (edgeRow vertices count) es) edges mid after (34 + 10 * count) q (edges-are met vertices count (M .numbers) es) w)
 
 -- FACES
 
@@ -140,7 +140,7 @@ module _ (totals : Totals) (fs : List Face) (starts : List ℕ) (es : List EdgeD
       (append-assoc (framedAll vertices) (framedAll edges) (framedAll faces ++ framedAll rest)
       ∙ sym (flatMap-append framed vertices (edges ++ (faces ++ rest)) ∙ ap (λ r. framedAll vertices ++ r) (flatMap-append framed edges (faces ++ rest) ∙ ap (λ r. framedAll edges ++ r) (flatMap-append framed faces rest))))
 
-  pub body-wrote : (before a b c d : List ℕ) (p q r s : ℕ) → p ≡ 30 → Wrote before 0 (framed (totalsRecord totals)) a p → Wrote a 30 (vertexAndEdgeBytes starts es) b q
+  pub body-wrote : (before a b c d : List ℕ) (p q r s : ℕ) → p ≡ 34 → Wrote before 0 (framed (totalsRecord totals)) a p → Wrote a 34 (vertexAndEdgeBytes starts es) b q
       → Wrote b q (framedAll (flatMap faceRecords (bodyFaces fs (activeEdges es) ls ks 0 members))) c r → Wrote c r (framedAll (flatMap lumpRecords lumps)) d s
       → Wrote before 0 (framedAll (bodyRecords (solidBody totals fs starts es ls members ks lumps))) d s
   body-wrote before a b c d p q r s e u v w x =
@@ -153,11 +153,11 @@ module _ (totals : Totals) (fs : List Face) (starts : List ℕ) (es : List EdgeD
 
 -- the empty body
 abbrev emptyTotals : Record
-emptyTotals = rec 21 (0 ∷ 0 ∷ 0 ∷ 0 ∷ 0 ∷ 0 ∷ [])
+emptyTotals = rec 21 (0 ∷ 0 ∷ 0 ∷ 0 ∷ 0 ∷ 0 ∷ 0 ∷ [])
 
 pub empty-is : framed emptyTotals ≡ framedAll (bodyRecords emptyBody)
 unfolding bodyRecords flatMap
 empty-is = sym (append-nil (framed emptyTotals))
 
-pub empty-size : 30 ≡ 0 + length (framedAll (bodyRecords emptyBody))
-empty-size = omega (arith, length-record 21 (0 ∷ 0 ∷ 0 ∷ 0 ∷ 0 ∷ 0 ∷ []), ap length empty-is)
+pub empty-size : 34 ≡ 0 + length (framedAll (bodyRecords emptyBody))
+empty-size = omega (arith, length-record 21 (0 ∷ 0 ∷ 0 ∷ 0 ∷ 0 ∷ 0 ∷ 0 ∷ []), ap length empty-is)

@@ -24,7 +24,7 @@ use Rattle.body.specs.Numbers.{numberOf, vertexIn}
 
 -- the totals of a solid body
 abbrev pub totalsIn : Totals → RulesTotals
-totalsIn t = record { solid = true; uses = t .uses; removed = t .removed; passed = t .passed; joins = t .joins; rings = t .rings }
+totalsIn t = record { solid = true; uses = t .uses; removed = t .removed; passed = t .passed; joins = t .joins; rings = t .rings; faceJoins = t .merges }
 
 -- VERTICES AND EDGES
 

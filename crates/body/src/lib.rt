@@ -34,13 +34,14 @@ ghost use Rattle.body.specs.Vertices.{EndOk, EndsOk, Meeting, metBelow, 
 ghost use Rattle.body.specs.Rows.{totalsIn, vertexAndEdgeBytes, edgeRow, itemRow, loopRow, loopRows, vertexLoopRow, vertexLoopRows, faceHead, shellFaceRow, voidRow, voidRows, lumpRow};
 ghost use Rattle.body.specs.Sized.{LoopsSized, BodySized};
 
-// How many uses, removed uses, uses passed over, joins and rings there were.
+// How many uses, removed uses, uses passed over, joins, rings and face joins there were.
 pub struct Totals {
     pub uses: usize,
     pub removed: usize,
     pub passed: usize,
     pub joins: usize,
     pub rings: usize,
+    pub merges: usize,
 }
 
 // RECORDS
@@ -65,12 +66,13 @@ fn put_one(out: &mut [u8], at: usize, kind: usize, a: usize) -> usize
 
 // Kind 21 at the output's start: 0 for an empty body or 1 for a solid, and the totals.
 fn put_totals(out: &mut [u8], solid: usize, t: Totals) -> usize
-    ensures { λ r. ⌜ Wrote (now (out .entry)) 0 (framed (rec 21 (solid ∷ t .uses ∷ t .removed ∷ t .passed ∷ t .joins ∷ t .rings ∷ []))) (now (out .exit)) r × (r ≡ 30) ⌝ }
+    ensures { λ r. ⌜ Wrote (now (out .entry)) 0 (framed (rec 21 (solid ∷ t .uses ∷ t .removed ∷ t .passed ∷ t .joins ∷ t .rings ∷ t .merges ∷ []))) (now (out .exit)) r × (r ≡ 34) ⌝ }
 {
-    let p = put_head(out, 0, 21, 6);
+    let p = put_head(out, 0, 21, 7);
     let q = put_two(out, p, solid, t.uses);
     let s = put_two(out, q, t.removed, t.passed);
-    put_two(out, s, t.joins, t.rings)
+    let u = put_two(out, s, t.joins, t.rings);
+    put_word(out, u, t.merges)
 }
 
 // NUMBERS
@@ -532,7 +534,7 @@ fn put_lumps(
 
 // THE BODY
 
-// The records of vertices and edges, from byte 30 on, after the totals.
+// The records of vertices and edges, from byte 34 on, after the totals.
 fn put_vertices_and_edges(
     rows: &[u32],
     starts: &[u32],
@@ -540,11 +542,11 @@ fn put_vertices_and_edges(
     out: &mut [u8],
 ) -> usize
     requires { ⌜ (length (now rows) ≤ 14336) × EndsOk (length (now vertices)) (rowsIn (now rows)) ⌝ }
-    ensures { λ r. ⌜ Wrote (now (out .entry)) 30 (vertexAndEdgeBytes (now (starts .entry)) (rowsIn (now (rows .entry)))) (now (out .exit)) r × (r ≤ 86046) ⌝ }
+    ensures { λ r. ⌜ Wrote (now (out .entry)) 34 (vertexAndEdgeBytes (now (starts .entry)) (rowsIn (now (rows .entry)))) (now (out .exit)) r × (r ≤ 86050) ⌝ }
 {
     blank(vertices);
-    let count = put_vertices(rows, starts, vertices, out, 30);
-    put_edges(rows, vertices, count, out, 30 + 10 * count)
+    let count = put_vertices(rows, starts, vertices, out, 34);
+    put_edges(rows, vertices, count, out, 34 + 10 * count)
 }
 
 // All records of a body of k kept vertex loops and n shells; `numbers` and `vertices` are spare tables.
@@ -595,8 +597,8 @@ fn put_records(
 pub fn put_empty(out: &mut [u8]) -> Ending
     ensures { λ r. ⌜ Ends (fitting (length (now (out .entry))) (framedAll (bodyRecords emptyBody))) (now (out .entry)) (now (out .exit)) r ⌝ }
 {
-    if out.len() < 30 {
-        return Ending::Refused(40, 30);
+    if out.len() < 34 {
+        return Ending::Refused(40, 34);
     }
     let totals = Totals {
         uses: 0,
@@ -604,9 +606,10 @@ pub fn put_empty(out: &mut [u8]) -> Ending
         passed: 0,
         joins: 0,
         rings: 0,
+        merges: 0,
     };
     put_totals(out, 0, totals);
-    Ending::Written(30)
+    Ending::Written(34)
 }
 
 // The body of a job with faces, of k kept vertex loops and n shells: all records, or refusal 40 with the bytes

@@ -5,15 +5,17 @@ use native.Mathlib.Decide.{decLt, ℕ-discrete}
 use native.Mathlib.Omega.{arith}
 use mathlib.Core.Path.{_≡_, refl, sym, ap, _∙_, subst}
 use mathlib.Core.Logic.{_⊎_, inl, inr, ⊎-elim}
+use mathlib.Core.Bool.{true, false, not}
 use mathlib.Core.List.{List, map}
 use lib.ListN.{length, getD, set, length-set, List·getD-eq-default}
 use lib.Seq.{ext-getD, set-out}
+use borrow.Author.Tests.{eq-eqb, ne-eqb}
 use Rattle.lists.specs.Lists.{below}
 use Rattle.lists.specs.Runs.{length-below, getD-below, length-table, getD-table}
 use Rattle.lists.specs.Tables.{set-each}
 use Rattle.rules.specs.Groups.{alone, labelOf, joined}
 use Rattle.rules.specs.GroupLaws.{length-joined, joined-at}
-use Rattle.groups.specs.Parents.{Ordered, Stands, Rooted, JoinedIn}
+use Rattle.groups.specs.Parents.{Ordered, Stands, Rooted, JoinedIn, SeparateIn}
 
 past : (l : List ℕ) (i : ℕ) → length l ≤ i → getD l i 0 ≡ 0
 past l i h = List·getD-eq-default l 0 h
@@ -211,6 +213,19 @@ module _ (p m q : List ℕ) (a b ra rb : ℕ) (x : Rooted p m a ra) (y : Rooted 
         let v = y .stands ls (u .1) in
         subst (Stands q) (sym (joined-none ls a b (sym (u .0) ∙ e ∙ v .0))) (v .1);
   }
+
+  -- two roots that differ were of separate groups, equal ones of one
+  pub separate-roots : (ra ≡ rb → ⊥) → SeparateIn p a b true
+  separate-roots n ls s =
+      let u = x .stands ls s in
+      let v = y .stands ls (u .1) in
+      sym (ap not (ne-eqb (labelOf ls a) (labelOf ls b) (λ e. n (u .0 ∙ e ∙ sym (v .0)))))
+
+  pub one-root : ra ≡ rb → SeparateIn p a b false
+  one-root e ls s =
+      let u = x .stands ls s in
+      let v = y .stands ls (u .1) in
+      sym (ap not (eq-eqb (labelOf ls a) (labelOf ls b) (sym (u .0) ∙ e ∙ v .0)))
 
 -- SETTLING
 

@@ -2,8 +2,9 @@
 use Prim.Native.Nat.{ℕ, _≤_, _<_}
 use mathlib.Core.Path.{_≡_}
 use mathlib.Core.List.{List, _++_}
+use mathlib.Core.Bool.{Bool}
 use lib.ListN.{length, getD, replicate}
-use Rattle.rules.specs.Groups.{labelOf, joined}
+use Rattle.rules.specs.Groups.{labelOf, joined, separate}
 
 -- no parent lies above its number
 pub record Ordered (parents : List ℕ) : Type 0 where
@@ -28,6 +29,10 @@ pub record JoinedIn (before after : List ℕ) (a b : ℕ) : Type 0 where
   pub ordered : Ordered after
   pub size : length after ≡ length before
   pub stands : (ls : List ℕ) → Stands before ls → Stands after (joined ls a b)
+
+-- the answer of a join: the groups of the two numbers were separate
+abbrev pub SeparateIn : List ℕ → ℕ → ℕ → Bool → Type 0
+SeparateIn before a b r = (ls : List ℕ) → Stands before ls → r ≡ separate ls a b
 
 -- labels in a table that is k numbers longer
 abbrev pub padded : ℕ → List ℕ → List ℕ

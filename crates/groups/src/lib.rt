@@ -8,7 +8,7 @@ ghost use Prim.Native.Nat.{ℕ, _-_, _≤_};
 ghost use lib.ListN.{length};
 ghost use Rattle.lists.specs.Lists.{below};
 ghost use Rattle.rules.specs.Groups.{alone as aloneOf, labelOf};
-ghost use Rattle.groups.specs.Parents.{Ordered, Stands, Rooted, JoinedIn, padded};
+ghost use Rattle.groups.specs.Parents.{Ordered, Stands, Rooted, JoinedIn, SeparateIn, padded};
 
 // Each number is alone.
 pub fn alone(parents: &mut [u32])
@@ -38,18 +38,22 @@ pub fn root_in(parents: &mut [u32], start: usize) -> usize
     up
 }
 
-// The groups of a and b become one.
-pub fn join_in(parents: &mut [u32], a: usize, b: usize)
+// The groups of a and b become one. Answers whether they were separate.
+pub fn join_in(parents: &mut [u32], a: usize, b: usize) -> bool
     requires { ⌜ Ordered (now parents) ⌝ }
-    ensures { λ _. ⌜ JoinedIn (now (parents .entry)) (now (parents .exit)) a b ⌝ }
+    ensures { λ r. ⌜ JoinedIn (now (parents .entry)) (now (parents .exit)) a b × SeparateIn (now (parents .entry)) a b r ⌝ }
 {
     let ra = root_in(parents, a);
     let rb = root_in(parents, b);
     if ra < rb {
         put(parents, rb, ra);
-    } else if rb < ra {
-        put(parents, ra, rb);
+        return true;
     }
+    if rb < ra {
+        put(parents, ra, rb);
+        return true;
+    }
+    false
 }
 
 // Each number's parent becomes its label.
@@ -90,10 +94,10 @@ pub fn root(g: &mut Groups, i: usize) -> usize
     root_in(&mut g.parents, i)
 }
 
-// The groups of a and b become one.
-pub fn join(g: &mut Groups, a: usize, b: usize)
+// The groups of a and b become one. Answers whether they were separate.
+pub fn join(g: &mut Groups, a: usize, b: usize) -> bool
     requires { ⌜ Ordered (now g .parents) ⌝ }
-    ensures { λ _. ⌜ JoinedIn (now (g .entry) .parents) (now (g .exit) .parents) a b ⌝ }
+    ensures { λ r. ⌜ JoinedIn (now (g .entry) .parents) (now (g .exit) .parents) a b × SeparateIn (now (g .entry) .parents) a b r ⌝ }
 {
     join_in(&mut g.parents, a, b)
 }

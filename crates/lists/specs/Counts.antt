@@ -35,6 +35,12 @@ unfolding keep
 keep-nothing p [] none = refl
 keep-nothing p (x ∷ l) none = rw (none x (List·Memᴰ·head refl)) (keep-nothing p l (λ y m. none y (List·Memᴰ·tail m)))
 
+-- where every member passes all are kept
+pub keep-all : {A : Type 0} (p : A → Bool) (l : List A) → ((x : A) → x ∈ l → p x ≡ true) → keep p l ≡ l
+unfolding keep
+keep-all p [] each = refl
+keep-all p (x ∷ l) each = rw (each x (List·Memᴰ·head refl)) (ap (λ r. x ∷ r) (keep-all p l (λ y m. each y (List·Memᴰ·tail m))))
+
 -- how often a number stands is a count
 pub times-keep : (x : ℕ) (l : List ℕ) → times x l ≡ length (keep (eqb x) l)
 unfolding times keep

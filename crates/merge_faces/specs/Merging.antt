@@ -1,5 +1,5 @@
 -- What merging answers, as outcomes of the definitions.
-use Prim.Native.Nat.{ℕ}
+use Prim.Native.Nat.{ℕ, _+_, _≤_}
 use mathlib.Core.Path.{_≡_}
 use mathlib.Core.List.{List, foldl}
 use mathlib.Core.Bool.{cond}
@@ -11,7 +11,7 @@ use Rattle.rules.specs.Outcome.{Outcome, ok, refuse, _>>=_}
 use Rattle.rules.specs.Sense.{sameSense}
 use Rattle.rules.specs.Job.{faceAt}
 use Rattle.rules.specs.Read.{storedSense}
-use Rattle.rules.specs.Groups.{joined}
+use Rattle.rules.specs.Groups.{Grouping, joinGroups}
 use Rattle.rules.specs.Rules.{fullTable}
 use Rattle.rules.specs.Merge.{joinsFaces, boundaryStep}
 use Rattle.groups.specs.Parents.{Ordered, Stands}
@@ -23,18 +23,18 @@ pub record JoinedPairs (us : List Use) (ts : List ℕ) (n : ℕ) (before after :
   pub ordered : Ordered after
   pub stands : (g : List ℕ) → Stands before g → Stands after (foldl (boundaryStep us ts) g (below n))
 
--- the labels, or the refusal
-abbrev pub mergedOf : Merging → List ℕ → Outcome (List ℕ)
-mergedOf Done labels = ok labels
+-- the labels and the number of joins, or the refusal
+abbrev pub mergedOf : Merging → List ℕ → Outcome Grouping
+mergedOf (Done k) labels = ok (record { groups = labels; joins = k })
 mergedOf (Refused n p) labels = refuse n p
 
--- an outcome that was reached: its groups as a table of parents, or the refusal
-abbrev pub MergedTo : Merging → List ℕ → Outcome (List ℕ) → Type 0
-MergedTo Done parents o = (g : List ℕ) × (o ≡ ok g) × Stands parents g
-MergedTo (Refused n p) parents o = o ≡ refuse n p
+-- an outcome that was reached from s by at most one join: its groups as a table of parents, or the refusal
+abbrev pub MergedTo : Merging → List ℕ → Grouping → Outcome Grouping → Type 0
+MergedTo (Done k) parents s o = (g : List ℕ) × (o ≡ ok (record { groups = g; joins = s .joins + k })) × Stands parents g × (k ≤ 1)
+MergedTo (Refused n p) parents s o = o ≡ refuse n p
 
 -- the groups after the surface answer v about faces a and b
-unfoldable pub answeredStep : List Face → ℕ → ℕ → SurfaceAnswer → List ℕ → Outcome (List ℕ)
+unfoldable pub answeredStep : List Face → ℕ → ℕ → SurfaceAnswer → Grouping → Outcome Grouping
 answeredStep fs a b v g =
     joinsFaces fullTable (sameSense (storedSense (faceAt fs a)) (storedSense (faceAt fs b))) v >>= λ yes.
-    ok (cond yes (joined g a b) g)
+    ok (cond yes (joinGroups g a b) g)

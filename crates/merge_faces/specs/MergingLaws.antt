@@ -2,7 +2,7 @@
 use Prim.Native.Nat.{ℕ, _+_, _-_, _≤_, _<_}
 use native.Mathlib.Omega.{arith}
 use mathlib.Core.Path.{_≡_, refl, sym, ap, _∙_, subst}
-use mathlib.Core.Bool.{Bool, true, false, not}
+use mathlib.Core.Bool.{Bool, true, false, not, cond}
 use mathlib.Core.List.{List, [], _∷_, map, foldl}
 use lib.ListN.{length}
 use lib.Seq.{ext-getD}
@@ -29,11 +29,11 @@ use Rattle.ask.specs.declared.Surface.{Surface}
 use Rattle.ask.specs.declared.Surface.the-variants.{Says, Missing}
 use Rattle.ask.specs.Told.{surfaceBy}
 use Rattle.rules.specs.Read.{faceOfUse, storedSense}
-use Rattle.rules.specs.Groups.{alone, labelOf, joined}
+use Rattle.rules.specs.Groups.{alone, labelOf, joined, separate, Grouping, joinGroups}
 use Rattle.rules.specs.GroupLaws.{length-joined}
 use Rattle.rules.specs.Pair.{twinOf}
 use Rattle.rules.specs.Rules.{fullTable}
-use Rattle.rules.specs.Merge.{otherFace, joinsFaces, unasked, surfaceStep, mergeStep, mergedGroups, boundaryStep, boundaries}
+use Rattle.rules.specs.Merge.{otherFace, joinsFaces, unasked, surfaceStep, mergeStep, ungrouped, mergedGroups, boundaryStep, boundaries}
 use Rattle.job.specs.Lists.{facesIn}
 use Rattle.groups.specs.Parents.{Ordered, Stands, JoinedIn, padded}
 use Rattle.groups.specs.Padding.{padded-at, joined-padded}
@@ -82,37 +82,50 @@ pub joining-is : (fs : List Face) (a b : ℕ) (v : SurfaceAnswer) (s t : Sense) 
     → s ≡ storedSense (faceAt fs a) → t ≡ storedSense (faceAt fs b) → equal ≡ sameSense s t → o ≡ joinsFaces fullTable equal v → joining fs a b v ≡ o
 joining-is fs a b v s t equal o p q r e = sym (e ∙ ap (λ x. joinsFaces fullTable x v) (r ∙ (λ i. sameSense (p i) (q i))))
 
-module _ (fs : List Face) (a b : ℕ) (v : SurfaceAnswer) (g : List ℕ) where
+-- nothing joined
+no-more : (g : Grouping) → ok g ≡ ok (record { groups = g .groups; joins = g .joins + 0 })
+no-more g = let z : g .joins ≡ g .joins + 0 = omega arith in ap (λ n. ok (record { groups = g .groups; joins = n })) z
+
+module _ (fs : List Face) (a b : ℕ) (v : SurfaceAnswer) (g : Grouping) where
   pub answer-refuses : (n p : ℕ) → joining fs a b v ≡ refuse n p → answeredStep fs a b v g ≡ refuse n p
   unfolding answeredStep
   answer-refuses n p e = bind-stop _ e
 
-  pub answer-keeps : joining fs a b v ≡ ok false → answeredStep fs a b v g ≡ ok g
+  pub answer-keeps : joining fs a b v ≡ ok false → answeredStep fs a b v g ≡ ok (record { groups = g .groups; joins = g .joins + 0 })
   unfolding answeredStep
-  answer-keeps e = bind-on _ e
+  answer-keeps e = bind-on _ e ∙ no-more g
 
-  pub answer-joins : joining fs a b v ≡ ok true → answeredStep fs a b v g ≡ ok (joined g a b)
-  unfolding answeredStep
-  answer-joins e = bind-on _ e
+  pub answer-joins : (new : Bool) (k : ℕ) → joining fs a b v ≡ ok true → new ≡ separate (g .groups) a b → k ≡ 0 + cond new 1 0
+      → answeredStep fs a b v g ≡ ok (record { groups = joined (g .groups) a b; joins = g .joins + k })
+  unfolding answeredStep joinGroups
+  answer-joins new k e s q =
+      let z : cond (separate (g .groups) a b) 1 0 ≡ k = sym (ap (λ b. cond b 1 0) s) ∙ omega arith in
+      bind-on _ e ∙ ap (λ n. ok (record { groups = joined (g .groups) a b; joins = g .joins + n })) z
+
+-- one join at most
+pub one-at-most : (new : Bool) (k : ℕ) → k ≡ 0 + cond new 1 0 → k ≤ 1
+one-at-most true k e = omega arith
+one-at-most false k e = omega arith
 
 -- ONE USE
 
 -- the code's numbers: the twin t of use h, their faces a and b
 module _ (answers : List Answer) (fs : List Face) (us : List Use) (ts : List ℕ) (h t : ℕ) (et : t ≡ twinOf ts h) where
-  pub use-higher : t ≤ h → (g : List ℕ) → mergeStep fullTable answers fs us ts h g ≡ ok g
+  pub use-higher : t ≤ h → (g : Grouping) → mergeStep fullTable answers fs us ts h g ≡ ok (record { groups = g .groups; joins = g .joins + 0 })
   unfolding mergeStep
-  use-higher le g = cond-true (unasked us ts h) (ok g) _ (or-first (leb (twinOf ts h) h) _ (le-leb (twinOf ts h) h (omega arith)))
+  use-higher le g = cond-true (unasked us ts h) (ok g) _ (or-first (leb (twinOf ts h) h) _ (le-leb (twinOf ts h) h (omega arith))) ∙ no-more g
 
   module _ (a b : ℕ) (ea : a ≡ faceOfUse us h) (eb : b ≡ faceOfUse us t) where
     other : b ≡ otherFace us ts h
     other = eb ∙ ap (faceOfUse us) et
 
-    pub use-same-face : a ≡ b → (g : List ℕ) → mergeStep fullTable answers fs us ts h g ≡ ok g
+    pub use-same-face : a ≡ b → (g : Grouping) → mergeStep fullTable answers fs us ts h g ≡ ok (record { groups = g .groups; joins = g .joins + 0 })
     unfolding mergeStep
     use-same-face e g =
         cond-true (unasked us ts h) (ok g) _ (or-second (leb (twinOf ts h) h) _ (eq-eqb (faceOfUse us h) (otherFace us ts h) (sym ea ∙ e ∙ other)))
+        ∙ no-more g
 
-    module _ (lt : h < t) (ne : a ≡ b → ⊥) (g : List ℕ) where
+    module _ (lt : h < t) (ne : a ≡ b → ⊥) (g : Grouping) where
       put : mergeStep fullTable answers fs us ts h g ≡ surfaceStep fullTable answers fs us ts h g
       unfolding mergeStep
       put =
@@ -139,45 +152,56 @@ module _ (answers : List Answer) (fs : List Face) (us : List Use) (ts : List ℕ
 
 -- ALL USES
 
--- what is left to do at use h, with groups for which the parents stand
-pub record MergingAt (answers : List Answer) (fs : List Face) (us : List Use) (ts parents : List ℕ) (h : ℕ) : Type 0 where
-  pub groups : List ℕ
-  pub stands : Stands parents groups
-  pub rest : mergedGroups fullTable answers fs us ts ≡ throughout (mergeStep fullTable answers fs us ts) (from h (length us - h)) groups
+-- what is left to do at use h, with groups for which the parents stand, and so many joins before
+pub record MergingAt (answers : List Answer) (fs : List Face) (us : List Use) (ts parents : List ℕ) (joins h : ℕ) : Type 0 where
+  pub labels : List ℕ
+  pub stands : Stands parents labels
+  pub few : joins ≤ h
+  pub rest : mergedGroups fullTable answers fs us ts ≡ throughout (mergeStep fullTable answers fs us ts) (from h (length us - h)) (record { groups = labels; joins = joins })
 
 module _ (answers : List Answer) (fs : List Face) (us : List Use) (ts : List ℕ) where
-  pub merging-start : (parents : List ℕ) (n : ℕ) → n ≡ length fs → Stands parents (alone n) → MergingAt answers fs us ts parents 0
+  pub merging-start : (parents : List ℕ) (n : ℕ) → n ≡ length fs → Stands parents (alone n) → MergingAt answers fs us ts parents 0 0
   merging-start parents n e s = record {
-    groups = alone (length fs);
+    labels = alone (length fs);
     stands = subst (λ k. Stands parents (alone k)) e s;
-    rest = let z : length us ≡ length us - 0 = omega arith in ap (λ k. throughout (mergeStep fullTable answers fs us ts) (from 0 k) (alone (length fs))) z;
+    few = omega arith;
+    rest = let z : length us ≡ length us - 0 = omega arith in ap (λ k. throughout (mergeStep fullTable answers fs us ts) (from 0 k) (ungrouped (length fs))) z;
   }
 
-  module _ (parents after : List ℕ) (h : ℕ) (m : MergingAt answers fs us ts parents h) where
-    left : h < length us → mergedGroups fullTable answers fs us ts ≡ throughout (mergeStep fullTable answers fs us ts) (h ∷ from (h + 1) (length us - (h + 1))) (m .groups)
-    left lt = m .rest ∙ ap (λ l. throughout (mergeStep fullTable answers fs us ts) l (m .groups)) (left-at h (length us) lt)
+  module _ (parents after : List ℕ) (joins h : ℕ) (m : MergingAt answers fs us ts parents joins h) where
+    -- the groups so far
+    abbrev now : Grouping
+    now = record { groups = m .labels; joins = joins }
+
+    left : h < length us → mergedGroups fullTable answers fs us ts ≡ throughout (mergeStep fullTable answers fs us ts) (h ∷ from (h + 1) (length us - (h + 1))) now
+    left lt = m .rest ∙ ap (λ l. throughout (mergeStep fullTable answers fs us ts) l now) (left-at h (length us) lt)
 
     -- what one use's step said, by its answer r
     abbrev Told : Merging → Type 0
-    Told r = (g : List ℕ) → Stands parents g → MergedTo r after (mergeStep fullTable answers fs us ts h g)
+    Told r = (g : Grouping) → Stands parents (g .groups) → MergedTo r after g (mergeStep fullTable answers fs us ts h g)
 
-    pub merging-step : h < length us → (r : Merging) → r ≡ Done → Told r → MergingAt answers fs us ts after (h + 1)
-    merging-step lt r e told =
-        let s = subst Told e told (m .groups) (m .stands) in
+    -- the joins stay few
+    pub merging-few : (r : Merging) (k : ℕ) → r ≡ Done k → Told r → joins + k ≤ h + 1
+    merging-few r k e told = let s = subst Told e told now (m .stands) in omega (arith, m .few, s .3)
+
+    pub merging-step : h < length us → (r : Merging) (k : ℕ) → r ≡ Done k → Told r → MergingAt answers fs us ts after (joins + k) (h + 1)
+    merging-step lt r k e told =
+        let s = subst Told e told now (m .stands) in
         record {
-          groups = s .0;
+          labels = s .0;
           stands = s .2;
-          rest = left lt ∙ through-on (mergeStep fullTable answers fs us ts) h (from (h + 1) (length us - (h + 1))) (m .groups) (s .0) (s .1);
+          few = merging-few r k e told;
+          rest = left lt ∙ through-on (mergeStep fullTable answers fs us ts) h (from (h + 1) (length us - (h + 1))) now (record { groups = s .0; joins = joins + k }) (s .1);
         }
 
     pub merging-stop : h < length us → (r : Merging) (n p : ℕ) → r ≡ Refused n p → Told r → refuse n p ≡ mergedGroups fullTable answers fs us ts
     merging-stop lt r n p e told =
-        sym (left lt ∙ through-stop (mergeStep fullTable answers fs us ts) h (from (h + 1) (length us - (h + 1))) (m .groups) n p (subst Told e told (m .groups) (m .stands)))
+        sym (left lt ∙ through-stop (mergeStep fullTable answers fs us ts) h (from (h + 1) (length us - (h + 1))) now n p (subst Told e told now (m .stands)))
 
-    pub merging-end : length us ≤ h → ((g : List ℕ) → Stands parents g → after ≡ g) → ok after ≡ mergedGroups fullTable answers fs us ts
+    pub merging-end : length us ≤ h → ((g : List ℕ) → Stands parents g → after ≡ g) → ok (record { groups = after; joins = joins }) ≡ mergedGroups fullTable answers fs us ts
     merging-end le settled =
-        ap ok (settled (m .groups) (m .stands))
-        ∙ sym (m .rest ∙ ap (λ l. throughout (mergeStep fullTable answers fs us ts) l (m .groups)) (left-none h (length us) le) ∙ through-none (mergeStep fullTable answers fs us ts) (m .groups))
+        ap (λ g. ok (record { groups = g; joins = joins })) (settled (m .labels) (m .stands))
+        ∙ sym (m .rest ∙ ap (λ l. throughout (mergeStep fullTable answers fs us ts) l now) (left-none h (length us) le) ∙ through-none (mergeStep fullTable answers fs us ts) now)
 
 -- BOUNDARIES
 

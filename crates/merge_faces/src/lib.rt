@@ -18,7 +18,7 @@ ghost use lib.ListN.{length, take};
 ghost use Rattle.lists.specs.Lists.{keep};
 ghost use Rattle.rules.specs.Outcome.{ok};
 ghost use Rattle.rules.specs.Read.{faceOfUse};
-ghost use Rattle.rules.specs.Groups.{lowestMembers, groupNumbers};
+ghost use Rattle.rules.specs.Groups.{Grouping, lowestMembers, groupNumbers};
 ghost use Rattle.rules.specs.GroupLaws.{Lowest};
 ghost use Rattle.rules.specs.Rules.{fullTable};
 ghost use Rattle.rules.specs.Merge.{boundaries as boundariesOf, otherFace, joinsFaces, mergeStep, mergedGroups, removes, removedUses};
@@ -30,9 +30,9 @@ ghost use Rattle.ask.specs.Told.{toldOf};
 ghost use Rattle.merge_faces.specs.Merging.{mergedOf, MergedTo, answeredStep, JoinedPairs};
 ghost use Rattle.merge_faces.specs.Numbering.{Numbering};
 
-// The groups are made, or merging ends with a refusal.
+// The groups are made, by so many joins of separate groups; or merging ends with a refusal.
 pub enum Merging {
-    Done,
+    Done(usize),
     Refused(usize, usize),
 }
 
@@ -64,7 +64,8 @@ pub fn join_pairs(g: Groups, uses: &[u32], twins: &[u32], n: usize) -> Groups
     let mut h: usize = 0;
     while h < n {
         let s = sides(uses, twins, h);
-        join(&mut groups, s.face, s.other);
+        // boundaries count no joins
+        let _separate = join(&mut groups, s.face, s.other);
         h += 1;
     }
     groups
@@ -114,7 +115,7 @@ fn no_if(test: bool) -> Told
     Told::Yes
 }
 
-// The groups after the surface answer v about faces a and b.
+// The groups after the surface answer v about faces a and b, and whether it joined separate ones: 1 or 0.
 fn join_by(
     job: &[u8],
     index: &[u32],
@@ -125,7 +126,7 @@ fn join_by(
     v: SurfaceAnswer,
 ) -> Merging
     requires { ⌜ (c .faces ≤ 256) × Ordered (now labels) ⌝ }
-    ensures { λ r. ⌜ ((g : List ℕ) → Stands (now (labels .entry)) g → MergedTo r (now (labels .exit)) (answeredStep (facesIn (now (job .entry)) (now (index .entry)) c) a b v g)) ⌝ }
+    ensures { λ r. ⌜ ((g : Grouping) → Stands (now (labels .entry)) (g .groups) → MergedTo r (now (labels .exit)) g (answeredStep (facesIn (now (job .entry)) (now (index .entry)) c) a b v g)) ⌝ }
 {
     let sense = job::stored_sense(job, index, c, a);
     let other = job::stored_sense(job, index, c, b);
@@ -133,10 +134,10 @@ fn join_by(
     let j = joins_faces(v, equal);
     match j {
         Told::Refused(n, p) => Merging::Refused(n, p),
-        Told::No => Merging::Done,
+        Told::No => Merging::Done(0),
         Told::Yes => {
-            join_in(labels, a, b);
-            Merging::Done
+            let separate = join_in(labels, a, b);
+            Merging::Done(counted(0, separate))
         }
     }
 }
@@ -152,16 +153,16 @@ fn merge_use(
     h: usize,
 ) -> Merging
     requires { ⌜ Indexed (now job) (now index) c × (c .faces ≤ 256) × (h < 4294967296) × Ordered (now labels) ⌝ }
-    ensures { λ r. ⌜ ((g : List ℕ) → Stands (now (labels .entry)) g → MergedTo r (now (labels .exit)) (mergeStep fullTable (answersIn (now (job .entry)) (now (index .entry)) c) (facesIn (now (job .entry)) (now (index .entry)) c) (usesIn (now (uses .entry))) (now (twins .entry)) h g)) ⌝ }
+    ensures { λ r. ⌜ ((g : Grouping) → Stands (now (labels .entry)) (g .groups) → MergedTo r (now (labels .exit)) g (mergeStep fullTable (answersIn (now (job .entry)) (now (index .entry)) c) (facesIn (now (job .entry)) (now (index .entry)) c) (usesIn (now (uses .entry))) (now (twins .entry)) h g)) ⌝ }
 {
     let t = get(twins, h);
     if t <= h {
-        return Merging::Done;
+        return Merging::Done(0);
     }
     let a = use_face(uses, h);
     let b = use_face(uses, t);
     if a == b {
-        return Merging::Done;
+        return Merging::Done(0);
     }
     let Surface::Says(v) = ask::ask_surface(job, index, c, h) else {
         return Merging::Refused(20, 8);
@@ -169,7 +170,7 @@ fn merge_use(
     join_by(job, index, c, labels, a, b, v)
 }
 
-// The surface questions of the uses in order. Each face's label in the end.
+// The surface questions of the uses in order. Each face's label in the end, and how many joins of separate groups there were.
 pub fn merge_faces(
     job: &[u8],
     index: &[u32],
@@ -183,6 +184,7 @@ pub fn merge_faces(
 {
     groups::alone(labels);
     let n = uses::count(uses);
+    let mut joins: usize = 0;
     let mut h: usize = 0;
     while h < n {
         let r = merge_use(job, index, c, uses, twins, labels, h);
@@ -190,12 +192,14 @@ pub fn merge_faces(
             Merging::Refused(n, p) => {
                 return Merging::Refused(n, p);
             }
-            Merging::Done => {}
+            Merging::Done(k) => {
+                joins += k;
+            }
         }
         h += 1;
     }
     groups::settle(labels);
-    Merging::Done
+    Merging::Done(joins)
 }
 
 // REMOVED USES

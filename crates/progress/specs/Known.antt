@@ -10,7 +10,7 @@ use Rattle.rules.specs.declared.Use.{Use}
 use Rattle.rules.specs.Outcome.{ok}
 use Rattle.rules.specs.Load.{loading}
 use Rattle.rules.specs.Read.{usesOf}
-use Rattle.rules.specs.Groups.{lowestMembers, groupNumbers}
+use Rattle.rules.specs.Groups.{Grouping, lowestMembers, groupNumbers}
 use Rattle.rules.specs.Pair.{pair}
 use Rattle.rules.specs.Rules.{fullTable}
 use Rattle.rules.specs.Merge.{boundaries, mergedGroups, removedUses, Merged}
@@ -41,6 +41,10 @@ boundariesIn c m = take (c .faces) (m .boundaries)
 abbrev pub groupsIn : Counts → Faces → List ℕ
 groupsIn c m = take (c .faces) (m .groups)
 
+-- the merged groups with the number of face joins
+abbrev pub groupingIn : Counts → Faces → Grouping
+groupingIn c m = record { groups = groupsIn c m; joins = m .joins }
+
 -- each selected face's merged face, and the lowest member of each merged face
 abbrev pub numbersIn : Counts → Faces → List ℕ
 numbersIn c m = take (c .faces) (m .numbers)
@@ -52,7 +56,7 @@ membersIn m = take (m .merged) (m .members)
 pub record Grouped (bytes ix : List ℕ) (c : Counts) (us : List Use) (ts : List ℕ) (m : Faces) : Type 0 where
   pub paired : Paired bytes ix c us ts
   pub bounds : boundariesIn c m ≡ boundaries us ts (c .faces)
-  pub merges : mergedGroups fullTable (answersIn bytes ix c) (facesIn bytes ix c) us ts ≡ ok (groupsIn c m)
+  pub merges : mergedGroups fullTable (answersIn bytes ix c) (facesIn bytes ix c) us ts ≡ ok (groupingIn c m)
   pub numbered : numbersIn c m ≡ groupNumbers (groupsIn c m)
   pub lowest : membersIn m ≡ lowestMembers (groupsIn c m)
   pub boundaries-size : length (m .boundaries) ≡ 256
@@ -63,7 +67,7 @@ pub record Grouped (bytes ix : List ℕ) (c : Counts) (us : List Use) (ts : List
 
 -- what merging gave, as the definitions have it
 abbrev pub mergedIn : Counts → Faces → List Bool → Merged
-mergedIn c m rm = record { boundaries = boundariesIn c m; groups = groupsIn c m; removed = rm }
+mergedIn c m rm = record { boundaries = boundariesIn c m; groups = groupsIn c m; joins = m .joins; removed = rm }
 
 -- the walks, as the definitions have them
 abbrev pub walkedIn : Counts → Faces → List Use → List ℕ → List Bool → ℕ → List ℕ → Walked

@@ -14,6 +14,7 @@ use Rattle.rules.specs.Read.{faceOfUse}
 use Rattle.rules.specs.GroupLaws.{Lowest}
 use Rattle.rules.specs.Rules.{fullTable, ordinary}
 use Rattle.rules.specs.Pair.{pair}
+use Rattle.rules.specs.Groups.{Grouping}
 use Rattle.rules.specs.Merge.{boundaries, mergeFaces, removedUses, mergedGroups}
 use Rattle.rules.specs.VertexLoops.{vertexLoops}
 use Rattle.rules.specs.Sew.{walksOf, walked}
@@ -31,7 +32,7 @@ use Rattle.job.specs.Lists.{pointsIn, edgesIn, facesIn, loopsIn, answersIn, job
 use Rattle.vertex_loops.specs.Kept.{keptIn}
 use Rattle.progress.specs.declared.Faces.{Faces}
 use Rattle.progress.specs.declared.Figures.{Figures}
-use Rattle.progress.specs.Known.{Opened, Paired, boundariesIn, groupsIn, Grouped, mergedIn, walkedIn, Settled}
+use Rattle.progress.specs.Known.{Opened, Paired, boundariesIn, groupsIn, groupingIn, Grouped, mergedIn, walkedIn, Settled}
 
 -- LOADED
 
@@ -80,19 +81,19 @@ module _ (bytes ix : List ℕ) (c : Counts) (us : List Use) (ts : List ℕ) (P :
   boundaries-are-lowest = boundaries-lowest us ts (c .faces) face-below (paired-twins .below)
 
   -- the groups that merging gives
-  pub groups-are-lowest : (g : List ℕ) → mergedGroups fullTable (answersIn bytes ix c) (facesIn bytes ix c) us ts ≡ ok g → Lowest g
+  pub groups-are-lowest : (g : Grouping) → mergedGroups fullTable (answersIn bytes ix c) (facesIn bytes ix c) us ts ≡ ok g → Lowest (g .groups)
   groups-are-lowest g e =
       merged-lowest fullTable (answersIn bytes ix c) (facesIn bytes ix c) us ts g e
       (λ h b. omega (arith, face-below h b, opened-faces bytes ix c (P .opened))) (paired-twins .below)
 
-  pub groups-length : (g : List ℕ) → mergedGroups fullTable (answersIn bytes ix c) (facesIn bytes ix c) us ts ≡ ok g → length g ≡ c .faces
+  pub groups-length : (g : Grouping) → mergedGroups fullTable (answersIn bytes ix c) (facesIn bytes ix c) us ts ≡ ok g → length (g .groups) ≡ c .faces
   groups-length g e = merged-length fullTable (answersIn bytes ix c) (facesIn bytes ix c) us ts g e ∙ sym (opened-faces bytes ix c (P .opened))
 
 -- MERGED
 
 module _ (bytes ix : List ℕ) (c : Counts) (us : List Use) (ts : List ℕ) (m : Faces) (G : Grouped bytes ix c us ts m) where
   pub grouped-lowest : Lowest (groupsIn c m)
-  grouped-lowest = groups-are-lowest bytes ix c us ts (G .paired) (groupsIn c m) (G .merges)
+  grouped-lowest = groups-are-lowest bytes ix c us ts (G .paired) (groupingIn c m) (G .merges)
 
   pub bounded-lowest : Lowest (boundariesIn c m)
   bounded-lowest = subst Lowest (sym (G .bounds)) (boundaries-are-lowest bytes ix c us ts (G .paired))
@@ -102,7 +103,7 @@ module _ (bytes ix : List ℕ) (c : Counts) (us : List Use) (ts : List ℕ) (m :
   unfolding mergeFaces
   grouped-merges rm e =
       bind-on _ (G .merges)
-      ∙ (λ i. ok (record { boundaries = (ap (boundaries us ts) (sym (opened-faces bytes ix c (G .paired .opened))) ∙ sym (G .bounds)) i; groups = groupsIn c m; removed = sym e i }))
+      ∙ (λ i. ok (record { boundaries = (ap (boundaries us ts) (sym (opened-faces bytes ix c (G .paired .opened))) ∙ sym (G .bounds)) i; groups = groupsIn c m; joins = m .joins; removed = sym e i }))
 
 -- SETTLED
 

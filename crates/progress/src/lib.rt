@@ -24,9 +24,11 @@ pub const LUMPS: usize = 11;
 pub const BODY: usize = 12;
 
 // The selected faces: the label of the boundary and of the merged group of each, the number of its merged face, and the
-// lowest member of each merged face, of which there are `merged`. Entries past the faces of the job mean nothing.
+// lowest member of each merged face, of which there are `merged`, made by `joins` face joins. Entries past the faces of
+// the job mean nothing.
 pub struct Faces {
     pub merged: usize,
+    pub joins: usize,
     pub boundaries: [u32; 256],
     pub groups: [u32; 256],
     pub numbers: [u32; 256],

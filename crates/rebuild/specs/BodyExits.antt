@@ -150,14 +150,14 @@ module _ (bytes ix : List ℕ) {c : Counts} {us : List Use} {ts : List ℕ} {m :
     module _ (u : ℕ) (eu : u ≡ length us) where
       abbrev body : Body
       body =
-          solidBody (totalsIn (record { uses = u; removed = g .removed; passed = g .passed; joins = k .joins; rings = k .rings })) (facesIn bytes ix c) starts (rowsIn (take (7 * k .edges) rows))
+          solidBody (totalsIn (record { uses = u; removed = g .removed; passed = g .passed; joins = k .joins; rings = k .rings; merges = m .joins })) (facesIn bytes ix c) starts (rowsIn (take (7 * k .edges) rows))
           (faceLoopsIn items stretches faces) (membersIn m) (keptIn (g .kept) kept) (lumps ns)
 
       body-is : body ≡ bodyOf j x ns
       unfolding bodyOf stateIn jobIn
       body-is = λ i.
           solidBody
-          (record { solid = true; uses = (eu ∙ ap length (H .uses)) i; removed = H .removed i; passed = H .passed i; joins = k .joins; rings = k .rings })
+          (record { solid = true; uses = (eu ∙ ap length (H .uses)) i; removed = H .removed i; passed = H .passed i; joins = k .joins; rings = k .rings; faceJoins = H .face-joins i })
           (facesIn bytes ix c) (H .starts-are i) (rowsTo rows (k .edges)) (faceLoopsIn items stretches faces) (H .members i) (H .vertices i) (lumps ns)
 
       pub lumps-on : (after : List ℕ) (r : Ending) → q ≡ Done → Ends (fitting (length out) (framedAll (bodyRecords body))) out after r → Ends (afterNesting stage j x (length out) ns) out after r

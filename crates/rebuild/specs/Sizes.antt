@@ -59,6 +59,7 @@ pub record Holds (c : Counts) (us : List Use) (ts : List ℕ) (m : Faces) (kept 
   pub twins : ts ≡ f .walk .twins
   pub boundaries : boundariesIn c m ≡ f .walk .merge .boundaries
   pub members : membersIn m ≡ lowestMembers (f .walk .merge .groups)
+  pub face-joins : m .joins ≡ f .walk .merge .joins
   pub vertices : keptIn (g .kept) kept ≡ f .walk .vertexLoops
   pub removed : g .removed ≡ length (keep (λ gone. gone) (f .walk .merge .removed))
   pub passed : g .passed ≡ sumOf (λ k. k) (f .walk .passed)
@@ -233,6 +234,7 @@ module _ {bytes ix : List ℕ} {c : Counts} {us : List Use} {ts : List ℕ} {m :
     twins = refl;
     boundaries = refl;
     members = S .grouped .lowest;
+    face-joins = refl;
     vertices = refl;
     removed = S .gone;
     passed = S .passed;

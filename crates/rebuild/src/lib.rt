@@ -187,6 +187,7 @@ fn on_nested(
         passed: g.passed,
         joins: k.joins,
         rings: k.rings,
+        merges: m.joins,
     };
     put_body(
         totals,

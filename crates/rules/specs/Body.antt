@@ -20,7 +20,7 @@ use Rattle.rules.specs.Join.{activeEdges}
 
 -- THE DATA
 
--- Body records, 21: Empty or Solid, uses, removed, passed in total, joins, rings
+-- Body records, 21: Empty or Solid, uses, removed, passed in total, joins, rings; document 02, Six: face joins
 pub record Totals : Type 0 where
   pub solid : Bool
   pub uses : ℕ
@@ -28,6 +28,7 @@ pub record Totals : Type 0 where
   pub passed : ℕ
   pub joins : ℕ
   pub rings : ℕ
+  pub faceJoins : ℕ
 
 -- Body records, 24 to 26: a face with its loops and the points of its vertex loops
 pub record BodyFace : Type 0 where
@@ -105,7 +106,7 @@ solidBody totals fs starts es ls members ks lumps =
 -- P1: the body of a job without selected faces is Empty
 abbrev pub emptyBody : Body
 emptyBody = record {
-  totals = record { solid = false; uses = 0; removed = 0; passed = 0; joins = 0; rings = 0 };
+  totals = record { solid = false; uses = 0; removed = 0; passed = 0; joins = 0; rings = 0; faceJoins = 0 };
   vertices = [];
   edges = [];
   faces = [];
@@ -122,9 +123,9 @@ abbrev pub bodyKind : Bool → ℕ
 bodyKind true = 1
 bodyKind false = 0
 
--- Body records, 21 Body
+-- Body records, 21 Body; document 02, Six: it ends in a seventh field
 abbrev pub totalsRecord : Totals → Record
-totalsRecord t = rec 21 (bodyKind (t .solid) ∷ t .uses ∷ t .removed ∷ t .passed ∷ t .joins ∷ t .rings ∷ [])
+totalsRecord t = rec 21 (bodyKind (t .solid) ∷ t .uses ∷ t .removed ∷ t .passed ∷ t .joins ∷ t .rings ∷ t .faceJoins ∷ [])
 
 -- Body records, 22 Vertex (point)
 abbrev pub vertexRecord : ℕ → Record

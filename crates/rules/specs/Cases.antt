@@ -252,7 +252,7 @@ emptyUnasked = record {
   damaged = [];
   room = 65536;
   ending = ok
-      (rec 21 (0 ∷ 0 ∷ 0 ∷ 0 ∷ 0 ∷ 0 ∷ []) ∷ []);
+      (rec 21 (0 ∷ 0 ∷ 0 ∷ 0 ∷ 0 ∷ 0 ∷ 0 ∷ []) ∷ []);
 }
 
 -- output too short
@@ -261,8 +261,8 @@ noRoom = record {
   records =
       rec 1 (1 ∷ []) ∷ [];
   damaged = [];
-  room = 29;
-  ending = refuse 40 30;
+  room = 33;
+  ending = refuse 40 34;
 }
 
 -- output just long enough
@@ -271,9 +271,9 @@ justRoom = record {
   records =
       rec 1 (1 ∷ []) ∷ [];
   damaged = [];
-  room = 30;
+  room = 34;
   ending = ok
-      (rec 21 (0 ∷ 0 ∷ 0 ∷ 0 ∷ 0 ∷ 0 ∷ []) ∷ []);
+      (rec 21 (0 ∷ 0 ∷ 0 ∷ 0 ∷ 0 ∷ 0 ∷ 0 ∷ []) ∷ []);
 }
 
 -- joint at two vertices
@@ -406,7 +406,7 @@ twoShells = record {
   damaged = [];
   room = 65536;
   ending = ok
-      (rec 21 (1 ∷ 4 ∷ 0 ∷ 0 ∷ 0 ∷ 0 ∷ []) ∷ rec 23 (5 ∷ 0 ∷ unset ∷ unset ∷ []) ∷ rec 23 (5 ∷ 0 ∷ unset ∷ unset ∷ []) ∷ rec 24 (7 ∷ 0 ∷ []) ∷
+      (rec 21 (1 ∷ 4 ∷ 0 ∷ 0 ∷ 0 ∷ 0 ∷ 0 ∷ []) ∷ rec 23 (5 ∷ 0 ∷ unset ∷ unset ∷ []) ∷ rec 23 (5 ∷ 0 ∷ unset ∷ unset ∷ []) ∷ rec 24 (7 ∷ 0 ∷ []) ∷
       rec 25 (0 ∷ 0 ∷ []) ∷ rec 24 (8 ∷ 0 ∷ []) ∷ rec 25 (0 ∷ 1 ∷ []) ∷ rec 24 (9 ∷ 0 ∷ []) ∷ rec 25 (1 ∷ 0 ∷ []) ∷ rec 24 (10 ∷ 0 ∷ []) ∷
       rec 25 (1 ∷ 1 ∷ []) ∷ rec 27 [] ∷ rec 28 (0 ∷ 1 ∷ []) ∷ rec 27 [] ∷ rec 28 (2 ∷ 3 ∷ []) ∷ []);
 }
@@ -541,7 +541,7 @@ pointShared = record {
   damaged = [];
   room = 65536;
   ending = ok
-      (rec 21 (1 ∷ 4 ∷ 0 ∷ 0 ∷ 0 ∷ 1 ∷ []) ∷ rec 22 (4 ∷ []) ∷ rec 23 (5 ∷ 0 ∷ 0 ∷ 0 ∷ []) ∷ rec 23 (6 ∷ 0 ∷ unset ∷ unset ∷ []) ∷ rec 24 (7 ∷ 0 ∷ []) ∷
+      (rec 21 (1 ∷ 4 ∷ 0 ∷ 0 ∷ 0 ∷ 1 ∷ 0 ∷ []) ∷ rec 22 (4 ∷ []) ∷ rec 23 (5 ∷ 0 ∷ 0 ∷ 0 ∷ []) ∷ rec 23 (6 ∷ 0 ∷ unset ∷ unset ∷ []) ∷ rec 24 (7 ∷ 0 ∷ []) ∷
       rec 25 (0 ∷ 0 ∷ []) ∷ rec 24 (8 ∷ 0 ∷ []) ∷ rec 25 (0 ∷ 1 ∷ []) ∷ rec 24 (9 ∷ 0 ∷ []) ∷ rec 25 (1 ∷ 0 ∷ []) ∷ rec 24 (10 ∷ 0 ∷ []) ∷
       rec 25 (1 ∷ 1 ∷ []) ∷ rec 27 [] ∷ rec 28 (0 ∷ 1 ∷ []) ∷ rec 27 [] ∷ rec 28 (2 ∷ 3 ∷ []) ∷ []);
 }
@@ -570,7 +570,7 @@ voidInside = record {
   damaged = [];
   room = 65536;
   ending = ok
-      (rec 21 (1 ∷ 4 ∷ 0 ∷ 0 ∷ 0 ∷ 0 ∷ []) ∷ rec 22 (4 ∷ []) ∷ rec 22 (5 ∷ []) ∷ rec 23 (5 ∷ 0 ∷ 0 ∷ 0 ∷ []) ∷ rec 23 (6 ∷ 0 ∷ 1 ∷ 1 ∷ []) ∷
+      (rec 21 (1 ∷ 4 ∷ 0 ∷ 0 ∷ 0 ∷ 0 ∷ 0 ∷ []) ∷ rec 22 (4 ∷ []) ∷ rec 22 (5 ∷ []) ∷ rec 23 (5 ∷ 0 ∷ 0 ∷ 0 ∷ []) ∷ rec 23 (6 ∷ 0 ∷ 1 ∷ 1 ∷ []) ∷
       rec 24 (7 ∷ 0 ∷ []) ∷ rec 25 (0 ∷ 0 ∷ []) ∷ rec 24 (8 ∷ 0 ∷ []) ∷ rec 25 (0 ∷ 1 ∷ []) ∷ rec 24 (9 ∷ 0 ∷ []) ∷ rec 25 (1 ∷ 0 ∷ []) ∷
       rec 24 (10 ∷ 0 ∷ []) ∷ rec 25 (1 ∷ 1 ∷ []) ∷ rec 27 [] ∷ rec 28 (0 ∷ 1 ∷ []) ∷ rec 28 (2 ∷ 3 ∷ []) ∷ []);
 }
@@ -585,7 +585,7 @@ seam = record {
   damaged = [];
   room = 65536;
   ending = ok
-      (rec 21 (1 ∷ 6 ∷ 2 ∷ 2 ∷ 0 ∷ 2 ∷ []) ∷ rec 23 (5 ∷ 0 ∷ unset ∷ unset ∷ []) ∷ rec 23 (6 ∷ 0 ∷ unset ∷ unset ∷ []) ∷ rec 24 (7 ∷ 0 ∷ []) ∷
+      (rec 21 (1 ∷ 6 ∷ 2 ∷ 2 ∷ 0 ∷ 2 ∷ 0 ∷ []) ∷ rec 23 (5 ∷ 0 ∷ unset ∷ unset ∷ []) ∷ rec 23 (6 ∷ 0 ∷ unset ∷ unset ∷ []) ∷ rec 24 (7 ∷ 0 ∷ []) ∷
       rec 25 (0 ∷ 0 ∷ []) ∷ rec 25 (1 ∷ 1 ∷ []) ∷ rec 24 (8 ∷ 0 ∷ []) ∷ rec 25 (0 ∷ 1 ∷ []) ∷ rec 24 (8 ∷ 0 ∷ []) ∷ rec 25 (1 ∷ 0 ∷ []) ∷ rec 27 [] ∷
       rec 28 (0 ∷ 1 ∷ 2 ∷ []) ∷ []);
 }
@@ -600,7 +600,7 @@ turned = record {
   damaged = [];
   room = 65536;
   ending = ok
-      (rec 21 (1 ∷ 6 ∷ 2 ∷ 2 ∷ 0 ∷ 2 ∷ []) ∷ rec 23 (5 ∷ 0 ∷ unset ∷ unset ∷ []) ∷ rec 23 (6 ∷ 0 ∷ unset ∷ unset ∷ []) ∷ rec 24 (7 ∷ 1 ∷ []) ∷
+      (rec 21 (1 ∷ 6 ∷ 2 ∷ 2 ∷ 0 ∷ 2 ∷ 0 ∷ []) ∷ rec 23 (5 ∷ 0 ∷ unset ∷ unset ∷ []) ∷ rec 23 (6 ∷ 0 ∷ unset ∷ unset ∷ []) ∷ rec 24 (7 ∷ 1 ∷ []) ∷
       rec 25 (0 ∷ 0 ∷ []) ∷ rec 25 (1 ∷ 1 ∷ []) ∷ rec 24 (8 ∷ 0 ∷ []) ∷ rec 25 (0 ∷ 1 ∷ []) ∷ rec 24 (8 ∷ 0 ∷ []) ∷ rec 25 (1 ∷ 0 ∷ []) ∷ rec 27 [] ∷
       rec 28 (0 ∷ 1 ∷ 2 ∷ []) ∷ []);
 }
@@ -614,7 +614,7 @@ opposed = record {
   damaged = [];
   room = 65536;
   ending = ok
-      (rec 21 (1 ∷ 2 ∷ 2 ∷ 0 ∷ 0 ∷ 0 ∷ []) ∷ rec 24 (7 ∷ 0 ∷ []) ∷ rec 27 [] ∷ rec 28 (0 ∷ []) ∷ []);
+      (rec 21 (1 ∷ 2 ∷ 2 ∷ 0 ∷ 0 ∷ 0 ∷ 1 ∷ []) ∷ rec 24 (7 ∷ 0 ∷ []) ∷ rec 27 [] ∷ rec 28 (0 ∷ []) ∷ []);
 }
 
 -- opposed surfaces, stored senses equal
@@ -626,7 +626,7 @@ opposedSame = record {
   damaged = [];
   room = 65536;
   ending = ok
-      (rec 21 (1 ∷ 2 ∷ 0 ∷ 0 ∷ 0 ∷ 0 ∷ []) ∷ rec 23 (5 ∷ 0 ∷ unset ∷ unset ∷ []) ∷ rec 24 (7 ∷ 0 ∷ []) ∷ rec 25 (0 ∷ 0 ∷ []) ∷ rec 24 (7 ∷ 0 ∷ []) ∷
+      (rec 21 (1 ∷ 2 ∷ 0 ∷ 0 ∷ 0 ∷ 0 ∷ 0 ∷ []) ∷ rec 23 (5 ∷ 0 ∷ unset ∷ unset ∷ []) ∷ rec 24 (7 ∷ 0 ∷ []) ∷ rec 25 (0 ∷ 0 ∷ []) ∷ rec 24 (7 ∷ 0 ∷ []) ∷
       rec 25 (0 ∷ 1 ∷ []) ∷ rec 27 [] ∷ rec 28 (0 ∷ 1 ∷ []) ∷ []);
 }
 
@@ -651,7 +651,7 @@ pointsSame = record {
   damaged = [];
   room = 65536;
   ending = ok
-      (rec 21 (1 ∷ 2 ∷ 2 ∷ 0 ∷ 0 ∷ 0 ∷ []) ∷ rec 24 (7 ∷ 0 ∷ []) ∷ rec 26 (3 ∷ []) ∷ rec 27 [] ∷ rec 28 (0 ∷ []) ∷ []);
+      (rec 21 (1 ∷ 2 ∷ 2 ∷ 0 ∷ 0 ∷ 0 ∷ 1 ∷ []) ∷ rec 24 (7 ∷ 0 ∷ []) ∷ rec 26 (3 ∷ []) ∷ rec 27 [] ∷ rec 28 (0 ∷ []) ∷ []);
 }
 
 -- two vertex loops are kept
@@ -664,7 +664,7 @@ pointsDiffer = record {
   damaged = [];
   room = 65536;
   ending = ok
-      (rec 21 (1 ∷ 2 ∷ 2 ∷ 0 ∷ 0 ∷ 0 ∷ []) ∷ rec 24 (7 ∷ 0 ∷ []) ∷ rec 26 (3 ∷ []) ∷ rec 26 (4 ∷ []) ∷ rec 27 [] ∷ rec 28 (0 ∷ []) ∷ []);
+      (rec 21 (1 ∷ 2 ∷ 2 ∷ 0 ∷ 0 ∷ 0 ∷ 1 ∷ []) ∷ rec 24 (7 ∷ 0 ∷ []) ∷ rec 26 (3 ∷ []) ∷ rec 26 (4 ∷ []) ∷ rec 27 [] ∷ rec 28 (0 ∷ []) ∷ []);
 }
 
 -- in two faces nothing is asked but inside each
@@ -690,7 +690,7 @@ fourJoined = record {
   damaged = [];
   room = 65536;
   ending = ok
-      (rec 21 (1 ∷ 8 ∷ 0 ∷ 0 ∷ 3 ∷ 1 ∷ []) ∷ rec 23 (5 ∷ 1 ∷ unset ∷ unset ∷ []) ∷ rec 24 (7 ∷ 0 ∷ []) ∷ rec 25 (0 ∷ 1 ∷ []) ∷ rec 24 (8 ∷ 0 ∷ []) ∷
+      (rec 21 (1 ∷ 8 ∷ 0 ∷ 0 ∷ 3 ∷ 1 ∷ 0 ∷ []) ∷ rec 23 (5 ∷ 1 ∷ unset ∷ unset ∷ []) ∷ rec 24 (7 ∷ 0 ∷ []) ∷ rec 25 (0 ∷ 1 ∷ []) ∷ rec 24 (8 ∷ 0 ∷ []) ∷
       rec 25 (0 ∷ 0 ∷ []) ∷ rec 27 [] ∷ rec 28 (0 ∷ 1 ∷ []) ∷ []);
 }
 
@@ -708,7 +708,7 @@ passTwice = record {
   damaged = [];
   room = 65536;
   ending = ok
-      (rec 21 (1 ∷ 14 ∷ 4 ∷ 4 ∷ 0 ∷ 0 ∷ []) ∷ rec 22 (0 ∷ []) ∷ rec 22 (1 ∷ []) ∷ rec 22 (2 ∷ []) ∷ rec 22 (3 ∷ []) ∷ rec 22 (4 ∷ []) ∷
+      (rec 21 (1 ∷ 14 ∷ 4 ∷ 4 ∷ 0 ∷ 0 ∷ 2 ∷ []) ∷ rec 22 (0 ∷ []) ∷ rec 22 (1 ∷ []) ∷ rec 22 (2 ∷ []) ∷ rec 22 (3 ∷ []) ∷ rec 22 (4 ∷ []) ∷
       rec 23 (10 ∷ 0 ∷ 0 ∷ 1 ∷ []) ∷ rec 23 (11 ∷ 0 ∷ 1 ∷ 2 ∷ []) ∷ rec 23 (12 ∷ 0 ∷ 2 ∷ 3 ∷ []) ∷ rec 23 (13 ∷ 0 ∷ 3 ∷ 4 ∷ []) ∷
       rec 23 (14 ∷ 0 ∷ 4 ∷ 0 ∷ []) ∷ rec 24 (7 ∷ 0 ∷ []) ∷ rec 25 (0 ∷ 0 ∷ 1 ∷ 0 ∷ 2 ∷ 0 ∷ 3 ∷ 0 ∷ 4 ∷ 0 ∷ []) ∷ rec 24 (8 ∷ 0 ∷ []) ∷
       rec 25 (4 ∷ 1 ∷ 3 ∷ 1 ∷ 2 ∷ 1 ∷ 1 ∷ 1 ∷ 0 ∷ 1 ∷ []) ∷ rec 27 [] ∷ rec 28 (0 ∷ 1 ∷ []) ∷ []);
@@ -753,7 +753,7 @@ unusedEdge = record {
   damaged = [];
   room = 65536;
   ending = ok
-      (rec 21 (1 ∷ 2 ∷ 0 ∷ 0 ∷ 0 ∷ 0 ∷ []) ∷ rec 23 (5 ∷ 0 ∷ unset ∷ unset ∷ []) ∷ rec 24 (7 ∷ 0 ∷ []) ∷ rec 25 (0 ∷ 0 ∷ []) ∷ rec 24 (8 ∷ 0 ∷ []) ∷
+      (rec 21 (1 ∷ 2 ∷ 0 ∷ 0 ∷ 0 ∷ 0 ∷ 0 ∷ []) ∷ rec 23 (5 ∷ 0 ∷ unset ∷ unset ∷ []) ∷ rec 24 (7 ∷ 0 ∷ []) ∷ rec 25 (0 ∷ 0 ∷ []) ∷ rec 24 (8 ∷ 0 ∷ []) ∷
       rec 25 (0 ∷ 1 ∷ []) ∷ rec 27 [] ∷ rec 28 (0 ∷ 1 ∷ []) ∷ []);
 }
 
@@ -766,7 +766,7 @@ vertexLoopLast = record {
   damaged = [];
   room = 65536;
   ending = ok
-      (rec 21 (1 ∷ 2 ∷ 0 ∷ 0 ∷ 0 ∷ 0 ∷ []) ∷ rec 23 (5 ∷ 0 ∷ unset ∷ unset ∷ []) ∷ rec 24 (7 ∷ 0 ∷ []) ∷ rec 25 (0 ∷ 0 ∷ []) ∷ rec 26 (9 ∷ []) ∷
+      (rec 21 (1 ∷ 2 ∷ 0 ∷ 0 ∷ 0 ∷ 0 ∷ 0 ∷ []) ∷ rec 23 (5 ∷ 0 ∷ unset ∷ unset ∷ []) ∷ rec 24 (7 ∷ 0 ∷ []) ∷ rec 25 (0 ∷ 0 ∷ []) ∷ rec 26 (9 ∷ []) ∷
       rec 24 (8 ∷ 0 ∷ []) ∷ rec 25 (0 ∷ 1 ∷ []) ∷ rec 27 [] ∷ rec 28 (0 ∷ 1 ∷ []) ∷ []);
 }
 
@@ -807,7 +807,7 @@ inner = record {
   damaged = [];
   room = 65536;
   ending = ok
-      (rec 21 (1 ∷ 6 ∷ 0 ∷ 0 ∷ 0 ∷ 0 ∷ []) ∷ rec 23 (5 ∷ 0 ∷ unset ∷ unset ∷ []) ∷ rec 23 (6 ∷ 0 ∷ unset ∷ unset ∷ []) ∷
+      (rec 21 (1 ∷ 6 ∷ 0 ∷ 0 ∷ 0 ∷ 0 ∷ 0 ∷ []) ∷ rec 23 (5 ∷ 0 ∷ unset ∷ unset ∷ []) ∷ rec 23 (6 ∷ 0 ∷ unset ∷ unset ∷ []) ∷
       rec 23 (7 ∷ 0 ∷ unset ∷ unset ∷ []) ∷ rec 24 (7 ∷ 0 ∷ []) ∷ rec 25 (0 ∷ 0 ∷ []) ∷ rec 24 (8 ∷ 0 ∷ []) ∷ rec 25 (0 ∷ 1 ∷ []) ∷ rec 24 (9 ∷ 0 ∷ []) ∷
       rec 25 (1 ∷ 0 ∷ []) ∷ rec 24 (10 ∷ 0 ∷ []) ∷ rec 25 (1 ∷ 1 ∷ []) ∷ rec 24 (11 ∷ 0 ∷ []) ∷ rec 25 (2 ∷ 0 ∷ []) ∷ rec 24 (12 ∷ 0 ∷ []) ∷
       rec 25 (2 ∷ 1 ∷ []) ∷ rec 27 [] ∷ rec 28 (0 ∷ 1 ∷ []) ∷ rec 27 [] ∷ rec 28 (2 ∷ 3 ∷ []) ∷ rec 28 (4 ∷ 5 ∷ []) ∷ []);
@@ -825,7 +825,7 @@ outerKept = record {
   damaged = [];
   room = 65536;
   ending = ok
-      (rec 21 (1 ∷ 6 ∷ 0 ∷ 0 ∷ 0 ∷ 0 ∷ []) ∷ rec 23 (5 ∷ 0 ∷ unset ∷ unset ∷ []) ∷ rec 23 (6 ∷ 0 ∷ unset ∷ unset ∷ []) ∷
+      (rec 21 (1 ∷ 6 ∷ 0 ∷ 0 ∷ 0 ∷ 0 ∷ 0 ∷ []) ∷ rec 23 (5 ∷ 0 ∷ unset ∷ unset ∷ []) ∷ rec 23 (6 ∷ 0 ∷ unset ∷ unset ∷ []) ∷
       rec 23 (7 ∷ 0 ∷ unset ∷ unset ∷ []) ∷ rec 24 (7 ∷ 0 ∷ []) ∷ rec 25 (0 ∷ 0 ∷ []) ∷ rec 24 (8 ∷ 0 ∷ []) ∷ rec 25 (0 ∷ 1 ∷ []) ∷ rec 24 (9 ∷ 0 ∷ []) ∷
       rec 25 (1 ∷ 0 ∷ []) ∷ rec 24 (10 ∷ 0 ∷ []) ∷ rec 25 (1 ∷ 1 ∷ []) ∷ rec 24 (11 ∷ 0 ∷ []) ∷ rec 25 (2 ∷ 0 ∷ []) ∷ rec 24 (12 ∷ 0 ∷ []) ∷
       rec 25 (2 ∷ 1 ∷ []) ∷ rec 27 [] ∷ rec 28 (0 ∷ 1 ∷ []) ∷ rec 28 (4 ∷ 5 ∷ []) ∷ rec 27 [] ∷ rec 28 (2 ∷ 3 ∷ []) ∷ []);
@@ -843,7 +843,7 @@ voidFirst = record {
   damaged = [];
   room = 65536;
   ending = ok
-      (rec 21 (1 ∷ 6 ∷ 0 ∷ 0 ∷ 0 ∷ 0 ∷ []) ∷ rec 23 (5 ∷ 0 ∷ unset ∷ unset ∷ []) ∷ rec 23 (6 ∷ 0 ∷ unset ∷ unset ∷ []) ∷
+      (rec 21 (1 ∷ 6 ∷ 0 ∷ 0 ∷ 0 ∷ 0 ∷ 0 ∷ []) ∷ rec 23 (5 ∷ 0 ∷ unset ∷ unset ∷ []) ∷ rec 23 (6 ∷ 0 ∷ unset ∷ unset ∷ []) ∷
       rec 23 (7 ∷ 0 ∷ unset ∷ unset ∷ []) ∷ rec 24 (7 ∷ 0 ∷ []) ∷ rec 25 (0 ∷ 0 ∷ []) ∷ rec 24 (8 ∷ 0 ∷ []) ∷ rec 25 (0 ∷ 1 ∷ []) ∷ rec 24 (9 ∷ 0 ∷ []) ∷
       rec 25 (1 ∷ 0 ∷ []) ∷ rec 24 (10 ∷ 0 ∷ []) ∷ rec 25 (1 ∷ 1 ∷ []) ∷ rec 24 (11 ∷ 0 ∷ []) ∷ rec 25 (2 ∷ 0 ∷ []) ∷ rec 24 (12 ∷ 0 ∷ []) ∷
       rec 25 (2 ∷ 1 ∷ []) ∷ rec 27 [] ∷ rec 28 (2 ∷ 3 ∷ []) ∷ rec 27 [] ∷ rec 28 (4 ∷ 5 ∷ []) ∷ rec 28 (0 ∷ 1 ∷ []) ∷ []);

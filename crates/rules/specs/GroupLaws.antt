@@ -1,18 +1,21 @@
 -- Laws of groups by label: a label is the lowest member of its group, what joining does to the groups, and the groups by number.
 use mathlib.Core.Path.{_≡_, refl, sym, ap, _∙_}
 use mathlib.Core.Logic.{_⊎_, inl, inr, ⊎-elim, _↔_}
-use mathlib.Core.List.{List}
-use Prim.Native.Nat.{ℕ, _≤_, _<_, min, max}
+use mathlib.Core.Bool.{cond}
+use mathlib.Core.List.{List, map-id}
+use Prim.Native.Nat.{ℕ, suc, _+_, _≤_, _<_, min, max}
 use native.Mathlib.Omega.{arith}
 use lib.ListN.{length, getD, length-map, List·getD-eq-default}
 use lib.Dec.{eqb, ltb}
-use borrow.Author.Tests.{eqb-true, eq-eqb, ltb-true, ltb-false}
-use Rattle.lists.specs.Lists.{below, _∈_, Nodup, indexOf}
+use borrow.Author.Tests.{eqb-true, eq-eqb, ne-eqb, ltb-true, ltb-false}
+use Rattle.lists.specs.Lists.{below, _∈_, Nodup, keep, indexOf}
 use Rattle.lists.specs.Tests.{both-ways, equal-or-not}
 use Rattle.lists.specs.Membership.{getD-in}
 use Rattle.lists.specs.Runs.{in-below, below-in, below-nodup, length-below, getD-below}
-use Rattle.lists.specs.Members.{in-keep, keep-in, keep-nodup, keep-length, position-le, getD-map, indexOf-in, indexOf-at}
-use Rattle.rules.specs.Groups.{alone, labelOf, moved, joined, isLowest, lowestMembers, groupNumbers}
+use Rattle.lists.specs.Members.{in-keep, keep-in, keep-nodup, keep-length, position-le, getD-map, map-same, indexOf-in, indexOf-at}
+use Rattle.lists.specs.Counts.{keep-all}
+use Rattle.lists.specs.KeepCounts.{keep-fall}
+use Rattle.rules.specs.Groups.{alone, labelOf, moved, joined, separate, isLowest, lowestMembers, groupNumbers}
 
 -- no label lies above its number, and a label is its own label
 pub record Lowest (g : List ℕ) : Type 0 where
@@ -47,6 +50,13 @@ alone-lowest n =
 
 -- JOINING
 
+-- the greater and the lesser of two numbers is one of them
+of-max : (x y : ℕ) {z : ℕ} → z ≡ max x y → (z ≡ x) ⊎ (z ≡ y)
+of-max x y e = ⊎-elim (λ w. inl (w .0)) (λ w. let n = w .0 in inr (omega arith)) (equal-or-not _ x)
+
+of-min : (x y : ℕ) {z : ℕ} → z ≡ min x y → (z ≡ x) ⊎ (z ≡ y)
+of-min x y e = ⊎-elim (λ w. inl (w .0)) (λ w. let n = w .0 in inr (omega arith)) (equal-or-not _ x)
+
 moved-from : (from to label : ℕ) → label ≡ from → moved from to label ≡ to
 unfolding moved
 moved-from from to label e = rw (eq-eqb label from e)
@@ -60,9 +70,12 @@ unfolding joined
 length-joined g a b = length-map g _
 
 module _ (g : List ℕ) (a b : ℕ) where
-  -- the lesser of the two labels
+  -- the lesser and the greater of the two labels
   abbrev pub lesserLabel : ℕ
   lesserLabel = min (labelOf g a) (labelOf g b)
+
+  abbrev pub greaterLabel : ℕ
+  greaterLabel = max (labelOf g a) (labelOf g b)
 
   joined-moved : (i : ℕ) → i < length g → labelOf (joined g a b) i ≡ moved (max (labelOf g a) (labelOf g b)) lesserLabel (labelOf g i)
   unfolding joined
@@ -77,10 +90,7 @@ module _ (g : List ℕ) (a b : ℕ) where
 
   -- a number of neither group keeps its label
   pub joined-out : (i : ℕ) → i < length g → (labelOf g i ≡ labelOf g a → ⊥) → (labelOf g i ≡ labelOf g b → ⊥) → labelOf (joined g a b) i ≡ labelOf g i
-  joined-out i h p q = joined-moved i h ∙ moved-other _ lesserLabel (labelOf g i) (λ e. ⊎-elim p q (either (labelOf g a) (labelOf g b) e))
-    where
-      either : (x y : ℕ) {z : ℕ} → z ≡ max x y → (z ≡ x) ⊎ (z ≡ y)
-      either x y e = ⊎-elim (λ w. inl (w .0)) (λ w. let n = w .0 in inr (omega arith)) (equal-or-not _ x)
+  joined-out i h p q = joined-moved i h ∙ moved-other _ lesserLabel (labelOf g i) (λ e. ⊎-elim p q (of-max (labelOf g a) (labelOf g b) e))
 
   -- the label of a number after joining, by cases
   pub joined-at : (i : ℕ) → i < length g
@@ -94,6 +104,17 @@ module _ (g : List ℕ) (a b : ℕ) where
   -- the two have one label afterwards
   pub joined-one : a < length g → b < length g → labelOf (joined g a b) a ≡ labelOf (joined g a b) b
   joined-one ha hb = joined-in a ha (inl refl) ∙ sym (joined-in b hb (inr refl))
+
+  -- one group already: joining changes no label
+  pub joined-same : labelOf g a ≡ labelOf g b → joined g a b ≡ g
+  unfolding joined
+  joined-same e = map-same (moved greaterLabel lesserLabel) (λ label. label) g (λ label m. stays label) ∙ map-id g
+    where
+      stays : (label : ℕ) → moved greaterLabel lesserLabel label ≡ label
+      stays label = ⊎-elim
+          (λ w. let q = w .0 in moved-from greaterLabel lesserLabel label q ∙ omega arith)
+          (λ w. moved-other greaterLabel lesserLabel label (w .0))
+          (equal-or-not label greaterLabel)
 
   -- numbers that had one label still have
   pub joined-keeps : (i k : ℕ) → i < length g → k < length g → labelOf g i ≡ labelOf g k → labelOf (joined g a b) i ≡ labelOf (joined g a b) k
@@ -169,6 +190,68 @@ in-lowestMembers g x h e = in-keep (isLowest g) (in-below (length g) x h) (eq-eq
 -- the label of each number is a lowest member
 pub label-in-lowestMembers : {g : List ℕ} → Lowest g → (i : ℕ) → i < length g → labelOf g i ∈ lowestMembers g
 label-in-lowestMembers {g} l i h = in-lowestMembers g (labelOf g i) (label-below l i h) (l .stands i h)
+
+-- each number alone: as many groups as numbers
+pub alone-many : (n : ℕ) → length (lowestMembers (alone n)) ≡ n
+alone-many n =
+    ap length (keep-all (isLowest (alone n)) (below (length (alone n))) (λ i m. eq-eqb (labelOf (alone n) i) i (label-alone n i (omega (arith, below-in (length (alone n)) i m, length-below n)))))
+    ∙ length-below (length (alone n)) ∙ length-below n
+
+-- JOINING TAKES ONE GROUP AWAY WHERE THE TWO WERE SEPARATE
+
+module _ (g : List ℕ) (a b : ℕ) (ha : a < length g) (hb : b < length g) (l : Lowest g) where
+  -- each of the two labels is a lowest member
+  own-label : (x : ℕ) → (x ≡ labelOf g a) ⊎ (x ≡ labelOf g b) → (x < length g) × (labelOf g x ≡ x)
+  own-label x = ⊎-elim
+      (λ e. let s = label-below l a ha in (omega arith, ap (labelOf g) e ∙ l .stands a ha ∙ sym e))
+      (λ e. let s = label-below l b hb in (omega arith, ap (labelOf g) e ∙ l .stands b hb ∙ sym e))
+
+  -- the groups after joining, counted among the same numbers
+  after : length (lowestMembers (joined g a b)) ≡ length (keep (isLowest (joined g a b)) (below (length g)))
+  after = ap (λ n. length (keep (isLowest (joined g a b)) (below n))) (length-joined g a b)
+
+  -- the greater of the two labels, and the lesser
+  abbrev top : ℕ
+  top = greaterLabel g a b
+
+  abbrev bottom : ℕ
+  bottom = lesserLabel g a b
+
+  -- separate groups: the greater label alone is a lowest member no longer
+  one-fewer : (labelOf g a ≡ labelOf g b → ⊥) → length (lowestMembers g) ≡ suc (length (lowestMembers (joined g a b)))
+  one-fewer apart =
+      keep-fall (isLowest g) (isLowest (joined g a b)) top (below (length g)) (below-nodup (length g)) (in-below (length g) top (greater .0))
+      (eq-eqb (labelOf g top) top (greater .1)) (ne-eqb (labelOf (joined g a b) top) top falls) (λ x m n. other x (below-in (length g) x m) n)
+      ∙ ap suc (sym after)
+    where
+      greater : (top < length g) × (labelOf g top ≡ top)
+      greater = own-label top (of-max (labelOf g a) (labelOf g b) refl)
+
+      falls : labelOf (joined g a b) top ≡ top → ⊥
+      falls e = apart (let q = joined-moved g a b top (greater .0) ∙ moved-from top bottom (labelOf g top) (greater .1) in omega arith)
+
+      other : (x : ℕ) → x < length g → (x ≡ top → ⊥) → isLowest g x ≡ isLowest (joined g a b) x
+      other x h n = ⊎-elim
+          (λ w.
+          let q : labelOf (joined g a b) x ≡ bottom = joined-moved g a b x h ∙ moved-from top bottom (labelOf g x) (w .0) in
+          ne-eqb (labelOf g x) x (λ e. n (sym e ∙ w .0)) ∙ sym (ne-eqb (labelOf (joined g a b) x) x (λ e. apart (equal x (sym e ∙ q) (w .0)))))
+          (λ w. ap (λ label. eqb label x) (sym (joined-moved g a b x h ∙ moved-other top (bottom) (labelOf g x) (w .0))))
+          (equal-or-not (labelOf g x) top)
+        where
+          -- the lesser label has itself as label
+          equal : (x : ℕ) → x ≡ bottom → labelOf g x ≡ top → labelOf g a ≡ labelOf g b
+          equal x z k = let s = own-label x (of-min (labelOf g a) (labelOf g b) z) .1 in omega arith
+
+  -- as many groups as before, less one where the two were separate
+  pub joined-fewer : length (lowestMembers (joined g a b)) + cond (separate g a b) 1 0 ≡ length (lowestMembers g)
+  joined-fewer = ⊎-elim
+      (λ w. let e = ap (λ m. length (lowestMembers m)) (joined-same g a b (w .0)) in rw (w .1) (omega arith))
+      (λ w. let e = one-fewer (w .0) in rw (w .1) (omega arith))
+      (equal-or-not (labelOf g a) (labelOf g b))
+
+  -- joining changes the groups where the two were separate
+  pub separate-changes : (labelOf g a ≡ labelOf g b → ⊥) → joined g a b ≡ g → ⊥
+  separate-changes apart e = let c = one-fewer apart in let k = ap (λ m. length (lowestMembers m)) e in absurd (omega arith)
 
 pub length-groupNumbers : (g : List ℕ) → length (groupNumbers g) ≡ length g
 unfolding groupNumbers

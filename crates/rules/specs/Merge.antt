@@ -14,7 +14,7 @@ use Rattle.rules.specs.Sense.{sameSense}
 use Rattle.rules.specs.Job.{Answer, faceAt}
 use Rattle.rules.specs.Questions.{surfaceAnswer, ask}
 use Rattle.rules.specs.Read.{faceOfUse, storedSense}
-use Rattle.rules.specs.Groups.{alone, labelOf, joined, groupNumbers}
+use Rattle.rules.specs.Groups.{alone, labelOf, joined, Grouping, joinGroups, groupNumbers}
 use Rattle.rules.specs.Pair.{twinOf}
 use Rattle.rules.specs.Rules.{Table}
 
@@ -42,24 +42,28 @@ joinsFaces t equal Undecided = refuse 21 8
 abbrev pub equalSenses : List Face → List Use → List ℕ → ℕ → Bool
 equalSenses fs us ts h = sameSense (storedSense (faceAt fs (faceOfUse us h))) (storedSense (faceAt fs (otherFace us ts h)))
 
--- the surface question of lower use h, and the groups after its answer
-unfoldable pub surfaceStep : Table → List Answer → List Face → List Use → List ℕ → ℕ → List ℕ → Outcome (List ℕ)
+-- the surface question of lower use h: the groups after its answer, and a face join more where it changed them
+unfoldable pub surfaceStep : Table → List Answer → List Face → List Use → List ℕ → ℕ → Grouping → Outcome Grouping
 surfaceStep t answers fs us ts h g = ask answers 8 (h ∷ []) >>= λ v.
     joinsFaces t (equalSenses fs us ts h) (surfaceAnswer v) >>= λ yes.
-    ok (cond yes (joined g (faceOfUse us h) (otherFace us ts h)) g)
+    ok (cond yes (joinGroups g (faceOfUse us h) (otherFace us ts h)) g)
 
 -- Merging: no question for the higher use of a pair; skipped when both uses are on one selected face
 abbrev pub unasked : List Use → List ℕ → ℕ → Bool
 unasked us ts h = leb (twinOf ts h) h || eqb (faceOfUse us h) (otherFace us ts h)
 
-unfoldable pub mergeStep : Table → List Answer → List Face → List Use → List ℕ → ℕ → List ℕ → Outcome (List ℕ)
+unfoldable pub mergeStep : Table → List Answer → List Face → List Use → List ℕ → ℕ → Grouping → Outcome Grouping
 mergeStep t answers fs us ts h g =
     let put = surfaceStep t answers fs us ts h g in
     cond (unasked us ts h) (ok g) put
 
+-- each of n faces in a group of its own
+abbrev pub ungrouped : ℕ → Grouping
+ungrouped n = record { groups = alone n; joins = 0 }
+
 -- Merging: surface questions go by ascending lower use
-abbrev pub mergedGroups : Table → List Answer → List Face → List Use → List ℕ → Outcome (List ℕ)
-mergedGroups t answers fs us ts = throughout (mergeStep t answers fs us ts) (below (length us)) (alone (length fs))
+abbrev pub mergedGroups : Table → List Answer → List Face → List Use → List ℕ → Outcome Grouping
+mergedGroups t answers fs us ts = throughout (mergeStep t answers fs us ts) (below (length us)) (ungrouped (length fs))
 
 -- Merging: a use is removed when its face and its twin's have one group
 abbrev pub removes : List Use → List ℕ → List ℕ → ℕ → Bool
@@ -73,16 +77,17 @@ removedUses us ts g = map (removes us ts g) (below (length us))
 abbrev pub isRemoved : List Bool → ℕ → Bool
 isRemoved rm h = getD rm h false
 
--- what merging gives: boundaries and merged groups by label, and which uses are removed
+-- what merging gives: boundaries and merged groups by label, the number of face joins, and which uses are removed
 pub record Merged : Type 0 where
   pub boundaries : List ℕ
   pub groups : List ℕ
+  pub joins : ℕ
   pub removed : List Bool
 
 -- Merging, whole
 unfoldable pub mergeFaces : Table → List Answer → List Face → List Use → List ℕ → Outcome Merged
 mergeFaces t answers fs us ts = mergedGroups t answers fs us ts >>= λ g.
-    ok (record { boundaries = boundaries us ts (length fs); groups = g; removed = removedUses us ts g })
+    ok (record { boundaries = boundaries us ts (length fs); groups = g .groups; joins = g .joins; removed = removedUses us ts (g .groups) })
 
 -- Merging: merged groups are the merged faces, by ascending lowest member; the merged face of each selected face
 abbrev pub mergedFaces : Merged → List ℕ

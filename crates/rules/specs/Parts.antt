@@ -15,7 +15,7 @@ use Rattle.rules.specs.Open.{computes}
 unfoldable pub P1 : Row
 P1 = record {
   job = rec 1 (0 ∷ []) ∷ [];
-  ending = ok (rec 21 (0 ∷ 0 ∷ 0 ∷ 0 ∷ 0 ∷ 0 ∷ []) ∷ []);
+  ending = ok (rec 21 (0 ∷ 0 ∷ 0 ∷ 0 ∷ 0 ∷ 0 ∷ 0 ∷ []) ∷ []);
 }
 
 -- two faces on one ring, used Same then in the given sense
@@ -31,7 +31,7 @@ unfoldable pub P2 : Row
 P2 = record {
   job = ringJob 1 ++ (rec 8 (0 ∷ 0 ∷ []) ∷ []);
   ending = ok
-      (rec 21 (1 ∷ 2 ∷ 0 ∷ 0 ∷ 0 ∷ 0 ∷ []) ∷
+      (rec 21 (1 ∷ 2 ∷ 0 ∷ 0 ∷ 0 ∷ 0 ∷ 0 ∷ []) ∷
       rec 23 (5 ∷ 0 ∷ unset ∷ unset ∷ []) ∷
       rec 24 (7 ∷ 0 ∷ []) ∷ rec 25 (0 ∷ 0 ∷ []) ∷
       rec 24 (8 ∷ 0 ∷ []) ∷ rec 25 (0 ∷ 1 ∷ []) ∷
@@ -42,7 +42,7 @@ P2 = record {
 unfoldable pub P3 : Row
 P3 = record {
   job = ringJob 1 ++ (rec 8 (0 ∷ 1 ∷ []) ∷ []);
-  ending = ok (rec 21 (1 ∷ 2 ∷ 2 ∷ 0 ∷ 0 ∷ 0 ∷ []) ∷ rec 24 (7 ∷ 0 ∷ []) ∷ rec 27 [] ∷ rec 28 (0 ∷ []) ∷ []);
+  ending = ok (rec 21 (1 ∷ 2 ∷ 2 ∷ 0 ∷ 0 ∷ 0 ∷ 1 ∷ []) ∷ rec 24 (7 ∷ 0 ∷ []) ∷ rec 27 [] ∷ rec 28 (0 ∷ []) ∷ []);
 }
 
 -- both uses Same
@@ -79,7 +79,7 @@ unfoldable pub P7 : Row
 P7 = record {
   job = lensJob 0;
   ending = ok
-      (rec 21 (1 ∷ 4 ∷ 0 ∷ 0 ∷ 1 ∷ 1 ∷ []) ∷
+      (rec 21 (1 ∷ 4 ∷ 0 ∷ 0 ∷ 1 ∷ 1 ∷ 0 ∷ []) ∷
       rec 23 (5 ∷ 1 ∷ unset ∷ unset ∷ []) ∷
       rec 24 (7 ∷ 0 ∷ []) ∷ rec 25 (0 ∷ 1 ∷ []) ∷
       rec 24 (8 ∷ 0 ∷ []) ∷ rec 25 (0 ∷ 0 ∷ []) ∷
@@ -91,7 +91,7 @@ unfoldable pub P8 : Row
 P8 = record {
   job = lensJob 1;
   ending = ok
-      (rec 21 (1 ∷ 4 ∷ 0 ∷ 0 ∷ 1 ∷ 0 ∷ []) ∷
+      (rec 21 (1 ∷ 4 ∷ 0 ∷ 0 ∷ 1 ∷ 0 ∷ 0 ∷ []) ∷
       rec 22 (0 ∷ []) ∷
       rec 23 (5 ∷ 0 ∷ 0 ∷ 0 ∷ []) ∷
       rec 24 (7 ∷ 0 ∷ []) ∷ rec 25 (0 ∷ 0 ∷ []) ∷
@@ -112,7 +112,7 @@ P9 = record {
       rec 8 (0 ∷ 0 ∷ []) ∷ rec 8 (1 ∷ 1 ∷ []) ∷ rec 8 (3 ∷ 0 ∷ []) ∷
       rec 10 (5 ∷ 6 ∷ 0 ∷ []) ∷ [];
   ending = ok
-      (rec 21 (1 ∷ 6 ∷ 2 ∷ 2 ∷ 0 ∷ 0 ∷ []) ∷
+      (rec 21 (1 ∷ 6 ∷ 2 ∷ 2 ∷ 0 ∷ 0 ∷ 1 ∷ []) ∷
       rec 22 (0 ∷ []) ∷ rec 22 (1 ∷ []) ∷
       rec 23 (5 ∷ 0 ∷ 0 ∷ 1 ∷ []) ∷ rec 23 (6 ∷ 0 ∷ 1 ∷ 0 ∷ []) ∷
       rec 24 (7 ∷ 0 ∷ []) ∷ rec 25 (0 ∷ 0 ∷ 1 ∷ 0 ∷ []) ∷

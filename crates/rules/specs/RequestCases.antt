@@ -1,18 +1,23 @@
 -- Jobs made by hand from document 02, request by request.
 use mathlib.Core.Path.{_≡_, refl}
-use mathlib.Core.List.{List, [], _∷_, map}
+use mathlib.Core.List.{List, [], _∷_, _++_, map}
+use Prim.Native.Nat.{ℕ}
+use lib.ListN.{length}
 use mathlib.Core.Bool.{Bool, true}
-use Rattle.lists.specs.Lists.{all}
-use Rattle.rules.specs.Outcome.{ok, refuse, _>>=_}
+use Rattle.lists.specs.Lists.{all, below}
+use Rattle.rules.specs.Outcome.{Outcome, ok, refuse, _>>=_, throughout}
 use Rattle.rules.specs.Fields.{fieldBytes}
 use Rattle.rules.specs.Frame.{framedAll}
 use Rattle.rules.specs.Job.{unset}
 use Rattle.rules.specs.Load.{loaded}
 use Rattle.rules.specs.Read.{usesOf, useStart}
-use Rattle.rules.specs.Rules.{ordinary}
+use Rattle.rules.specs.Pair.{pair}
+use Rattle.rules.specs.Rules.{fullTable, ordinary}
+use Rattle.rules.specs.Merge.{mergeStep, ungrouped}
 use Rattle.rules.specs.Body.{rec}
 use Rattle.rules.specs.Tables.{Row, right, sameRecords}
 use Rattle.rules.specs.Cases.{sameBytes}
+use Rattle.rules.specs.Sew.{sewn}
 use Rattle.rules.specs.Stage.{readStage, fanStage}
 use Rattle.rules.specs.Open.{computes}
 
@@ -23,7 +28,7 @@ unfoldable pub fourFaces : Row
 fourFaces = record {
   job = rec 1 (1 ∷ []) ∷ rec 4 (7 ∷ 0 ∷ 0 ∷ []) ∷ rec 4 (8 ∷ 0 ∷ 1 ∷ []) ∷ rec 4 (9 ∷ 1 ∷ 0 ∷ []) ∷ rec 4 (10 ∷ 1 ∷ 1 ∷ []) ∷ [];
   ending =
-      ok (rec 21 (1 ∷ 0 ∷ 0 ∷ 0 ∷ 0 ∷ 0 ∷ []) ∷ rec 24 (7 ∷ 0 ∷ []) ∷ rec 24 (8 ∷ 1 ∷ []) ∷ rec 24 (9 ∷ 1 ∷ []) ∷ rec 24 (10 ∷ 0 ∷ []) ∷ rec 27 [] ∷ rec 28 (0 ∷ []) ∷
+      ok (rec 21 (1 ∷ 0 ∷ 0 ∷ 0 ∷ 0 ∷ 0 ∷ 0 ∷ []) ∷ rec 24 (7 ∷ 0 ∷ []) ∷ rec 24 (8 ∷ 1 ∷ []) ∷ rec 24 (9 ∷ 1 ∷ []) ∷ rec 24 (10 ∷ 0 ∷ []) ∷ rec 27 [] ∷ rec 28 (0 ∷ []) ∷
       rec 27 [] ∷ rec 28 (1 ∷ []) ∷ rec 27 [] ∷ rec 28 (2 ∷ []) ∷ rec 27 [] ∷ rec 28 (3 ∷ []) ∷ []);
 }
 
@@ -31,7 +36,7 @@ fourFaces = record {
 unfoldable pub reversedTwice : Row
 reversedTwice = record {
   job = rec 1 (1 ∷ []) ∷ rec 3 (5 ∷ 0 ∷ unset ∷ unset ∷ []) ∷ rec 4 (7 ∷ 0 ∷ 0 ∷ []) ∷ rec 5 (0 ∷ 0 ∷ []) ∷ rec 4 (8 ∷ 1 ∷ 1 ∷ []) ∷ rec 5 (0 ∷ 0 ∷ []) ∷ rec 8 (0 ∷ 1 ∷ []) ∷ [];
-  ending = ok (rec 21 (1 ∷ 2 ∷ 2 ∷ 0 ∷ 0 ∷ 0 ∷ []) ∷ rec 24 (7 ∷ 0 ∷ []) ∷ rec 27 [] ∷ rec 28 (0 ∷ []) ∷ []);
+  ending = ok (rec 21 (1 ∷ 2 ∷ 2 ∷ 0 ∷ 0 ∷ 0 ∷ 1 ∷ []) ∷ rec 24 (7 ∷ 0 ∷ []) ∷ rec 27 [] ∷ rec 28 (0 ∷ []) ∷ []);
 }
 
 -- a loop's sense times the selected sense, the four cases in turn: two rings, a face selected Same and one selected Reversed
@@ -41,7 +46,7 @@ fourUses = record {
       rec 1 (1 ∷ []) ∷ rec 3 (5 ∷ 0 ∷ unset ∷ unset ∷ []) ∷ rec 3 (6 ∷ 0 ∷ unset ∷ unset ∷ []) ∷ rec 4 (7 ∷ 0 ∷ 0 ∷ []) ∷ rec 5 (0 ∷ 0 ∷ []) ∷ rec 5 (1 ∷ 1 ∷ []) ∷
       rec 4 (8 ∷ 0 ∷ 1 ∷ []) ∷ rec 5 (0 ∷ 0 ∷ []) ∷ rec 5 (1 ∷ 1 ∷ []) ∷ rec 8 (0 ∷ 0 ∷ []) ∷ rec 8 (1 ∷ 0 ∷ []) ∷ [];
   ending =
-      ok (rec 21 (1 ∷ 4 ∷ 0 ∷ 0 ∷ 0 ∷ 0 ∷ []) ∷ rec 23 (5 ∷ 0 ∷ unset ∷ unset ∷ []) ∷ rec 23 (6 ∷ 0 ∷ unset ∷ unset ∷ []) ∷ rec 24 (7 ∷ 0 ∷ []) ∷ rec 25 (0 ∷ 0 ∷ []) ∷
+      ok (rec 21 (1 ∷ 4 ∷ 0 ∷ 0 ∷ 0 ∷ 0 ∷ 0 ∷ []) ∷ rec 23 (5 ∷ 0 ∷ unset ∷ unset ∷ []) ∷ rec 23 (6 ∷ 0 ∷ unset ∷ unset ∷ []) ∷ rec 24 (7 ∷ 0 ∷ []) ∷ rec 25 (0 ∷ 0 ∷ []) ∷
       rec 25 (1 ∷ 1 ∷ []) ∷ rec 24 (8 ∷ 1 ∷ []) ∷ rec 25 (0 ∷ 1 ∷ []) ∷ rec 25 (1 ∷ 0 ∷ []) ∷ rec 27 [] ∷ rec 28 (0 ∷ 1 ∷ []) ∷ []);
 }
 
@@ -67,7 +72,7 @@ twoHalves = record {
       rec 4 (7 ∷ 0 ∷ 0 ∷ []) ∷ rec 5 (0 ∷ 0 ∷ 1 ∷ 0 ∷ []) ∷ rec 4 (8 ∷ 0 ∷ 0 ∷ []) ∷ rec 5 (1 ∷ 1 ∷ 0 ∷ 1 ∷ []) ∷ rec 8 (0 ∷ 0 ∷ []) ∷ rec 8 (1 ∷ 0 ∷ []) ∷
       rec 11 (5 ∷ 0 ∷ 1 ∷ 0 ∷ 0 ∷ []) ∷ rec 11 (5 ∷ 0 ∷ 1 ∷ 1 ∷ 0 ∷ []) ∷ [];
   ending =
-      ok (rec 21 (1 ∷ 4 ∷ 0 ∷ 0 ∷ 1 ∷ 1 ∷ []) ∷ rec 23 (5 ∷ 1 ∷ unset ∷ unset ∷ []) ∷ rec 24 (7 ∷ 0 ∷ []) ∷ rec 25 (0 ∷ 1 ∷ []) ∷ rec 24 (8 ∷ 0 ∷ []) ∷
+      ok (rec 21 (1 ∷ 4 ∷ 0 ∷ 0 ∷ 1 ∷ 1 ∷ 0 ∷ []) ∷ rec 23 (5 ∷ 1 ∷ unset ∷ unset ∷ []) ∷ rec 24 (7 ∷ 0 ∷ []) ∷ rec 25 (0 ∷ 1 ∷ []) ∷ rec 24 (8 ∷ 0 ∷ []) ∷
       rec 25 (0 ∷ 0 ∷ []) ∷ rec 27 [] ∷ rec 28 (0 ∷ 1 ∷ []) ∷ []);
 }
 
@@ -80,7 +85,7 @@ triangleByPoint = record {
       rec 5 (1 ∷ 0 ∷ 2 ∷ 0 ∷ 0 ∷ 0 ∷ []) ∷ rec 8 (0 ∷ 0 ∷ []) ∷ rec 8 (1 ∷ 0 ∷ []) ∷ rec 8 (2 ∷ 0 ∷ []) ∷ rec 10 (5 ∷ 6 ∷ 0 ∷ []) ∷ rec 10 (6 ∷ 7 ∷ 0 ∷ []) ∷
       rec 10 (5 ∷ 7 ∷ 0 ∷ []) ∷ [];
   ending =
-      ok (rec 21 (1 ∷ 6 ∷ 0 ∷ 0 ∷ 0 ∷ 0 ∷ []) ∷ rec 22 (11 ∷ []) ∷ rec 22 (12 ∷ []) ∷ rec 22 (13 ∷ []) ∷ rec 23 (5 ∷ 0 ∷ 0 ∷ 1 ∷ []) ∷ rec 23 (6 ∷ 0 ∷ 1 ∷ 2 ∷ []) ∷
+      ok (rec 21 (1 ∷ 6 ∷ 0 ∷ 0 ∷ 0 ∷ 0 ∷ 0 ∷ []) ∷ rec 22 (11 ∷ []) ∷ rec 22 (12 ∷ []) ∷ rec 22 (13 ∷ []) ∷ rec 23 (5 ∷ 0 ∷ 0 ∷ 1 ∷ []) ∷ rec 23 (6 ∷ 0 ∷ 1 ∷ 2 ∷ []) ∷
       rec 23 (7 ∷ 0 ∷ 2 ∷ 0 ∷ []) ∷ rec 24 (7 ∷ 0 ∷ []) ∷ rec 25 (0 ∷ 0 ∷ 1 ∷ 0 ∷ 2 ∷ 0 ∷ []) ∷ rec 24 (8 ∷ 1 ∷ []) ∷ rec 25 (0 ∷ 1 ∷ 2 ∷ 1 ∷ 1 ∷ 1 ∷ []) ∷ rec 27 [] ∷
       rec 28 (0 ∷ 1 ∷ []) ∷ []);
 }
@@ -92,7 +97,7 @@ aloneByPoint = record {
       rec 1 (1 ∷ []) ∷ rec 2 (4294967295 ∷ []) ∷ rec 2 (4294967295 ∷ []) ∷ rec 3 (5 ∷ 0 ∷ 0 ∷ 1 ∷ []) ∷ rec 4 (7 ∷ 0 ∷ 0 ∷ []) ∷ rec 5 (0 ∷ 0 ∷ []) ∷ rec 4 (8 ∷ 0 ∷ 0 ∷ []) ∷
       rec 5 (0 ∷ 1 ∷ []) ∷ rec 8 (0 ∷ 0 ∷ []) ∷ rec 11 (5 ∷ 0 ∷ 1 ∷ 4294967295 ∷ 1 ∷ []) ∷ [];
   ending =
-      ok (rec 21 (1 ∷ 2 ∷ 0 ∷ 0 ∷ 0 ∷ 0 ∷ []) ∷ rec 22 (4294967295 ∷ []) ∷ rec 23 (5 ∷ 0 ∷ 0 ∷ 0 ∷ []) ∷ rec 24 (7 ∷ 0 ∷ []) ∷ rec 25 (0 ∷ 0 ∷ []) ∷ rec 24 (8 ∷ 0 ∷ []) ∷
+      ok (rec 21 (1 ∷ 2 ∷ 0 ∷ 0 ∷ 0 ∷ 0 ∷ 0 ∷ []) ∷ rec 22 (4294967295 ∷ []) ∷ rec 23 (5 ∷ 0 ∷ 0 ∷ 0 ∷ []) ∷ rec 24 (7 ∷ 0 ∷ []) ∷ rec 25 (0 ∷ 0 ∷ []) ∷ rec 24 (8 ∷ 0 ∷ []) ∷
       rec 25 (0 ∷ 1 ∷ []) ∷ rec 27 [] ∷ rec 28 (0 ∷ 1 ∷ []) ∷ []);
 }
 
@@ -181,3 +186,114 @@ pub fans-right : sameBytes (fanStage ordinary (framedAll (triangleByPoint .job))
     (ok (fieldBytes (0 ∷ 0 ∷ 11 ∷ 1 ∷ 1 ∷ 12 ∷ 2 ∷ 2 ∷ 13 ∷ 3 ∷ 1 ∷ 12 ∷ 4 ∷ 0 ∷ 11 ∷ 5 ∷ 2 ∷ 13 ∷ []))) ≡ true
 unfolding computes triangleByPoint
 fans-right = refl
+
+-- SIX, WHETHER ANYTHING JOINED
+
+-- two surface questions between the same two faces: both answers join, and the second finds one group
+unfoldable pub joinedOnce : Row
+joinedOnce = record {
+  job =
+      rec 1 (1 ∷ []) ∷ rec 3 (5 ∷ 0 ∷ unset ∷ unset ∷ []) ∷ rec 3 (6 ∷ 0 ∷ unset ∷ unset ∷ []) ∷ rec 4 (7 ∷ 0 ∷ 0 ∷ []) ∷ rec 5 (0 ∷ 0 ∷ []) ∷
+      rec 5 (1 ∷ 0 ∷ []) ∷ rec 4 (7 ∷ 0 ∷ 0 ∷ []) ∷ rec 5 (0 ∷ 1 ∷ []) ∷ rec 5 (1 ∷ 1 ∷ []) ∷ rec 8 (0 ∷ 1 ∷ []) ∷ rec 8 (1 ∷ 1 ∷ []) ∷ [];
+  ending =
+      ok (rec 21 (1 ∷ 4 ∷ 4 ∷ 0 ∷ 0 ∷ 0 ∷ 1 ∷ []) ∷ rec 24 (7 ∷ 0 ∷ []) ∷ rec 27 [] ∷ rec 28 (0 ∷ []) ∷ []);
+}
+
+-- the face across is in a group already, and not its lowest: the join counts
+unfoldable pub secondFaceInAGroup : Row
+secondFaceInAGroup = record {
+  job =
+      rec 1 (1 ∷ []) ∷ rec 3 (5 ∷ 0 ∷ unset ∷ unset ∷ []) ∷ rec 3 (6 ∷ 0 ∷ unset ∷ unset ∷ []) ∷ rec 4 (7 ∷ 0 ∷ 0 ∷ []) ∷ rec 5 (0 ∷ 0 ∷ []) ∷
+      rec 4 (7 ∷ 0 ∷ 0 ∷ []) ∷ rec 5 (1 ∷ 0 ∷ []) ∷ rec 4 (7 ∷ 0 ∷ 0 ∷ []) ∷ rec 5 (0 ∷ 1 ∷ []) ∷ rec 5 (1 ∷ 1 ∷ []) ∷ rec 8 (0 ∷ 1 ∷ []) ∷
+      rec 8 (1 ∷ 1 ∷ []) ∷ [];
+  ending =
+      ok (rec 21 (1 ∷ 4 ∷ 4 ∷ 0 ∷ 0 ∷ 0 ∷ 2 ∷ []) ∷ rec 24 (7 ∷ 0 ∷ []) ∷ rec 27 [] ∷ rec 28 (0 ∷ []) ∷ []);
+}
+
+-- the same for the face that asks
+unfoldable pub firstFaceInAGroup : Row
+firstFaceInAGroup = record {
+  job =
+      rec 1 (1 ∷ []) ∷ rec 3 (5 ∷ 0 ∷ unset ∷ unset ∷ []) ∷ rec 3 (6 ∷ 0 ∷ unset ∷ unset ∷ []) ∷ rec 4 (7 ∷ 0 ∷ 0 ∷ []) ∷ rec 5 (0 ∷ 0 ∷ []) ∷
+      rec 4 (7 ∷ 0 ∷ 0 ∷ []) ∷ rec 5 (0 ∷ 1 ∷ []) ∷ rec 5 (1 ∷ 0 ∷ []) ∷ rec 4 (7 ∷ 0 ∷ 0 ∷ []) ∷ rec 5 (1 ∷ 1 ∷ []) ∷ rec 8 (0 ∷ 1 ∷ []) ∷
+      rec 8 (2 ∷ 1 ∷ []) ∷ [];
+  ending =
+      ok (rec 21 (1 ∷ 4 ∷ 4 ∷ 0 ∷ 0 ∷ 0 ∷ 2 ∷ []) ∷ rec 24 (7 ∷ 0 ∷ []) ∷ rec 27 [] ∷ rec 28 (0 ∷ []) ∷ []);
+}
+
+-- two groups of two faces each become one through the higher faces of both
+unfoldable pub pairsOfFaces : Row
+pairsOfFaces = record {
+  job =
+      rec 1 (1 ∷ []) ∷ rec 3 (5 ∷ 0 ∷ unset ∷ unset ∷ []) ∷ rec 3 (6 ∷ 0 ∷ unset ∷ unset ∷ []) ∷ rec 3 (7 ∷ 0 ∷ unset ∷ unset ∷ []) ∷
+      rec 4 (7 ∷ 0 ∷ 0 ∷ []) ∷ rec 5 (0 ∷ 0 ∷ []) ∷ rec 4 (7 ∷ 0 ∷ 0 ∷ []) ∷ rec 5 (1 ∷ 0 ∷ []) ∷ rec 4 (7 ∷ 0 ∷ 0 ∷ []) ∷ rec 5 (0 ∷ 1 ∷ []) ∷
+      rec 5 (2 ∷ 0 ∷ []) ∷ rec 4 (7 ∷ 0 ∷ 0 ∷ []) ∷ rec 5 (1 ∷ 1 ∷ []) ∷ rec 5 (2 ∷ 1 ∷ []) ∷ rec 8 (0 ∷ 1 ∷ []) ∷ rec 8 (1 ∷ 1 ∷ []) ∷ rec 8 (3 ∷ 1 ∷ []) ∷
+      [];
+  ending =
+      ok (rec 21 (1 ∷ 6 ∷ 6 ∷ 0 ∷ 0 ∷ 0 ∷ 3 ∷ []) ∷ rec 24 (7 ∷ 0 ∷ []) ∷ rec 27 [] ∷ rec 28 (0 ∷ []) ∷ []);
+}
+
+-- three faces, each beside each: the first two answers join, the third finds one group
+unfoldable pub threeInARound : Row
+threeInARound = record {
+  job =
+      rec 1 (1 ∷ []) ∷ rec 3 (5 ∷ 0 ∷ unset ∷ unset ∷ []) ∷ rec 3 (6 ∷ 0 ∷ unset ∷ unset ∷ []) ∷ rec 3 (7 ∷ 0 ∷ unset ∷ unset ∷ []) ∷
+      rec 4 (7 ∷ 0 ∷ 0 ∷ []) ∷ rec 5 (0 ∷ 0 ∷ []) ∷ rec 5 (1 ∷ 0 ∷ []) ∷ rec 4 (7 ∷ 0 ∷ 0 ∷ []) ∷ rec 5 (0 ∷ 1 ∷ []) ∷ rec 5 (2 ∷ 0 ∷ []) ∷
+      rec 4 (7 ∷ 0 ∷ 0 ∷ []) ∷ rec 5 (1 ∷ 1 ∷ []) ∷ rec 5 (2 ∷ 1 ∷ []) ∷ rec 8 (0 ∷ 1 ∷ []) ∷ rec 8 (1 ∷ 1 ∷ []) ∷ rec 8 (3 ∷ 1 ∷ []) ∷ [];
+  ending =
+      ok (rec 21 (1 ∷ 6 ∷ 6 ∷ 0 ∷ 0 ∷ 0 ∷ 2 ∷ []) ∷ rec 24 (7 ∷ 0 ∷ []) ∷ rec 27 [] ∷ rec 28 (0 ∷ []) ∷ []);
+}
+
+-- of three questions one joins: surfaces distinct, and normals that agree where the stored senses differ
+unfoldable pub askedInVain : Row
+askedInVain = record {
+  job =
+      rec 1 (1 ∷ []) ∷ rec 3 (5 ∷ 0 ∷ unset ∷ unset ∷ []) ∷ rec 3 (6 ∷ 0 ∷ unset ∷ unset ∷ []) ∷ rec 3 (7 ∷ 0 ∷ unset ∷ unset ∷ []) ∷
+      rec 4 (7 ∷ 0 ∷ 0 ∷ []) ∷ rec 5 (0 ∷ 0 ∷ []) ∷ rec 4 (8 ∷ 0 ∷ 0 ∷ []) ∷ rec 5 (0 ∷ 1 ∷ []) ∷ rec 5 (1 ∷ 0 ∷ []) ∷ rec 4 (8 ∷ 0 ∷ 0 ∷ []) ∷
+      rec 5 (1 ∷ 1 ∷ []) ∷ rec 5 (2 ∷ 0 ∷ []) ∷ rec 4 (8 ∷ 1 ∷ 0 ∷ []) ∷ rec 5 (2 ∷ 1 ∷ []) ∷ rec 8 (0 ∷ 0 ∷ []) ∷ rec 8 (2 ∷ 1 ∷ []) ∷ rec 8 (4 ∷ 1 ∷ []) ∷
+      [];
+  ending =
+      ok (rec 21 (1 ∷ 6 ∷ 2 ∷ 0 ∷ 0 ∷ 0 ∷ 1 ∷ []) ∷ rec 23 (5 ∷ 0 ∷ unset ∷ unset ∷ []) ∷ rec 23 (7 ∷ 0 ∷ unset ∷ unset ∷ []) ∷ rec 24 (7 ∷ 0 ∷ []) ∷
+      rec 25 (0 ∷ 0 ∷ []) ∷ rec 24 (8 ∷ 0 ∷ []) ∷ rec 25 (0 ∷ 1 ∷ []) ∷ rec 25 (1 ∷ 0 ∷ []) ∷ rec 24 (8 ∷ 1 ∷ []) ∷ rec 25 (1 ∷ 1 ∷ []) ∷ rec 27 [] ∷
+      rec 28 (0 ∷ 1 ∷ 2 ∷ []) ∷ []);
+}
+
+unfoldable pub joinRows : List Row
+joinRows = joinedOnce ∷ secondFaceInAGroup ∷ firstFaceInAGroup ∷ pairsOfFaces ∷ threeInARound ∷ askedInVain ∷ []
+
+pub joins-right : all right joinRows ≡ true
+unfolding computes sameRecords joinRows joinedOnce secondFaceInAGroup firstFaceInAGroup pairsOfFaces threeInARound askedInVain
+joins-right = refl
+
+-- face joins and groups when so many uses of the three in a round have asked: the third question, of use 3, changes nothing
+unfoldable pub joinsSoFar : ℕ → Outcome (List ℕ)
+joinsSoFar k = loaded (framedAll (threeInARound .job)) >>= λ j.
+    pair (j .answers) (usesOf j) (length (j .edges)) >>= λ ts.
+    throughout (mergeStep fullTable (j .answers) (j .faces) (usesOf j) ts) (below k) (ungrouped (length (j .faces))) >>= λ g.
+    ok (g .joins ∷ g .groups)
+
+unfoldable pub questionTests : List Bool
+questionTests =
+    sameBytes (joinsSoFar 0) (ok (0 ∷ 0 ∷ 1 ∷ 2 ∷ [])) ∷
+    sameBytes (joinsSoFar 1) (ok (1 ∷ 0 ∷ 0 ∷ 2 ∷ [])) ∷
+    sameBytes (joinsSoFar 2) (ok (2 ∷ 0 ∷ 0 ∷ 0 ∷ [])) ∷
+    sameBytes (joinsSoFar 3) (ok (2 ∷ 0 ∷ 0 ∷ 0 ∷ [])) ∷
+    sameBytes (joinsSoFar 4) (ok (2 ∷ 0 ∷ 0 ∷ 0 ∷ [])) ∷ []
+
+pub each-question-right : all (λ b. b) questionTests ≡ true
+unfolding computes questionTests joinsSoFar threeInARound
+each-question-right = refl
+
+-- the body of two faces that are one: 34 bytes of the Body record, 14 of the face, 6 of the lump, 10 of the shell
+unfoldable pub roomTests : List Bool
+roomTests =
+    sameBytes (sewn ordinary (framedAll (joinedOnce .job)) 63) (refuse 40 64) ∷
+    sameBytes (sewn ordinary (framedAll (joinedOnce .job)) 64)
+    (ok
+    ((28 ∷ 0 ∷ 0 ∷ 0 ∷ 21 ∷ 0 ∷ []) ++ fieldBytes (1 ∷ 4 ∷ 4 ∷ 0 ∷ 0 ∷ 0 ∷ 1 ∷ []) ++ (8 ∷ 0 ∷ 0 ∷ 0 ∷ 24 ∷ 0 ∷ []) ++ fieldBytes (7 ∷ 0 ∷ []) ++
+    (0 ∷ 0 ∷ 0 ∷ 0 ∷ 27 ∷ 0 ∷ []) ++ (4 ∷ 0 ∷ 0 ∷ 0 ∷ 28 ∷ 0 ∷ []) ++ fieldBytes (0 ∷ []))) ∷
+    []
+
+pub room-right : all (λ b. b) roomTests ≡ true
+unfolding computes roomTests joinedOnce
+room-right = refl

@@ -141,6 +141,7 @@ totalsOf w s = record {
   passed = sumOf (λ k. k) (w .passed);
   joins = s .joins;
   rings = s .rings;
+  faceJoins = w .merge .joins;
 }
 
 -- the body of what was joined and nested

@@ -195,14 +195,15 @@ module _ (bytes ix : List ℕ) (c : Counts) (us : List Use) (R : ReadIn bytes ix
 -- FACES
 
 -- what belongs to the groups, from the tables as they come back
-pub faces-from : (n : ℕ) (us : List Use) (ts groups labels numbers members : List ℕ) (merged : ℕ) → n ≤ 256 → length groups ≡ 256
+pub faces-from : (n : ℕ) (us : List Use) (ts groups labels numbers members : List ℕ) (merged joins : ℕ) → n ≤ 256 → length groups ≡ 256
     → (e : length labels ≡ length (take n (zeros 256))) → (q : length numbers ≡ length (take n (zeros 256))) → (p : length members ≡ length (take n (zeros 256)))
     → labels ≡ boundaries us ts (length (take n (zeros 256))) → take merged members ≡ lowestMembers (take n groups) → merged ≡ length (lowestMembers (take n groups)) → numbers ≡ groupNumbers (take n groups)
-    → FacesOf n us ts groups (record { merged = merged; boundaries = labels ++ drop n (zeros 256); groups = groups; numbers = numbers ++ drop n (zeros 256); members = members ++ drop n (zeros 256) })
-faces-from n us ts groups labels numbers members merged h long e q p bounds low many numbered =
+    → FacesOf n us ts groups joins (record { merged = merged; joins = joins; boundaries = labels ++ drop n (zeros 256); groups = groups; numbers = numbers ++ drop n (zeros 256); members = members ++ drop n (zeros 256) })
+faces-from n us ts groups labels numbers members merged joins h long e q p bounds low many numbered =
     let few : merged ≤ length members = omega (arith, many, members-few, p, sym (part-size n 256 h)) in
     record {
       groups-are = refl;
+      counted = refl;
       bounds = lent-part 256 n labels e h ∙ bounds ∙ ap (boundaries us ts) (sym (part-size n 256 h));
       numbered = lent-part 256 n numbers q h ∙ numbered;
       lowest = take-append-le merged members (drop n (zeros 256)) few ∙ low;
@@ -237,19 +238,19 @@ module _ (bytes ix : List ℕ) (c : Counts) (us : List Use) (ts : List ℕ) (P :
         let stop : mergedGroups fullTable (answersIn bytes ix c) (facesIn bytes ix c) us ts ≡ refuse n p = sym e ∙ ap (λ x. mergedOf x l) q in
         merging-follows ∙ bind-stop (afterMerging stage (jobIn bytes ix c) us ts room) (bind-stop _ stop)
 
-    pub groups-from : r ≡ Merges → mergedGroups fullTable (answersIn bytes ix c) (facesIn bytes ix c) us ts ≡ ok l
-    groups-from q = sym e ∙ ap (λ x. mergedOf x l) q
+    pub groups-from : (joins : ℕ) → r ≡ Merges joins → mergedGroups fullTable (answersIn bytes ix c) (facesIn bytes ix c) us ts ≡ ok (record { groups = l; joins = joins })
+    groups-from joins q = sym e ∙ ap (λ x. mergedOf x l) q
 
     -- the groups as the first entries of a table
-    module _ (t : List ℕ) (front : take (c .faces) t ≡ l) (q : r ≡ Merges) where
+    module _ (t : List ℕ) (front : take (c .faces) t ≡ l) (joins : ℕ) (q : r ≡ Merges joins) where
       pub groups-lowest : Lowest (take (c .faces) t)
-      groups-lowest = subst Lowest (sym front) (groups-are-lowest bytes ix c us ts P l (groups-from q))
+      groups-lowest = subst Lowest (sym front) (groups-are-lowest bytes ix c us ts P (record { groups = l; joins = joins }) (groups-from joins q))
 
-      pub grouped-from : (m : Faces) → length t ≡ 256 → FacesOf (c .faces) us ts t m → Grouped bytes ix c us ts m
+      pub grouped-from : (m : Faces) → length t ≡ 256 → FacesOf (c .faces) us ts t joins m → Grouped bytes ix c us ts m
       grouped-from m long F = record {
         paired = P;
         bounds = F .bounds;
-        merges = groups-from q ∙ ap ok (sym front ∙ ap (take (c .faces)) (sym (F .groups-are)));
+        merges = groups-from joins q ∙ (λ i. ok (record { groups = (sym front ∙ ap (take (c .faces)) (sym (F .groups-are))) i; joins = sym (F .counted) i }));
         numbered = F .numbered ∙ ap (λ g. groupNumbers (take (c .faces) g)) (sym (F .groups-are));
         lowest = F .lowest ∙ ap (λ g. lowestMembers (take (c .faces) g)) (sym (F .groups-are));
         boundaries-size = F .boundaries-size;

@@ -44,9 +44,10 @@ pub record Chained (bytes ix : List ℕ) (c : Counts) (us : List Use) (firsts ne
   pub firsts-size : length firsts ≡ c .edges
   pub kept-size : 2 * c .loops ≤ length kept
 
--- what belongs to merged groups of n selected faces
-pub record FacesOf (n : ℕ) (us : List Use) (ts groups : List ℕ) (m : Faces) : Type 0 where
+-- what belongs to merged groups of n selected faces, and the number of face joins that made them
+pub record FacesOf (n : ℕ) (us : List Use) (ts groups : List ℕ) (joins : ℕ) (m : Faces) : Type 0 where
   pub groups-are : m .groups ≡ groups
+  pub counted : m .joins ≡ joins
   pub bounds : take n (m .boundaries) ≡ boundaries us ts n
   pub numbered : take n (m .numbers) ≡ groupNumbers (take n groups)
   pub lowest : take (m .merged) (m .members) ≡ lowestMembers (take n groups)

@@ -48,7 +48,7 @@ ghost use Rattle.rules.specs.Merge.{removedUses};
 ghost use Rattle.rules.specs.Walk.{circuits, loopsOf};
 ghost use Rattle.rules.specs.Sew.{sewn, Ends};
 ghost use Rattle.rules.specs.Stage.{readStage, pairStage, mergeStage, vertexLoopStage, walkStage, loopStage, fanStage, edgeStage, joiningStage, shellStage, lumpStage};
-ghost use Rattle.theorems.specs.Demand3.{Demand3};
+ghost use Rattle.theorems.specs.Promises.{Promises};
 ghost use Rattle.job.specs.Lists.{jobIn};
 ghost use Rattle.uses.specs.Table.{usesIn};
 ghost use Rattle.stages_out.specs.Rows.{Staged, roundRows};
@@ -309,10 +309,10 @@ fn on_merged(
     }
 }
 
-// The boundaries, numbers and lowest members that belong to merged groups.
-fn faces_of(n: usize, uses: &[u32], twins: &[u32], groups: [u32; 256]) -> Faces
+// The boundaries, numbers and lowest members that belong to merged groups, which so many face joins made.
+fn faces_of(n: usize, uses: &[u32], twins: &[u32], groups: [u32; 256], joins: usize) -> Faces
     requires { ⌜ (n ≤ 256) × (length groups ≡ 256) × Lowest (take n groups) ⌝ }
-    ensures { λ r. ⌜ FacesOf n (usesIn (now (uses .entry))) (now (twins .entry)) groups r ⌝ }
+    ensures { λ r. ⌜ FacesOf n (usesIn (now (uses .entry))) (now (twins .entry)) groups joins r ⌝ }
 {
     let mut labels = [0u32; 256];
     let mut numbers = [0u32; 256];
@@ -321,6 +321,7 @@ fn faces_of(n: usize, uses: &[u32], twins: &[u32], groups: [u32; 256]) -> Faces
     let merged = number(&groups[..n], &mut members[..n], &mut numbers[..n]);
     Faces {
         merged,
+        joins,
         boundaries: labels,
         groups,
         numbers,
@@ -349,8 +350,8 @@ fn on_paired(
     let r = merge_faces(job, index, c, uses, twins, &mut groups[..c.faces]);
     match r {
         Merging::Refused(n, p) => Ending::Refused(n, p),
-        Merging::Done => {
-            let m = faces_of(c.faces, uses, twins, groups);
+        Merging::Done(joins) => {
+            let m = faces_of(c.faces, uses, twins, groups, joins);
             on_merged(stage, job, index, c, m, uses, twins, kept, out)
         }
     }
@@ -629,7 +630,7 @@ fn sew_loaded(job: &[u8], index: &[u32], c: Counts, out: &mut [u8]) -> Ending
 // Sewing: the body's records from the output's start on, or a refusal and the output untouched. What demand 3 says holds
 // of the job.
 pub fn sew(job: &[u8], out: &mut [u8]) -> Ending
-    ensures { λ r. ⌜ Ends (sewn ordinary (now (job .entry)) (length (now (out .entry)))) (now (out .entry)) (now (out .exit)) r × Demand3 fullTable (now (job .entry)) ⌝ }
+    ensures { λ r. ⌜ Ends (sewn ordinary (now (job .entry)) (length (now (out .entry)))) (now (out .entry)) (now (out .exit)) r × Promises fullTable (now (job .entry)) ⌝ }
 {
     let mut index = [0u32; 7424];
     let r = load(job, &mut index);

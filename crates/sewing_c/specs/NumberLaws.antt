@@ -22,6 +22,7 @@ use Rattle.rules.specs.declared.SurfaceAnswer.the-variants.{Different, Agreeing
 use Rattle.rules.specs.declared.Verdict.{Verdict}
 use Rattle.rules.specs.declared.Verdict.the-variants.{No, Yes, Undecided}
 use Rattle.rules.specs.Questions.{Found, unordered, missing, found, onRecord, decided, ask, askYes, askSame, ordered, askRadial}
+use Rattle.rules.specs.Groups.{Grouping}
 use Rattle.rules.specs.Pair.{sameUse, pairTwo, takePredecessor, takePredecessors, pairRound, pairUses, pairEdge, complete, pair}
 use Rattle.rules.specs.Rules.{Rules, Table}
 use Rattle.rules.specs.Merge.{joinsFaces, surfaceStep, unasked, mergeStep, mergeFaces, mergedFaces}
@@ -150,11 +151,11 @@ joins-numbered t equal Opposed = value
 joins-numbered t equal Vanishing = refusal 22 8 refl
 joins-numbered t equal SurfaceUndecided = refusal 21 8 refl
 
-surface-numbered : (t : Table) (answers : List Answer) (fs : List Face) (us : List Use) (ts : List ℕ) (h : ℕ) (g : List ℕ) → Numbered (surfaceStep t answers fs us ts h g)
+surface-numbered : (t : Table) (answers : List Answer) (fs : List Face) (us : List Use) (ts : List ℕ) (h : ℕ) (g : Grouping) → Numbered (surfaceStep t answers fs us ts h g)
 unfolding surfaceStep
 surface-numbered t answers fs us ts h g = bind (ask answers 8 (h ∷ [])) _ (on-record-numbered 8 _) (λ v. bind (joinsFaces t _ _) _ (joins-numbered t _ _) (λ yes. value))
 
-merge-numbered : (t : Table) (answers : List Answer) (fs : List Face) (us : List Use) (ts : List ℕ) (h : ℕ) (g : List ℕ) → Numbered (mergeStep t answers fs us ts h g)
+merge-numbered : (t : Table) (answers : List Answer) (fs : List Face) (us : List Use) (ts : List ℕ) (h : ℕ) (g : Grouping) → Numbered (mergeStep t answers fs us ts h g)
 unfolding mergeStep
 merge-numbered t answers fs us ts h g = either (unasked us ts h) _ _ value (surface-numbered t answers fs us ts h g)
 

@@ -8,7 +8,7 @@ ghost use Rattle.rules.specs.Load.{requested};
 ghost use Rattle.rules.specs.Rules.{ordinary, fullTable};
 ghost use Rattle.rules.specs.Sew.{sewn};
 ghost use Rattle.rules.specs.Stage.{readStage, pairStage, mergeStage, vertexLoopStage, walkStage, loopStage, fanStage, edgeStage, joiningStage, shellStage, lumpStage};
-ghost use Rattle.theorems.specs.Demand3.{Demand3};
+ghost use Rattle.theorems.specs.Promises.{Promises};
 ghost use Rattle.lines.specs.Listed.{Lists};
 ghost use Rattle.sewing.specs.Steps.{Promised};
 ghost use Rattle.sewing_c.specs.Told.{endNumber, endValue, endingOf, Tells, ListsAnswer, Inside, TellsLoop};
@@ -46,7 +46,7 @@ fn ending_of(number: usize, value: usize) -> Ending
 // holds of the job.
 #[no_mangle]
 pub extern "C" fn zaxclover_sew(job: &[u8], out: &mut [u8], value: &mut usize) -> usize
-    ensures { λ r. ⌜ Tells (sewn ordinary (now (job .entry)) (length (now (out .entry)))) (now (out .entry)) (now (out .exit)) (now (value .exit)) r × Demand3 fullTable (now (job .entry)) ⌝ }
+    ensures { λ r. ⌜ Tells (sewn ordinary (now (job .entry)) (length (now (out .entry)))) (now (out .entry)) (now (out .exit)) (now (value .exit)) r × Promises fullTable (now (job .entry)) ⌝ }
 {
     let ending = sewing::sew(job, out);
     tell(ending, value)

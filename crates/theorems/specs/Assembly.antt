@@ -23,7 +23,7 @@ use Rattle.rules.specs.Shells.{Nested}
 use Rattle.rules.specs.Body.{Body, emptyBody, bodyKind, bodyRecords}
 use Rattle.rules.specs.Sew.{Walked, Fanned, fansOf, unjoined, Joined, throughJoining, totalsOf, bodyOf, sewn}
 use Rattle.theorems.specs.Demand3.{holdsKept, reached, passedSum, WalksHold, Change, Run, ringsOf, joinsOf, Reports, withTable, Settled, JoiningHolds, Demand3}
-use Rattle.theorems.specs.Loading.{no-face-no-use}
+use Rattle.theorems.specs.Loading.{no-face-no-use, faces-few}
 use Rattle.theorems.specs.ChangeRuns.{runs-to-end, run-few, run-counts}
 use Rattle.theorems.specs.Balance.{run-balance}
 use Rattle.theorems.specs.RingCounts.{run-rings}
@@ -56,6 +56,12 @@ begins-body : (b : Body) → Small (b .totals) → Begins (framedAll (bodyRecord
 begins-body b S =
     let r = first-record b in
     subst (λ rs. Begins (framedAll rs) (b .totals)) (sym (r .1)) (read-back (b .totals) (r .0) S)
+
+-- what the Empty body's tells
+pub empty-begins : (bytes : List ℕ) → bytes ≡ framedAll (bodyRecords emptyBody) → Begins bytes (emptyBody .totals)
+empty-begins bytes e =
+    subst (λ b. Begins b (emptyBody .totals)) (sym e)
+    (begins-body emptyBody (record { uses = omega arith; removed = omega arith; passed = omega arith; joins = omega arith; rings = omega arith; faceJoins = omega arith }))
 
 module _ (t : Table) (job : List ℕ) (j : Job) (w : Walked) (l : loaded job ≡ ok j) (s : Settled t j w) where
   abbrev G : Ground j w
@@ -139,8 +145,7 @@ module _ (t : Table) (job : List ℕ) (j : Job) (w : Walked) (l : loaded job ≡
       let none : length (w .uses) ≡ 0 = ap length (sym (settled-uses t j w s)) ∙ no-face-no-use job j l (eqb-true (length (j .faces)) 0 f) in
       let q = none-joined t j w none (settled-walked t j w s) in
       let R : Ran start = ran start (q .1) in
-      let S : Small (emptyBody .totals) = record { uses = omega arith; removed = omega arith; passed = omega arith; joins = omega arith; rings = omega arith } in
-      let B : Begins bytes (emptyBody .totals) = subst (λ b. Begins b (emptyBody .totals)) (sym e) (begins-body emptyBody S) in
+      let B : Begins bytes (emptyBody .totals) = empty-begins bytes e in
       holds bytes start (q .0) R
       (record {
         kind = B .kind;
@@ -163,7 +168,18 @@ module _ (t : Table) (job : List ℕ) (j : Job) (w : Walked) (l : loaded job ≡
         passed = omega (arith, passed, passed-few w (G .walks), G .few);
         joins = omega (arith, R .joins, R .few, G .few);
         rings = omega (arith, R .rings, R .few, G .few);
+        faceJoins = omega (arith, G .fewer, faces-few job j l);
       }
+
+  -- the bytes of a body begin with the totals of its walks and its joining
+  pub solid-begins : (bytes : List ℕ) (x : Joined) (ns : List Nested) → throughJoining (withTable t) j ≡ ok x → bytes ≡ framedAll (bodyRecords (bodyOf j x ns))
+      → Begins bytes (totalsOf w (x .joining))
+  solid-begins bytes x ns q e =
+      let r = through-joined t j w x (settled-walked t j w s) q in
+      let same : x .joining ≡ r .0 = ap (λ (y : Joined). y .joining) (r .1) in
+      let T : bodyOf j x ns .totals ≡ totalsOf w (x .joining) =
+      body-totals j x ns ∙ ap (λ (y : Joined). totalsOf (y .fan .walk) (x .joining)) (r .1) ∙ fan-walk j w (x .joining) in
+      subst₂ Begins (sym e) T (begins-body (bodyOf j x ns) (subst Small (ap (totalsOf w) (sym same) ∙ sym T) (totals-small (r .0) (r .2))))
 
   -- a job with faces
   solid-holds : (bytes : List ℕ) (x : Joined) (ns : List Nested) → eqb (length (j .faces)) 0 ≡ false → throughJoining (withTable t) j ≡ ok x
@@ -172,10 +188,8 @@ module _ (t : Table) (job : List ℕ) (j : Job) (w : Walked) (l : loaded job ≡
       let r = through-joined t j w x (settled-walked t j w s) q in
       let ending : Joining = r .0 in
       let R : Ran ending = ran ending (r .2) in
-      let T : bodyOf j x ns .totals ≡ totalsOf w ending = body-totals j x ns ∙ ap (λ (y : Joined). totalsOf (y .fan .walk) (y .joining)) (r .1) ∙ fan-walk j w ending in
       let passed = passed-total t j w (G .linked .size) s in
-      let S : Small (totalsOf w ending) = totals-small ending (r .2) in
-      let B : Begins bytes (totalsOf w ending) = subst₂ Begins (sym e) T (begins-body (bodyOf j x ns) (subst Small (sym T) S)) in
+      let B : Begins bytes (totalsOf w ending) = subst (λ (y : Joined). Begins bytes (totalsOf w (y .joining))) (r .1) (solid-begins bytes x ns q e) in
       holds bytes ending (q ∙ ap ok (r .1)) R
       (record {
         kind = B .kind;

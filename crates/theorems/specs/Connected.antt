@@ -1,9 +1,9 @@
 -- Groups that come of joining pairs: two numbers have one label exactly where the pairs connect them, and the label is their least.
 use mathlib.Core.Path.{_≡_, refl, sym, ap, _∙_, subst, subst₂}
 use mathlib.Core.Logic.{⊎-elim, _↔_}
-use mathlib.Core.Bool.{Bool, true, cond}
+use mathlib.Core.Bool.{Bool, true, false, cond}
 use mathlib.Core.List.{List, [], _∷_, foldl, List·Memᴰ·not-nil, List·Memᴰ·cases-cons}
-use Prim.Native.Nat.{ℕ, _≤_, _<_}
+use Prim.Native.Nat.{ℕ, _+_, _≤_, _<_}
 use native.Mathlib.Omega.{arith}
 use lib.ListN.{length}
 use Rattle.lists.specs.Lists.{below, _∈_}
@@ -15,8 +15,8 @@ use Rattle.rules.specs.declared.Use.{Use}
 use Rattle.rules.specs.Outcome.{Outcome, ok, throughout}
 use Rattle.rules.specs.OutcomeLaws.{ok-one, bind-ok}
 use Rattle.rules.specs.Read.{faceOfUse}
-use Rattle.rules.specs.Groups.{alone, labelOf, joined}
-use Rattle.rules.specs.GroupLaws.{Lowest, label-below, label-least, label-alone, alone-lowest, length-joined, joined-one, joined-keeps, joined-iff, joined-lowest}
+use Rattle.rules.specs.Groups.{alone, labelOf, joined, Grouping, joinGroups, lowestMembers}
+use Rattle.rules.specs.GroupLaws.{Lowest, label-below, label-least, label-alone, alone-lowest, length-joined, joined-one, joined-keeps, joined-iff, joined-lowest, alone-many, joined-fewer}
 use Rattle.rules.specs.Pair.{twinOf}
 use Rattle.rules.specs.Merge.{otherFace, boundaries}
 use Rattle.rules.specs.Walk.{successor}
@@ -78,6 +78,22 @@ module _ {A : Type 0} (test : A → Bool) (left right : A → ℕ) where
   step-keeps : (g : List ℕ) (x : A) (i k : ℕ) → i < length g → k < length g → labelOf g i ≡ labelOf g k → labelOf (joinStep g x) i ≡ labelOf (joinStep g x) k
   step-keeps g x i k hi hk e = step-cases (λ m. labelOf m i ≡ labelOf m k) g x (λ _. joined-keeps g (left x) (right x) i k hi hk e) e
 
+  -- the same with the count of joins of separate groups
+  abbrev pub joinCounting : Grouping → A → Grouping
+  joinCounting s x = cond (test x) (joinGroups s (left x) (right x)) s
+
+  counting-step : (s : Grouping) (x : A) → joinCounting s x .groups ≡ joinStep (s .groups) x
+  unfolding joinGroups
+  counting-step s x = go (test x)
+    where
+      go : (b : Bool) → cond b (joinGroups s (left x) (right x)) s .groups ≡ cond b (joined (s .groups) (left x) (right x)) (s .groups)
+      go true = refl
+      go false = refl
+
+  pub counting-groups : (l : List A) (s : Grouping) → foldl joinCounting s l .groups ≡ foldl joinStep (s .groups) l
+  counting-groups [] s = refl
+  counting-groups (x ∷ l) s = counting-groups l (joinCounting s x) ∙ ap (λ g. foldl joinStep g l) (counting-step s x)
+
   -- the groups keep their size
   pub joined-all-length : (n : ℕ) (l : List A) → length (foldl joinStep (alone n) l) ≡ n
   joined-all-length n l = foldl-keeps joinStep (λ m. length m ≡ n) l (alone n) (length-below n) (λ m x i e. step-length m x ∙ e)
@@ -138,6 +154,35 @@ module _ {A : Type 0} (test : A → Bool) (left right : A → ℕ) where
           only = λ i k hi hk e. subst (λ j. Connected (JoinedBy l) i j) (sym (label-alone n i hi) ∙ e ∙ label-alone n k hk) same;
         })
         (λ g x m c. step-cases Closed g x (λ t. closed-joined g x m t c) c)
+
+    -- so far, with the count: each join of separate groups takes one group away
+    record Fewer (s : Grouping) : Type 0 where
+      size : length (s .groups) ≡ n
+      lowest : Lowest (s .groups)
+      fewer : length (lowestMembers (s .groups)) + s .joins ≡ n
+
+    fewer-step : (s : Grouping) (x : A) → x ∈ l → Fewer s → Fewer (joinCounting s x)
+    unfolding joinGroups
+    fewer-step s x m f = ⊎-elim (λ t. subst Fewer (sym (cond-true (test x) (joinGroups s (left x) (right x)) s t)) (joins t))
+        (λ t. subst Fewer (sym (cond-false (test x) (joinGroups s (left x) (right x)) s t)) f) (both-ways (test x))
+      where
+        joins : test x ≡ true → Fewer (joinGroups s (left x) (right x))
+        joins t =
+            let z = f .size in
+            let r = inside x m t in
+            let ha : left x < length (s .groups) = omega (arith, r .0) in
+            let hb : right x < length (s .groups) = omega (arith, r .1) in
+            record {
+              size = length-joined (s .groups) (left x) (right x) ∙ z;
+              lowest = joined-lowest (s .groups) (left x) (right x) ha hb (f .lowest);
+              fewer = omega (arith, f .fewer, joined-fewer (s .groups) (left x) (right x) ha hb (f .lowest));
+            }
+
+    pub joined-all-fewer : length (lowestMembers (foldl joinCounting (record { groups = alone n; joins = 0 }) l .groups)) + foldl joinCounting (record { groups = alone n; joins = 0 }) l .joins ≡ n
+    joined-all-fewer =
+        foldl-keeps joinCounting Fewer l (record { groups = alone n; joins = 0 })
+        (record { size = length-below n; lowest = alone-lowest n; fewer = omega (arith, alone-many n) })
+        (λ s x m f. fewer-step s x m f) .fewer
 
     pub joined-all-lowest : Lowest allJoined
     joined-all-lowest = closed-all .lowest

@@ -1,5 +1,5 @@
 -- A settled job: it reaches the walks, and what loading, pairing, merging and the walks give of it.
-use Prim.Native.Nat.{ℕ, _<_, _≤_}
+use Prim.Native.Nat.{ℕ, _+_, _<_, _≤_}
 use native.Mathlib.Omega.{arith}
 use mathlib.Core.Path.{_≡_, refl, sym, ap, _∙_, subst}
 use mathlib.Core.List.{List}
@@ -11,7 +11,7 @@ use Rattle.rules.specs.OutcomeLaws.{ok-one, bind-ok, bind-on}
 use Rattle.rules.specs.Job.{Job, ring, pointAt}
 use Rattle.rules.specs.Load.{loaded}
 use Rattle.rules.specs.Read.{usesOf, useAt, edgeOfUse, useStart, faceOfUse, oldSuccessor}
-use Rattle.rules.specs.Groups.{labelOf}
+use Rattle.rules.specs.Groups.{labelOf, lowestMembers}
 use Rattle.rules.specs.Pair.{pair, twinOf}
 use Rattle.rules.specs.Rules.{Table}
 use Rattle.rules.specs.Merge.{mergeFaces, mergedFaces, isRemoved}
@@ -21,10 +21,10 @@ use Rattle.theorems.specs.Sound.{Sound}
 use Rattle.theorems.specs.Linked.{Twins, Linked}
 use Rattle.theorems.specs.Demand3.{KeptUse, groupOf, WalksHold, withTable, Settled}
 use Rattle.theorems.specs.Loading.{loaded-sound}
-use Rattle.theorems.specs.Reading.{next-below, next-one-to-one, next-face}
+use Rattle.theorems.specs.Reading.{use-face-below, next-below, next-one-to-one, next-face}
 use Rattle.theorems.specs.Joints.{useEnd, next-ring, next-starts}
 use Rattle.theorems.specs.Pairing.{pairs-fully}
-use Rattle.theorems.specs.Merging.{linked, kept-apart}
+use Rattle.theorems.specs.Merging.{merge-grouping, merge-groups, merged-fewer, linked, kept-apart}
 use Rattle.theorems.specs.Walks.{walks-hold}
 
 -- REACHING THE WALKS
@@ -67,6 +67,8 @@ pub record Ground (j : Job) (w : Walked) : Type 0 where
   -- a kept use and its twin lie in different merged groups
   pub apart : (h : ℕ) → KeptUse w h → groupOf w h ≡ groupOf w (twinOf (w .twins) h) → ⊥
   pub walks : WalksHold w
+  -- as many merged groups as faces, less the face joins
+  pub fewer : length (lowestMembers (w .merge .groups)) + w .merge .joins ≡ length (j .faces)
 
 -- the uses of a settled job
 pub settled-uses : (t : Table) (j : Job) (w : Walked) → Settled t j w → usesOf j ≡ w .uses
@@ -98,4 +100,7 @@ ground t job j w l s =
           → labelOf (w .merge .groups) (faceOfUse u h) ≡ labelOf (w .merge .groups) (faceOfUse u (twinOf (w .twins) h)) → ⊥) e
           (λ h k. kept-apart t (j .answers) (j .faces) us (w .twins) (w .merge) (s .surfaces) h (k .0) (k .1));
       walks = subst WalksHold (sym (s .walks)) (walks-hold us (w .twins) (w .merge) (w .vertexLoops) L);
+      fewer =
+          merged-fewer t (j .answers) (j .faces) us (w .twins) (merge-grouping (w .merge)) (merge-groups t (j .answers) (j .faces) us (w .twins) (w .merge) (s .surfaces))
+          (use-face-below j S) (T .below);
     }

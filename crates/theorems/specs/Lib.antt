@@ -36,3 +36,5 @@ pub mod Reached
 pub mod Narrow
 pub mod Shapes
 pub mod Requests
+pub mod FaceJoins
+pub mod Promises

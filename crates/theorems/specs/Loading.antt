@@ -1,5 +1,5 @@
 -- Loading: the facts of every loaded job.
-use Prim.Native.Nat.{ℕ}
+use Prim.Native.Nat.{ℕ, _≤_}
 use native.Mathlib.Nat.{not-suc-le-zero}
 use native.Mathlib.Omega.{arith}
 use mathlib.Core.Path.{_≡_, refl, sym, _∙_, subst}
@@ -103,6 +103,10 @@ loaded-limits job j e =
     let r = bind-ok (loading job) _ j e in
     let F = loading-counted job (r .0) (r .1) in
     (r .0 .counts, subst (Counted (r .0 .counts)) (ok-one (r .2)) (F .0), F .1)
+
+-- it has at most 256 faces
+pub faces-few : (job : List ℕ) (j : Job) → loaded job ≡ ok j → length (j .faces) ≤ 256
+faces-few job j e = let c = loaded-limits job j e in omega (arith, c .1 .faces, c .2 .faces)
 
 -- a loaded job is sound
 pub loaded-sound : (job : List ℕ) (j : Job) → loaded job ≡ ok j → Sound j

@@ -1,31 +1,47 @@
 -- Merging: which faces become one, which uses are removed, and what the walks take from it.
 use mathlib.Core.Path.{_≡_, sym, ap, _∙_, subst}
-use mathlib.Core.Logic.{⊎-elim, _↔_}
-use mathlib.Core.Bool.{Bool, true, false, _&&_, not, false≢true}
+use mathlib.Core.Logic.{_⊎_, inl, inr, ⊎-elim, _↔_}
+use mathlib.Core.Bool.{Bool, true, false, _&&_, not, cond, false≢true}
 use mathlib.Core.List.{List, [], _∷_, foldl}
-use Prim.Native.Nat.{ℕ, _<_}
+use Prim.Native.Nat.{ℕ, suc, _+_, _<_}
+use native.Mathlib.Omega.{arith}
 use lib.ListN.{length}
 use lib.Dec.{eqb, leb}
 use borrow.Author.Tests.{eqb-true, eqb-false, eq-eqb, leb-false, not-true}
 use Rattle.lists.specs.Lists.{below, _∈_}
-use Rattle.lists.specs.Tests.{or-none, and-both, eqb-swap}
+use Rattle.lists.specs.Tests.{both-ways, or-none, and-both, equal-or-not, eqb-swap, cond-true, cond-false}
 use Rattle.lists.specs.Runs.{in-below, below-in, length-table, getD-table}
 use Rattle.rules.specs.declared.Face.{Face}
 use Rattle.rules.specs.declared.Use.{Use}
-use Rattle.rules.specs.Outcome.{Outcome, ok, refuse, _>>=_}
+use Rattle.rules.specs.Outcome.{Outcome, ok, refuse, _>>=_, throughout}
 use Rattle.rules.specs.OutcomeLaws.{ok-one, bind-ok, bind-on, cond-ok}
 use Rattle.rules.specs.Job.{Answer}
 use Rattle.rules.specs.Questions.{surfaceAnswer, ask}
 use Rattle.rules.specs.Read.{faceOfUse, oldSuccessor}
-use Rattle.rules.specs.Groups.{alone, labelOf}
-use Rattle.rules.specs.GroupLaws.{Lowest}
+use Rattle.rules.specs.Groups.{alone, labelOf, Grouping, joinGroups, lowestMembers}
+use Rattle.rules.specs.GroupLaws.{Lowest, joined-same, separate-changes}
 use Rattle.rules.specs.Pair.{twinOf}
 use Rattle.rules.specs.Rules.{Table}
-use Rattle.rules.specs.Merge.{otherFace, boundaries, joinsFaces, equalSenses, surfaceStep, unasked, mergeStep, mergedGroups, removes, removedUses, isRemoved, Merged, mergeFaces}
+use Rattle.rules.specs.Merge.{otherFace, boundaries, joinsFaces, equalSenses, surfaceStep, unasked, mergeStep, ungrouped, mergedGroups, removes, removedUses, isRemoved, Merged, mergeFaces}
 use Rattle.theorems.specs.Linked.{Twins, Linked}
-use Rattle.theorems.specs.Connected.{Connected, Equivalence, value-equivalence, connected-by, joinStep, joined-all-length, joined-all-lowest, joined-all-connected, joined-all-within, through-fold, boundaries-length, boundaries-twin}
+use Rattle.theorems.specs.Connected.{Connected, Equivalence, value-equivalence, connected-by, joinStep, joinCounting, counting-groups, joined-all-fewer, joined-all-length, joined-all-lowest, joined-all-connected, joined-all-within, through-fold, boundaries-length, boundaries-twin}
 
 -- MERGED GROUPS
+
+-- a step leaves groups and face joins, or changes the groups and makes one face join more
+abbrev pub Told : Grouping → Grouping → Type 0
+Told s s′ = (s′ ≡ s) ⊎ ((s′ .groups ≡ s .groups → ⊥) × (s′ .joins ≡ suc (s .joins)))
+
+-- joining two groups tells whether they were separate
+pub join-tells : (s : Grouping) (a b : ℕ) → a < length (s .groups) → b < length (s .groups) → Lowest (s .groups) → Told s (joinGroups s a b)
+unfolding joinGroups
+join-tells s a b ha hb l = ⊎-elim
+    (λ w. inl (λ i. record { groups = joined-same (s .groups) a b (w .0) i; joins = counts (eqb (labelOf (s .groups) a) (labelOf (s .groups) b)) (w .1) i }))
+    (λ w. inr (separate-changes (s .groups) a b ha hb l (w .0), rw (w .1) (omega arith)))
+    (equal-or-not (labelOf (s .groups) a) (labelOf (s .groups) b))
+  where
+    counts : (t : Bool) → t ≡ true → s .joins + cond (not t) 1 0 ≡ s .joins
+    counts t e = rw e (omega arith)
 
 -- whether the answer to the surface question of use h joins the groups
 abbrev pub surfaceJoins : Table → List Answer → List Face → List Use → List ℕ → ℕ → Outcome Bool
@@ -73,7 +89,11 @@ module _ (t : Table) (answers : List Answer) (fs : List Face) (us : List Use) (t
   abbrev step : List ℕ → ℕ → List ℕ
   step = joinStep joinsAt (faceOfUse us) (otherFace us ts)
 
-  merge-step : (h : ℕ) (g g′ : List ℕ) → mergeStep t answers fs us ts h g ≡ ok g′ → g′ ≡ step g h
+  -- the step with its count of joins
+  abbrev counting : Grouping → ℕ → Grouping
+  counting = joinCounting joinsAt (faceOfUse us) (otherFace us ts)
+
+  merge-step : (h : ℕ) (g g′ : Grouping) → mergeStep t answers fs us ts h g ≡ ok g′ → g′ ≡ counting g h
   unfolding mergeStep surfaceStep joinsAt
   merge-step h g g′ e = ⊎-elim
       (λ w. rw (w .0) (sym (ok-one (w .1))))
@@ -84,9 +104,40 @@ module _ (t : Table) (answers : List Answer) (fs : List Face) (us : List Use) (t
       rw (w .0, ok-yes (surfaceJoins t answers fs us ts h) (q .0) s) (sym (ok-one (q .2))))
       (cond-ok (unasked us ts h) (ok g) (surfaceStep t answers fs us ts h g) g′ e)
 
-  module _ (g : List ℕ) (e : mergedGroups t answers fs us ts ≡ ok g) where
+  -- groups and face joins when the uses below n have asked
+  module _ (n : ℕ) (s : Grouping) (e : throughout (mergeStep t answers fs us ts) (below n) (ungrouped (length fs)) ≡ ok s) where
+    so-far : s ≡ foldl counting (ungrouped (length fs)) (below n)
+    so-far = through-fold (mergeStep t answers fs us ts) counting merge-step (below n) (ungrouped (length fs)) s e
+
+    groups-so-far : s .groups ≡ foldl step (alone (length fs)) (below n)
+    groups-so-far = ap (λ (x : Grouping). x .groups) so-far ∙ counting-groups joinsAt (faceOfUse us) (otherFace us ts) (below n) (ungrouped (length fs))
+
+    -- each use leaves groups and face joins, or changes the groups and makes one face join more
+    pub step-tells : ((h : ℕ) → h < length us → faceOfUse us h < length fs) → ((h : ℕ) → h < length us → twinOf ts h < length us) → n < length us
+        → (s′ : Grouping) → mergeStep t answers fs us ts n s ≡ ok s′ → Told s s′
+    step-tells face twin few s′ q =
+        subst (Told s) (sym (merge-step n s s′ q))
+        (⊎-elim
+        (λ y. subst (Told s) (sym (cond-true (joinsAt n) (joinGroups s (faceOfUse us n) (otherFace us ts n)) s y))
+        (join-tells s (faceOfUse us n) (otherFace us ts n) (omega (arith, size, face n few)) (omega (arith, size, face (twinOf ts n) (twin n few))) lowest))
+        (λ y. inl (cond-false (joinsAt n) (joinGroups s (faceOfUse us n) (otherFace us ts n)) s y))
+        (both-ways (joinsAt n)))
+      where
+        size : length (s .groups) ≡ length fs
+        size = rw groups-so-far (joined-all-length joinsAt (faceOfUse us) (otherFace us ts) (length fs) (below n))
+
+        lowest : Lowest (s .groups)
+        lowest =
+            subst Lowest (sym groups-so-far)
+            (joined-all-lowest joinsAt (faceOfUse us) (otherFace us ts) (length fs) (below n)
+            (λ h m _. let q : h < length us = omega (arith, below-in n h m, few) in (face h q, face (twinOf ts h) (twin h q))))
+
+  module _ (s : Grouping) (e : mergedGroups t answers fs us ts ≡ ok s) where
+    abbrev g : List ℕ
+    g = s .groups
+
     merged-is : g ≡ foldl step (alone (length fs)) (below (length us))
-    merged-is = through-fold (mergeStep t answers fs us ts) step merge-step (below (length us)) (alone (length fs)) g e
+    merged-is = groups-so-far (length us) s e
 
     pub merged-length : length g ≡ length fs
     merged-length = rw merged-is (joined-all-length joinsAt (faceOfUse us) (otherFace us ts) (length fs) (below (length us)))
@@ -98,6 +149,11 @@ module _ (t : Table) (answers : List Answer) (fs : List Face) (us : List Use) (t
       -- each label is the lowest member of its group
       pub merged-lowest : Lowest g
       merged-lowest = subst Lowest (sym merged-is) (joined-all-lowest joinsAt (faceOfUse us) (otherFace us ts) (length fs) (below (length us)) merge-inside)
+
+      -- each join of separate groups takes one group away
+      pub merged-fewer : length (lowestMembers g) + s .joins ≡ length fs
+      merged-fewer = subst (λ (x : Grouping). length (lowestMembers (x .groups)) + x .joins ≡ length fs) (sym (so-far (length us) s e))
+          (joined-all-fewer joinsAt (faceOfUse us) (otherFace us ts) (length fs) (below (length us)) merge-inside)
 
       -- two faces are merged exactly where joined pairs connect them
       pub merged-connected : (i k : ℕ) → i < length fs → k < length fs → (labelOf g i ≡ labelOf g k) ↔ Connected (SameSurface t answers fs us ts) i k
@@ -135,16 +191,20 @@ removedUses-at us ts g h lt = getD-table (removes us ts g) (length us) h false l
 
 -- MERGING, WHOLE
 
+-- the groups that merging ends with, and their count
+abbrev pub merge-grouping : Merged → Grouping
+merge-grouping m = record { groups = m .groups; joins = m .joins }
+
 module _ (t : Table) (answers : List Answer) (fs : List Face) (us : List Use) (ts : List ℕ) (m : Merged) (e : mergeFaces t answers fs us ts ≡ ok m) where
-  merge-parts : (mergedGroups t answers fs us ts ≡ ok (m .groups)) × (m .boundaries ≡ boundaries us ts (length fs)) × (m .removed ≡ removedUses us ts (m .groups))
+  merge-parts : (mergedGroups t answers fs us ts ≡ ok (merge-grouping m)) × (m .boundaries ≡ boundaries us ts (length fs)) × (m .removed ≡ removedUses us ts (m .groups))
   unfolding mergeFaces
   merge-parts =
       let r = bind-ok (mergedGroups t answers fs us ts) _ m e in
       let q = ok-one (r .2) in
-      let same : r .0 ≡ m .groups = ap (λ (x : Merged). x .groups) q in
-      (r .1 ∙ ap ok same, sym (ap (λ (x : Merged). x .boundaries) q), sym (ap (λ (x : Merged). x .removed) q) ∙ ap (removedUses us ts) same)
+      let same : r .0 ≡ merge-grouping m = λ i. record { groups = q i .groups; joins = q i .joins } in
+      (r .1 ∙ ap ok same, sym (ap (λ (x : Merged). x .boundaries) q), sym (ap (λ (x : Merged). x .removed) q) ∙ ap (λ (x : Grouping). removedUses us ts (x .groups)) same)
 
-  pub merge-groups : mergedGroups t answers fs us ts ≡ ok (m .groups)
+  pub merge-groups : mergedGroups t answers fs us ts ≡ ok (merge-grouping m)
   merge-groups = merge-parts .0
 
   pub merge-boundaries : m .boundaries ≡ boundaries us ts (length fs)
@@ -154,7 +214,7 @@ module _ (t : Table) (answers : List Answer) (fs : List Face) (us : List Use) (t
   merge-removed = merge-parts .2
 
   pub merge-groups-length : length (m .groups) ≡ length fs
-  merge-groups-length = merged-length t answers fs us ts (m .groups) merge-groups
+  merge-groups-length = merged-length t answers fs us ts (merge-grouping m) merge-groups
 
   pub merge-boundaries-length : length (m .boundaries) ≡ length fs
   merge-boundaries-length = rw merge-boundaries (boundaries-length us ts (length fs))

@@ -44,7 +44,7 @@ use Rattle.rules.specs.Body.{Totals, BodyFace, Body, meet, metFans, vertexOf, w
 use Rattle.rules.specs.Body.{itemFields, loopRecord, vertexLoopRecord, faceRecords, lumpRecords, bodyRecords}
 use Rattle.rules.specs.Sew.{Walked, walked, fansOf, unjoined, Joined, throughJoining, shellsOf, totalsOf, bodyOf, rebuild}
 use Rattle.theorems.specs.Demand3.{withTable, Settled}
-use Rattle.theorems.specs.Loading.{also-has, record-taken, loading-keeps, loaded-limits}
+use Rattle.theorems.specs.Loading.{also-has, record-taken, loading-keeps, faces-few}
 use Rattle.theorems.specs.Merging.{merge-groups-length}
 use Rattle.theorems.specs.Changes.{Made, joining-keeps}
 use Rattle.theorems.specs.Ground.{Ground, ground, walked-settled}
@@ -438,7 +438,8 @@ records-narrow b L r m =
           (one-low (T .removed) _ (omega (arith, S .removed))
           (one-low (T .passed) _ (omega (arith, S .passed))
           (one-low (T .joins) _ (omega (arith, S .joins))
-          (one-low (T .rings) [] (omega (arith, S .rings)) none-low))))),
+          (one-low (T .rings) _ (omega (arith, S .rings))
+          (one-low (T .faceJoins) [] (omega (arith, S .faceJoins)) none-low)))))),
     ))
     (λ i. ⊎-elim
     (λ k. let a = map-in vertexRecord (b .vertices) r k in subst Narrow (sym (a .2)) (omega arith, one-low (a .0) [] (L .vertices (a .0) (a .1)) none-low))
@@ -460,10 +461,6 @@ records-narrow b L r m =
     (List·Memᴰ·cases-cons m)
 
 -- THE WHOLE
-
--- a loaded job has few faces
-pub faces-few : (job : List ℕ) (j : Job) → loaded job ≡ ok j → length (j .faces) ≤ 256
-faces-few job j l = let c = loaded-limits job j l in omega (arith, c .1 .faces, c .2 .faces)
 
 module _ (t : Table) (job : List ℕ) (bytes : Below 256 job) (j : Job) (l : loaded job ≡ ok j) (w : Walked) (q : walked (withTable t) j ≡ ok w) where
   S : Settled t j w
@@ -561,7 +558,7 @@ pub rebuilt-low : (t : Table) (job : List ℕ) (j : Job) (b : Body) → Below 25
 rebuilt-low t job j b bytes l e =
     ⊎-elim
     (λ r. subst LowBody (sym (r .1)) (record {
-      totals = record { uses = omega arith; removed = omega arith; passed = omega arith; joins = omega arith; rings = omega arith };
+      totals = record { uses = omega arith; removed = omega arith; passed = omega arith; joins = omega arith; rings = omega arith; faceJoins = omega arith };
       vertices = none-low;
       edges = λ e m. absurd (List·Memᴰ·not-nil m);
       surfaces = λ f m. absurd (List·Memᴰ·not-nil m);

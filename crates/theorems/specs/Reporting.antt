@@ -60,6 +60,7 @@ pub record Small (t : Totals) : Type 0 where
   pub passed : t .passed ≤ 2048
   pub joins : t .joins ≤ 2048
   pub rings : t .rings ≤ 2048
+  pub faceJoins : t .faceJoins ≤ 2048
 
 -- the bytes begin with the Body record of totals
 pub record Begins (bytes : List ℕ) (t : Totals) : Type 0 where
@@ -70,6 +71,7 @@ pub record Begins (bytes : List ℕ) (t : Totals) : Type 0 where
   pub passed : bodyField bytes 3 ≡ t .passed
   pub joins : bodyField bytes 4 ≡ t .joins
   pub rings : bodyField bytes 5 ≡ t .rings
+  pub faceJoins : bodyField bytes 6 ≡ t .faceJoins
 
 pub read-back : (t : Totals) (rest : List Record) → Small t → Begins (framedAll (totalsRecord t ∷ rest)) t
 unfolding flatMap framed bytes32 le16 le32
@@ -81,6 +83,7 @@ read-back t rest S = record {
   passed = field-back (t .passed) [] (omega (arith, S .passed));
   joins = field-back (t .joins) [] (omega (arith, S .joins));
   rings = field-back (t .rings) [] (omega (arith, S .rings));
+  faceJoins = field-back (t .faceJoins) [] (omega (arith, S .faceJoins));
 }
   where
     small : (b : Bool) → bodyKind b < 4294967296

@@ -43,11 +43,11 @@ use Rattle.rules.specs.Rows.{readRows, pairRows, mergeRows, vertexLoopRows, wal
 use Rattle.theorems.specs.Sound.{Sound}
 use Rattle.theorems.specs.Linked.{Twins}
 use Rattle.theorems.specs.Demand3.{KeptUse, withTable, Settled}
-use Rattle.theorems.specs.Loading.{loaded-sound, loaded-limits}
+use Rattle.theorems.specs.Loading.{loaded-sound, loaded-limits, faces-few}
 use Rattle.theorems.specs.Reading.{next-below, use-edge-below, use-face-below}
 use Rattle.theorems.specs.Pairing.{pairs-fully}
 use Rattle.theorems.specs.Connected.{boundaries-lowest}
-use Rattle.theorems.specs.Merging.{merged-lowest, merge-groups, merge-boundaries, merge-groups-length, merge-boundaries-length}
+use Rattle.theorems.specs.Merging.{merged-lowest, merge-grouping, merge-groups, merge-boundaries, merge-groups-length, merge-boundaries-length}
 use Rattle.theorems.specs.Successors.{kept-in, passing-few}
 use Rattle.theorems.specs.Changes.{Made, joining-keeps}
 use Rattle.theorems.specs.Trails.{edgeTimes, LoopSound, loop-sound}
@@ -59,7 +59,7 @@ use Rattle.theorems.specs.Starting.{loop-kept, loop-nodup, starts-sound}
 use Rattle.theorems.specs.Reporting.{fanned-walks, edged-walks, through-joined, joined-walks, joined-shells}
 use Rattle.theorems.specs.Assembly.{no-counts, joining-sound, totals-small}
 use Rattle.theorems.specs.Narrow.{Below, Low, one-low, none-low, sense-low, kind-low, loaded-low, kept-has, LowEdge, LowEdges, FewFaces, shells-few, nested-few, lumps-few, lumps-count}
-use Rattle.theorems.specs.Narrow.{faces-few, start-few, groups-few, number-low, label-low, start-low, starts-low, ended-few, ended-low}
+use Rattle.theorems.specs.Narrow.{start-few, groups-few, number-low, label-low, start-low, starts-low, ended-few, ended-low}
 
 -- a row of `fixed` fields and `counted` more for each that its second field counts, all of four bytes
 pub record Shaped (fixed counted : ℕ) (row : List ℕ) : Type 0 where
@@ -262,7 +262,7 @@ module _ (t : Table) (job : List ℕ) (bytes : Below 256 job) (j : Job) (l : loa
       let T : Twins us ts = twins-of ts (a .1) in
       let face : (h : ℕ) → h < length us → faceOfUse us h < length (j .faces) = use-face-below j sound in
       let groups : Lowest (m .groups) =
-      merged-lowest t (j .answers) (j .faces) us ts (m .groups) (merge-groups t (j .answers) (j .faces) us ts m (b .1)) face (T .below) in
+      merged-lowest t (j .answers) (j .faces) us ts (merge-grouping m) (merge-groups t (j .answers) (j .faces) us ts m (b .1)) face (T .below) in
       let boundaries : Lowest (m .boundaries) =
       subst Lowest (sym (merge-boundaries t (j .answers) (j .faces) us ts m (b .1))) (boundaries-lowest us ts (length (j .faces)) face (T .below)) in
       let few = faces-few job j l in

@@ -1,61 +1,75 @@
-use Rattle.groups.specs.ParentLaws.{joined-less, joined-more, joined-same}
+use Rattle.groups.specs.ParentLaws.{joined-less, joined-more, joined-same, separate-roots, one-root}
 use native.Mathlib.Omega.{arith}
 use borrow.Author.Needs.{needs}
 use Rattle.groups.proofs.join_in.Statement.{statement}
 use Rattle.groups.proofs.join_in.Tie as tie
-use Rattle.groups.proofs.join_in.Reads as reads
-use Rattle.groups.proofs.join_in.Lts as lts
-use Rattle.fields.proofs.put.Reads as put-reads
-use Rattle.groups.proofs.root_in.Reads as root-in-reads
 
--- src/lib.rt:45:9
 root-in-requires : tie.Need-root-in-requires
 root-in-requires c κs = search needs
 
--- src/lib.rt:46:9
 root-in-requires-2 : tie.Need-root-in-requires-2
 root-in-requires-2 c κs = search needs
 
--- src/lib.rt:48:9
 put-requires : tie.Need-put-requires
 put-requires c κs = search needs
 
--- src/lib.rt:50:9
-put-requires-2 : tie.Need-put-requires-2
-put-requires-2 c κs = search needs
-
--- src/lib.rt:41:1
 same-length : tie.Need-same-length
 same-length c = search needs
 
--- src/lib.rt:41:1
 returns : tie.Need-returns
-returns c = let s = c .before .before .before .before .before .before .before .before .before .before .before .before .before .before .args in
-    let x = c .before .before .before .before .before .before .before .before .before .before .before .root-in in
-    let y = c .before .before .before .before .before .before .before .root-in2 in
-    joined-less (s .parents .now) (x .last .0) (y .last .0) (s .a) (s .b) (x .result) (y .result) (x .ensures) (y .ensures) (c .before .before .put .last .0) (c .before .before .before .before .if1 .taken) (c .before .before .put .ensures)
+returns c =
+    let start : tie.Start = search in
+    let at-put : tie.After-put = search in
+    let then1 : tie.Then1 = search in
+    let at-root-in2 : tie.After-root-in2 = search in
+    let at-root-in : tie.After-root-in = search in
+    let s = start .args in
+    let x = at-root-in .root-in in
+    let y = at-root-in2 .root-in2 in (
+      joined-less (s .parents .now) (x .last .0) (y .last .0) (s .a) (s .b) (x .result) (y .result) (x .ensures) (y .ensures) (at-put .put .last .0) (then1 .if1 .taken)
+          (at-put .put .ensures),
+      separate-roots (s .parents .now) (x .last .0) (y .last .0) (s .a) (s .b) (x .result) (y .result) (x .ensures) (y .ensures)
+          (λ e. let t = then1 .if1 .taken in omega arith),
+    )
 
--- src/lib.rt:41:1
+put-requires-2 : tie.Need-put-requires-2
+put-requires-2 c κs = search needs
+
 same-length-2 : tie.Need-same-length-2
 same-length-2 c = search needs
 
--- src/lib.rt:41:1
 returns-2 : tie.Need-returns-2
-returns-2 c = let s = c .before .before .before .before .before .before .before .before .before .before .before .before .before .before .before .args in
-    let x = c .before .before .before .before .before .before .before .before .before .before .before .before .root-in in
-    let y = c .before .before .before .before .before .before .before .before .root-in2 in
-    joined-more (s .parents .now) (x .last .0) (y .last .0) (s .a) (s .b) (x .result) (y .result) (x .ensures) (y .ensures) (c .before .before .put2 .last .0) (c .before .before .before .before .if2 .taken) (c .before .before .put2 .ensures)
+returns-2 c =
+    let start : tie.Start = search in
+    let at-put2 : tie.After-put2 = search in
+    let then2 : tie.Then2 = search in
+    let at-root-in2 : tie.After-root-in2 = search in
+    let at-root-in : tie.After-root-in = search in
+    let s = start .args in
+    let x = at-root-in .root-in in
+    let y = at-root-in2 .root-in2 in (
+      joined-more (s .parents .now) (x .last .0) (y .last .0) (s .a) (s .b) (x .result) (y .result) (x .ensures) (y .ensures) (at-put2 .put2 .last .0) (then2 .if2 .taken)
+          (at-put2 .put2 .ensures),
+      separate-roots (s .parents .now) (x .last .0) (y .last .0) (s .a) (s .b) (x .result) (y .result) (x .ensures) (y .ensures)
+          (λ e. let t = then2 .if2 .taken in omega arith),
+    )
 
--- src/lib.rt:41:1
 same-length-3 : tie.Need-same-length-3
 same-length-3 c = search needs
 
--- src/lib.rt:41:1
 returns-3 : tie.Need-returns-3
-returns-3 c = let s = c .before .before .before .before .before .before .before .before .before .before .before .args in
-    let x = c .before .before .before .before .before .before .before .before .root-in in
-    let y = c .before .before .before .before .root-in2 in
-    joined-same (s .parents .now) (x .last .0) (y .last .0) (s .a) (s .b) (x .result) (y .result) (x .ensures) (y .ensures) (omega (arith, c .if2 .left, c .before .if1 .left))
+returns-3 c =
+    let start : tie.Start = search in
+    let at-root-in2 : tie.After-root-in2 = search in
+    let at-root-in : tie.After-root-in = search in
+    let s = start .args in
+    let x = at-root-in .root-in in
+    let y = at-root-in2 .root-in2 in (
+      joined-same (s .parents .now) (x .last .0) (y .last .0) (s .a) (s .b) (x .result) (y .result) (x .ensures) (y .ensures)
+          (omega (arith, c .if2 .left, c .before .if1 .left)),
+      one-root (s .parents .now) (x .last .0) (y .last .0) (s .a) (s .b) (x .result) (y .result) (x .ensures)
+          (y .ensures) (omega (arith, c .if2 .left, c .before .if1 .left)),
+    )
 
 pub join-in-spec : {M : Type 1} → statement M
 join-in-spec =
@@ -64,9 +78,9 @@ join-in-spec =
     root-in-requires
     root-in-requires-2
     put-requires
-    put-requires-2
     same-length
     returns
+    put-requires-2
     same-length-2
     returns-2
     same-length-3

@@ -1,83 +1,104 @@
-use Rattle.merge_faces.specs.MergingLaws.{joining-is, answer-refuses, answer-keeps, answer-joins}
+use Rattle.merge_faces.specs.MergingLaws.{joining-is, answer-refuses, answer-keeps, answer-joins, one-at-most}
 use Rattle.ask.specs.Told.{toldOf}
 use Rattle.rules.specs.Groups.{joined}
 use Rattle.job.specs.Lists.{facesIn}
 use mathlib.Core.Path.{ap, _∙_}
 use borrow.Author.Needs.{needs}
+use Prim.Native.Nat.{zero-le}
 use Rattle.merge_faces.proofs.join_by.Statement.{statement}
 use Rattle.merge_faces.proofs.join_by.Tie as tie
-use Rattle.merge_faces.proofs.join_by.Reads as reads
-use Rattle.merge_faces.proofs.join_by.Lts as lts
-use Rattle.groups.proofs.join_in.Reads as join-in-reads
-use Rattle.job.proofs.same_sense.Reads as same-sense-reads
-use Rattle.job.proofs.stored_sense.Reads as stored-sense-reads
-use Rattle.merge_faces.proofs.joins_faces.Reads as joins-faces-reads
 
--- src/lib.rt:83:9
 stored-sense-requires : tie.Need-stored-sense-requires
 stored-sense-requires c κs = search needs
 
--- src/lib.rt:84:9
 stored-sense-requires-2 : tie.Need-stored-sense-requires-2
 stored-sense-requires-2 c κs = search needs
 
--- src/lib.rt:85:9
 same-sense-requires : tie.Need-same-sense-requires
 same-sense-requires c κs = search needs
 
--- src/lib.rt:86:9
 joins-faces-requires : tie.Need-joins-faces-requires
 joins-faces-requires c κs = search needs
 
--- src/lib.rt:88:23
 enum-known-j : tie.Need-enum-known-j
 enum-known-j c = search needs
 
--- src/lib.rt:89:21
 enum-told : tie.Need-enum-told
 enum-told c = search needs
 
--- src/lib.rt:91:21
 enum-told-2 : tie.Need-enum-told-2
 enum-told-2 c = search needs
 
--- src/lib.rt:91:13
 join-in-requires : tie.Need-join-in-requires
 join-in-requires c κs = search needs
 
--- src/lib.rt:79:1
+counted-requires : tie.Need-counted-requires
+counted-requires c κs = search needs
+
 returns : tie.Need-returns
-returns c = let a = c .before .before .before .before .before .before .before .before .before .before .args in
+returns c =
+    let start : tie.Start = search in
+    let at-joins-faces : tie.After-joins-faces = search in
+    let at-same-sense : tie.After-same-sense = search in
+    let at-stored-sense2 : tie.After-stored-sense2 = search in
+    let at-stored-sense : tie.After-stored-sense = search in
+    let a = start .args in
     let fs = facesIn (a .job .now) (a .index .now) (a .c) in
-    let s = c .before .before .before .before .before .before .stored-sense in
-    let t = c .before .before .before .before .before .stored-sense2 in
-    let e = c .before .before .before .before .same-sense in
-    let j = c .before .before .before .joins-faces in
-    λ g st. answer-refuses fs (a .a) (a .b) (a .v) g _ _ (joining-is fs (a .a) (a .b) (a .v) (s .result) (t .result) (e .result) (toldOf (j .result)) (s .ensures) (t .ensures) (e .ensures) (j .ensures) ∙ ap toldOf (c .before .j .given .1))
+    let s = at-stored-sense .stored-sense in
+    let t = at-stored-sense2 .stored-sense2 in
+    let e = at-same-sense .same-sense in
+    let j = at-joins-faces .joins-faces in
+    λ g st. answer-refuses fs (a .a) (a .b) (a .v) g _ _ (joining-is fs (a .a) (a .b) (a .v) (s .result) (t .result) (e .result) (toldOf (j .result)) (s .ensures)
+    (t .ensures) (e .ensures) (j .ensures) ∙ ap toldOf (c .before .j .given .1))
 
--- src/lib.rt:79:1
 returns-2 : tie.Need-returns-2
-returns-2 c = let a = c .before .before .before .before .before .before .before .before .before .args in
+returns-2 c =
+    let start : tie.Start = search in
+    let at-joins-faces : tie.After-joins-faces = search in
+    let at-same-sense : tie.After-same-sense = search in
+    let at-stored-sense2 : tie.After-stored-sense2 = search in
+    let at-stored-sense : tie.After-stored-sense = search in
+    let a = start .args in
     let fs = facesIn (a .job .now) (a .index .now) (a .c) in
-    let s = c .before .before .before .before .before .stored-sense in
-    let t = c .before .before .before .before .stored-sense2 in
-    let e = c .before .before .before .same-sense in
-    let j = c .before .before .joins-faces in
-    λ g st. (g, answer-keeps fs (a .a) (a .b) (a .v) g (joining-is fs (a .a) (a .b) (a .v) (s .result) (t .result) (e .result) (toldOf (j .result)) (s .ensures) (t .ensures) (e .ensures) (j .ensures) ∙ ap toldOf (c .enum-told .given .1)), st)
+    let s = at-stored-sense .stored-sense in
+    let t = at-stored-sense2 .stored-sense2 in
+    let e = at-same-sense .same-sense in
+    let j = at-joins-faces .joins-faces in
+    λ g st. (
+      g .groups,
+      answer-keeps fs (a .a) (a .b) (a .v) g (joining-is fs (a .a) (a .b) (a .v) (s .result) (t .result) (e .result) (toldOf (j .result)) (s .ensures)
+          (t .ensures) (e .ensures) (j .ensures) ∙ ap toldOf (c .enum-told .given .1)),
+      st,
+      zero-le,
+    )
 
--- src/lib.rt:79:1
 same-length : tie.Need-same-length
 same-length c = search needs
 
--- src/lib.rt:79:1
 returns-3 : tie.Need-returns-3
-returns-3 c = let a = c .before .before .before .before .before .before .before .before .before .before .before .before .before .args in
+returns-3 c =
+    let start : tie.Start = search in
+    let at-join-in : tie.After-join-in = search in
+    let at-enum-told2 : tie.After-enum-told2 = search in
+    let at-joins-faces : tie.After-joins-faces = search in
+    let at-same-sense : tie.After-same-sense = search in
+    let at-stored-sense2 : tie.After-stored-sense2 = search in
+    let at-stored-sense : tie.After-stored-sense = search in
+    let a = start .args in
     let fs = facesIn (a .job .now) (a .index .now) (a .c) in
-    let s = c .before .before .before .before .before .before .before .before .before .stored-sense in
-    let t = c .before .before .before .before .before .before .before .before .stored-sense2 in
-    let e = c .before .before .before .before .before .before .before .same-sense in
-    let j = c .before .before .before .before .before .before .joins-faces in
-    λ g st. (joined g (a .a) (a .b), answer-joins fs (a .a) (a .b) (a .v) g (joining-is fs (a .a) (a .b) (a .v) (s .result) (t .result) (e .result) (toldOf (j .result)) (s .ensures) (t .ensures) (e .ensures) (j .ensures) ∙ ap toldOf (c .before .before .before .before .enum-told2 .given .1)), c .before .before .join-in .ensures .stands g st)
+    let s = at-stored-sense .stored-sense in
+    let t = at-stored-sense2 .stored-sense2 in
+    let e = at-same-sense .same-sense in
+    let j = at-joins-faces .joins-faces in
+    let joins = at-join-in .join-in in
+    let k = c .counted in
+    λ g st. (
+      joined (g .groups) (a .a) (a .b),
+      answer-joins fs (a .a) (a .b) (a .v) g (joins .result) (k .result) (joining-is fs (a .a) (a .b) (a .v) (s .result) (t .result) (e .result) (toldOf (j .result))
+          (s .ensures) (t .ensures) (e .ensures) (j .ensures) ∙ ap toldOf (at-enum-told2 .enum-told2 .given .1)) (joins .ensures .1 (g .groups) st) (k .ensures),
+      joins .ensures .0 .stands (g .groups) st,
+      one-at-most (joins .result) (k .result) (k .ensures),
+    )
 
 pub join-by-spec : {M : Type 1} → statement M
 join-by-spec =
@@ -91,6 +112,7 @@ join-by-spec =
     enum-told
     enum-told-2
     join-in-requires
+    counted-requires
     returns
     returns-2
     same-length

@@ -1,3 +1,4 @@
+use Prim.Native.Nat.{zero-le}
 use Rattle.merge_faces.specs.MergingLaws.{use-higher, use-same-face, use-missing, use-answered}
 use Rattle.merge_faces.specs.Merging.{MergedTo}
 use Rattle.job.specs.Lists.{facesIn, answersIn}
@@ -17,7 +18,7 @@ returns c =
     let ans = answersIn (a .job .now) (a .index .now) (a .c) in
     let fs = facesIn (a .job .now) (a .index .now) (a .c) in
     let us = usesIn (a .uses .now) in
-    λ g st. (g, use-higher ans fs us (a .twins .now) (a .h) (c .before .get .result) (c .before .get .ensures .0) (c .if1 .taken) g, st)
+    λ g st. (g .groups, use-higher ans fs us (a .twins .now) (a .h) (c .before .get .result) (c .before .get .ensures .0) (c .if1 .taken) g, st, zero-le)
 
 use-face-requires : tie.Need-use-face-requires
 use-face-requires c κs = search needs
@@ -35,10 +36,11 @@ returns-2 c =
     let fs = facesIn (a .job .now) (a .index .now) (a .c) in
     let us = usesIn (a .uses .now) in
     λ g st. (
-      g,
+      g .groups,
       use-same-face ans fs us (a .twins .now) (a .h) (at-get .get .result) (at-get .get .ensures .0) (at-use-face .use-face .result) (c .before .use-face2 .result)
           (at-use-face .use-face .ensures .0) (c .before .use-face2 .ensures .0) (c .if2 .taken) g,
       st,
+      zero-le,
     )
 
 ask-surface-requires : tie.Need-ask-surface-requires
@@ -89,7 +91,7 @@ returns-4 c =
     let fs = facesIn (a .job .now) (a .index .now) (a .c) in
     let us = usesIn (a .uses .now) in
     λ g st.
-    subst (MergedTo (at-join-by .join-by .result) (at-join-by .join-by .last .1 .1 .1 .0))
+    subst (MergedTo (at-join-by .join-by .result) (at-join-by .join-by .last .1 .1 .1 .0) g)
     (sym (use-answered ans fs us (a .twins .now) (a .h) (at-get .get .result) (at-get .get .ensures .0) (at-use-face .use-face .result) (at-use-face2 .use-face2 .result)
     (at-use-face .use-face .ensures .0) (at-use-face2 .use-face2 .ensures .0) (else1 .if1 .left) (else2 .if2 .left) g (at-ask-surface .ask-surface .result) (at-v .v .given .0 .0)
     (at-ask-surface .ask-surface .ensures) (at-v .v .given .1)))
