@@ -151,23 +151,31 @@ fn the_four_products_of_senses_are_met() {
     assert_eq!(products.count(), 8, "{met:?}");
 }
 
-/// Request Three: accepted jobs meet vertex records that share a point, drawn
-/// ones and stored ones.
-#[test]
-fn vertices_that_share_a_point_are_met() {
+/// Of 500 drawn jobs, and of the stored ones, at least so many are accepted and
+/// have each of these in them.
+fn assert_met(least: usize, names: &[&str]) {
     let drawn = (0..500).map(|index| generate::sample(1, index).job);
     for jobs in [drawn.collect(), stored_jobs()] {
         let features = jobs.iter().flat_map(|job| compare(job, ROOM).features);
         let met: Vec<&str> = features.collect();
-        for name in [
+        for name in names {
+            let count = met.iter().filter(|feature| *feature == name).count();
+            assert!(count >= least, "{name}: {count}");
+        }
+    }
+}
+
+/// Request Three: vertex records that share a point.
+#[test]
+fn vertices_that_share_a_point_are_met() {
+    assert_met(
+        11,
+        &[
             "a joint of two vertices",
             "a use alone between two vertices",
             "a fan that starts at two vertices",
-        ] {
-            let count = met.iter().filter(|&&feature| feature == name).count();
-            assert!(count > 10, "{name}: {count}");
-        }
-    }
+        ],
+    );
 }
 
 /// Request Three: how many vertex records stand on a point changes no answer
@@ -198,24 +206,19 @@ fn split_vertices_change_no_answer() {
 }
 
 /// Request Six: surface answers join faces that are in a group already, and
-/// answer within one, in drawn jobs and in stored ones.
+/// answer within one.
 #[test]
 fn face_joins_are_met() {
-    let drawn = (0..500).map(|index| generate::sample(1, index).job);
-    for jobs in [drawn.collect(), stored_jobs()] {
-        let features = jobs.iter().flat_map(|job| compare(job, ROOM).features);
-        let met: Vec<&str> = features.collect();
-        for name in [
+    assert_met(
+        5,
+        &[
             "a face join",
             "three face joins or more",
             "a face join through a face that is not lowest",
             "a face join through two faces that are not lowest",
             "an answer within one group",
-        ] {
-            let count = met.iter().filter(|&&feature| feature == name).count();
-            assert!(count >= 5, "{name}: {count}");
-        }
-    }
+        ],
+    );
 }
 
 /// The reference is compared on all but the face joins.
