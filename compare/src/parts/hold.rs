@@ -148,9 +148,11 @@ fn uses(answers: &Answers) -> Option<usize> {
 /// What the reference is not compared on is held against the second
 /// implementation.
 fn left_out(job: &[u8], name: &str, tested: &Given) -> Vec<Difference> {
-    let mut differences = Vec::new();
-    if let (Ok(ours), Ok(theirs)) = (tested, &caught(|| answers::second(job))) {
-        compare(ours, theirs, [name, SECOND], &mut differences);
+    let second = caught(|| answers::second(job));
+    let names = [name, SECOND];
+    let mut differences = stops(names, [tested, &second]);
+    if let (Ok(ours), Ok(theirs)) = (tested, &second) {
+        compare(ours, theirs, names, &mut differences);
     }
     differences
 }
