@@ -14,7 +14,7 @@ use Rattle.lists.specs.Lists.{below}
 use Rattle.lists.specs.Runs.{length-below, getD-below, length-table, getD-table}
 use Rattle.lists.specs.Tables.{set-each}
 use Rattle.rules.specs.Groups.{alone, labelOf, joined}
-use Rattle.rules.specs.GroupLaws.{length-joined, joined-at}
+use Rattle.rules.specs.GroupLaws.{length-joined, joined-at, joined-same as joined-none}
 use Rattle.groups.specs.Parents.{Ordered, Stands, Rooted, JoinedIn, SeparateIn}
 
 past : (l : List ℕ) (i : ℕ) → length l ≤ i → getD l i 0 ≡ 0
@@ -167,12 +167,6 @@ module _ (g : List ℕ) (a b : ℕ) where
       (λ h. ⊎-elim (λ w. let v = w .1 in ⊎-elim (λ x. omega arith) (λ x. omega arith) (w .0)) (λ w. w .2) (joined-at g a b i h))
       (λ h. past (joined g a b) i (omega (arith, length-joined g a b)) ∙ sym (past g i h))
       (within g i)
-
-  joined-none : labelOf g a ≡ labelOf g b → joined g a b ≡ g
-  joined-none e =
-      ext-getD 0 (joined g a b) g (length-joined g a b)
-      (λ i h.
-      ⊎-elim (λ w. let v = w .1 in ⊎-elim (λ x. omega arith) (λ x. omega arith) (w .0)) (λ w. w .2) (joined-at g a b i (omega (arith, length-joined g a b))))
 
 module _ (p m q : List ℕ) (a b ra rb : ℕ) (x : Rooted p m a ra) (y : Rooted m q b rb) where
   size : length q ≡ length p
