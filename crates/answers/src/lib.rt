@@ -1,5 +1,8 @@
 // The answers of a job by their questions: the index has a chain of answers for each bucket of questions, newest first.
 // An entry of a chain is the number of an answer plus one; 0 ends it.
+
+#![tactic(auto)]
+
 ghost use Rattle.std.specs.Prelude.{◌≡◌, ◌+◌, ◌<◌};
 ghost use Rattle.rules.specs.Fields.{le16};
 ghost use Rattle.rules.specs.Kinds.{kindOf};
@@ -13,7 +16,7 @@ use job::{ANSWERS, BUCKETS, CHAIN};
 use rules::{Counts, Kind};
 
 // The kind of an answer, and the one, two or four numbers that it is asked about.
-#[derive(Drop)]
+#[derive(Clone, Copy)]
 pub struct Question {
     pub kind: usize,
     pub words: usize,
@@ -24,7 +27,7 @@ pub struct Question {
 }
 
 // The first byte of the record that answers a question.
-#[derive(Drop)]
+#[derive(Clone, Copy)]
 pub enum Found {
     At(usize),
     Missing,

@@ -1,4 +1,7 @@
 // Questions put to the answers of a job: 20 where no record answers, 21 where the answer is undecided.
+
+#![tactic(auto)]
+
 ghost use Rattle.std.specs.Prelude.{◌≡◌, [], ◌∷◌, ◌≢◌, ◌<◌};
 ghost use Rattle.rules.specs.Questions.{surfaceAnswer, verdict as verdictOf, find as findAnswer, askYes, askSame, askRadial};
 ghost use Rattle.job.specs.Lists.{answersIn};
@@ -11,35 +14,35 @@ use fields::word;
 use rules::{Counts, SurfaceAnswer, Verdict};
 
 // The number on record for a question of kinds 8 to 13.
-#[derive(Drop)]
+#[derive(Clone, Copy)]
 pub enum Answer {
     Value(usize),
     Missing,
 }
 
 // What is on record for a question of kind 8.
-#[derive(Drop)]
+#[derive(Clone, Copy)]
 pub enum Surface {
     Says(SurfaceAnswer),
     Missing,
 }
 
 // What is on record for a question of kinds 9 to 13.
-#[derive(Drop)]
+#[derive(Clone, Copy)]
 pub enum Answered {
     Says(Verdict),
     Missing,
 }
 
 // A question put: its value, or the refusal that ends the stage.
-#[derive(Drop)]
+#[derive(Clone, Copy)]
 pub enum Asked {
     Value(usize),
     Refused(usize, usize),
 }
 
 // A question put that has yes or no for its answer.
-#[derive(Drop)]
+#[derive(Clone, Copy)]
 pub enum Told {
     Yes,
     No,
@@ -47,7 +50,7 @@ pub enum Told {
 }
 
 // The radial order round an edge: the byte of its first use, and how many uses there are.
-#[derive(Drop)]
+#[derive(Clone, Copy)]
 pub enum Order {
     Uses(usize, usize),
     Refused(usize, usize),

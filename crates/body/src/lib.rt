@@ -1,5 +1,8 @@
 // The body's records into the output. They are written twice by the same functions: first into no room, which gives
 // how many bytes there are, since a refusal must leave the output as it was; then into the output.
+
+#![tactic(auto)]
+
 ghost use Rattle.std.specs.Prelude.{◌≡◌, ℕ, ◌+◌, ◌*◌, ◌<◌, ◌≤◌, ◌^◌, length};
 ghost use mathlib.Core.List.{List, [], ◌∷◌, flat_map};
 ghost use Rattle.rules.specs.Fields.{fieldBytes};
@@ -24,7 +27,7 @@ use rules::{Counts, Ending};
 use shells::{shell_boundary, shell_home, shell_outer};
 
 // How many uses, removed uses, uses passed over, joins, rings and face joins there were.
-#[derive(Drop)]
+#[derive(Clone, Copy)]
 pub struct Totals {
     pub uses: usize,
     pub removed: usize,

@@ -1,4 +1,7 @@
 // Contact tests, for any labelling of the selected faces: by boundary for 30 and 31, by lump for 33 and 32.
+
+#![tactic(auto)]
+
 ghost use Rattle.std.specs.Prelude.{◌≡◌, ◌+◌, ◌≤◌, ◌<◌, length, get_or, replicate};
 ghost use Rattle.lists.specs.Lists.{repeats, some};
 ghost use Rattle.rules.specs.Pair.{usesOfEdge};
@@ -14,7 +17,7 @@ use fields::{UNSET, get, put};
 use uses::use_face;
 
 // Nothing touches, or the refusal with its number and place.
-#[derive(Drop)]
+#[derive(Clone, Copy)]
 pub enum Clear {
     Done,
     Refused(usize, usize),

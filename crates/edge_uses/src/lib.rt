@@ -1,5 +1,8 @@
 // The uses of each edge as a chain in two tables: the edge's entry in `firsts` is its last use plus one, a use's entry in
 // `nexts` is the use of its edge before it plus one; 0 ends a chain.
+
+#![tactic(auto)]
+
 ghost use Rattle.std.specs.Prelude.{◌≡◌, ◌≤◌, length, replicate};
 ghost use Rattle.uses.specs.Table.{usesIn};
 ghost use Rattle.fields.specs.Chains.{Falling};

@@ -1,5 +1,8 @@
 // The edges of the result as a table, seven numbers for each: curve, sense, start fan, end fan (both unset for a ring),
 // lower face, higher face, 1 where active; and the items of its loops, twice the edge and one more where Reversed.
+
+#![tactic(auto)]
+
 ghost use Rattle.std.specs.Prelude.{◌≡◌, ℕ, ◌+◌, ◌*◌, ◌<◌, ◌≤◌, ◌^◌, min, max, [], ◌∷◌, map, cond, length, get_or};
 ghost use Rattle.std.proofs.lemmas.List.Edits.{sets};
 ghost use Rattle.rules.specs.Join.{edgeDataAt};

@@ -1,4 +1,7 @@
 // Fans: the kept uses with ends round each corner, each fan named by its lowest use; and the points where uses start.
+
+#![tactic(auto)]
+
 ghost use Rattle.std.specs.Prelude.{◌≡◌, List, ℕ, ◌+◌, ◌≤◌, ◌<◌, length, take};
 ghost use Rattle.rules.specs.Fans.{keptWithEnds, fanStep, fans as fansOf, namesFan, fanNames, startPoints};
 ghost use Rattle.job.specs.Lists.{pointsIn, edgesIn};

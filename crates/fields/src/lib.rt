@@ -1,5 +1,8 @@
 // Fields of bytes, and tables of 32-bit numbers, by place. A place past the end reads as 0 and takes no store, as in
 // the definitions, so that no caller has to show that a place exists.
+
+#![tactic(auto)]
+
 ghost use Rattle.std.specs.Prelude.{◌≡◌, ◌+◌, ◌*◌, ◌<◌, ◌^◌, ◌++◌, false, length, get_or, set};
 ghost use Rattle.std.proofs.lemmas.List.Edits.{sets};
 ghost use Rattle.rules.specs.Fields.{le16, le32, bytes16, bytes32, fieldBytes};

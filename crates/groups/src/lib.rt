@@ -1,5 +1,8 @@
 // Groups of numbers by a table of parents: following parents ends at the lowest member. A number past the end is in the
 // group of 0.
+
+#![tactic(auto)]
+
 ghost use Rattle.std.specs.Prelude.{◌≡◌, List, map, ℕ, ◌-◌, ◌≤◌, length};
 ghost use Rattle.lists.specs.Lists.{below};
 ghost use Rattle.rules.specs.Groups.{alone as aloneOf, labelOf};

@@ -1,5 +1,8 @@
 // What every stage reads of a job: vertices and edges at computed places of its bytes; faces, loops and answers through
 // the index that loading fills.
+
+#![tactic(auto)]
+
 ghost use Rattle.std.specs.Prelude.{◌≡◌, ◌+◌, ◌*◌, ◌<◌, ◌≤◌, get_or};
 ghost use Rattle.rules.specs.Sense.{senseOf, senseNumber, sameSense, reverse as reversed, FourAnswers};
 ghost use Rattle.rules.specs.Job.{edgeAt, faceAt, startBy, endBy};

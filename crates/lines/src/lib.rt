@@ -1,5 +1,8 @@
 // Text on a page of bytes: the lines of a body's records and of a stage's rows, and the line of a refusal. A byte past
 // the page's end is not stored, so that no function asks for room; `front` gives what is there.
+
+#![tactic(auto)]
+
 ghost use Rattle.std.specs.Prelude.{◌≡◌, ◌+◌, ◌*◌, ◌<◌, ◌≤◌, ◌^◌, length, take, drop, set};
 ghost use mathlib.Core.List.{flat_map};
 ghost use Rattle.lists.specs.Lists.{same};

@@ -1,6 +1,9 @@
 // Loops as linked slots: each slot holds an item and leads to the next slot of its loop, so that a join rewrites two slots
 // however long the loops are. `list` is the item list while edges are joined, `nexts` its links; a loop's slots never leave
 // its own stretch of either, and a join is lent that stretch.
+
+#![tactic(auto)]
+
 ghost use Rattle.std.specs.Prelude.{◌≡◌, ◌+◌, ◌*◌, ◌-◌, ◌≤◌, ◌<◌, length, get_or};
 ghost use Rattle.edges.specs.Table.{rowsIn, Laid};
 ghost use Rattle.links.specs.Tables.{linksOf, IsLoop, ownEnd, follow, codesAt, Turned, fusedAt, Fusable};

@@ -1,4 +1,7 @@
 // The listing of a job: it is sewn, and a line is put on a page for each record of the body, or the line of the refusal.
+
+#![tactic(auto)]
+
 ghost use Rattle.lines.specs.Listed.{SewnInto, Lists};
 
 // Sews a job into an output of 65,536 bytes, as `sew` does, and puts the listing on a page. Gives the length of the text,

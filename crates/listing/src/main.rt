@@ -1,5 +1,8 @@
 // Sews the job of the file that its word names, or of standard input, and prints a line for each record of the body, or
 // the refusal.
+
+#![tactic(auto)]
+
 use programs::Input;
 
 // One byte more than a job may have: a longer job is refused by its length.

@@ -1,1 +1,4 @@
 // Definitions and laws of lists of numbers: see specs/. No code.
+
+#![tactic(auto)]
+

@@ -1,4 +1,7 @@
 // Loading: refusals 1 to 7 in their order, the counts, and the index of faces, loops and answers; and the loop request.
+
+#![tactic(auto)]
+
 ghost use Rattle.std.specs.Prelude.{◌≡◌, true, ◌&&◌, not, ◌<◌, length, drop, replicate};
 ghost use Rattle.rules.specs.Frame.{wholeRecord};
 ghost use Rattle.rules.specs.Kinds.{isLoop, isAnswer, rightLength, rightPosition};
@@ -15,20 +18,20 @@ use job::{FACES, INDEX, LOOPS, OWNERS};
 use rules::{Counts, Kind};
 
 // What becomes of one record: the number of a refusal, or the counts after it and the byte of the next.
-#[derive(Drop)]
+#[derive(Clone, Copy)]
 pub enum Stepped {
     Refused(usize),
     Taken(Counts, usize),
 }
 
-#[derive(Drop)]
+#[derive(Clone, Copy)]
 pub enum Loaded {
     Refused(usize, usize),
     Done(Counts),
 }
 
 // A loop's payload, from its first byte to the byte after it.
-#[derive(Drop)]
+#[derive(Clone, Copy)]
 pub enum Stretched {
     Refused(usize, usize),
     At(usize, usize),

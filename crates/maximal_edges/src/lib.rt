@@ -1,4 +1,7 @@
 // Joining: corners with exactly two active edge ends are taken away, one change at a time.
+
+#![tactic(auto)]
+
 ghost use Rattle.std.specs.Prelude.{◌≡◌, ℕ, ◌+◌, ◌*◌, ◌<◌, ◌≤◌, ◌^◌, List, [], ◌∷◌, ◌++◌, true, cond, length, get_or, set, eqb};
 ghost use Rattle.lists.specs.Lists.{◌∈◌, Nodup, same};
 ghost use Rattle.rules.specs.Sense.{reverse};
@@ -23,7 +26,7 @@ use fields::{get, put};
 use rules::{Counts, EdgeData, Sense};
 
 // What a sweep finds: no change; the corner and the edge of a ring; the corner and the two edges of a join; or a refusal.
-#[derive(Drop)]
+#[derive(Clone, Copy)]
 pub enum Change {
     Unchanged,
     Ring(usize, usize),
@@ -32,14 +35,14 @@ pub enum Change {
 }
 
 // How many edges there are, and how many joins and rings made them so.
-#[derive(Drop)]
+#[derive(Clone, Copy)]
 pub struct Joins {
     pub edges: usize,
     pub joins: usize,
     pub rings: usize,
 }
 
-#[derive(Drop)]
+#[derive(Clone, Copy)]
 pub enum Joining {
     Done(Joins),
     Refused(usize, usize),

@@ -1,4 +1,7 @@
 // Merging: boundaries, merged groups of faces, removed uses, and the merged faces by number.
+
+#![tactic(auto)]
+
 ghost use Rattle.std.specs.Prelude.{◌≡◌, cond, not, ◌+◌, ◌≤◌, ◌<◌, ◌^◌, length, take};
 ghost use Rattle.lists.specs.Lists.{keep};
 ghost use Rattle.rules.specs.Outcome.{ok};
@@ -22,7 +25,7 @@ use rules::{Counts, SurfaceAnswer};
 use uses::use_face;
 
 // The groups are made, by so many joins of separate groups; or merging ends with a refusal.
-#[derive(Drop)]
+#[derive(Clone, Copy)]
 pub enum Merging {
     Done(usize),
     Refused(usize, usize),
@@ -31,7 +34,7 @@ pub enum Merging {
 // BOUNDARIES
 
 // The faces beside a pair.
-#[derive(Drop)]
+#[derive(Clone, Copy)]
 struct TwoFaces {
     face: usize,
     other: usize,

@@ -1,4 +1,7 @@
 // Pairing: the twin of every use, edges ascending.
+
+#![tactic(auto)]
+
 ghost use Rattle.std.specs.Prelude.{◌≡◌, ◌+◌, ◌*◌, ◌<◌, ◌≤◌, length, drop, replicate};
 ghost use Rattle.lists.specs.Lists.{has as hasNumber, all, indexOf};
 ghost use Rattle.rules.specs.Fields.{fieldsIn};
@@ -17,7 +20,7 @@ use rules::{Counts, Sense};
 use uses::use_sense;
 
 // What is asked for is paired, or the refusal that ends the stage.
-#[derive(Drop)]
+#[derive(Clone, Copy)]
 enum Pairs {
     Done,
     Refused(usize, usize),

@@ -1,5 +1,8 @@
 // What the programs share: reading an input to its end, an operation by its number, the lines of a stage, and the words of
 // a command line.
+
+#![tactic(auto)]
+
 ghost use Rattle.std.specs.Prelude.{length};
 ghost use Rattle.rules.specs.Sew.{Ends};
 ghost use Rattle.rules.specs.Operation.{operation};
@@ -8,7 +11,7 @@ ghost use Rattle.lines.specs.StageListed.{StagedInto, StageLists};
 use rules::Ending;
 
 // What became of a reading: a read that failed, or so many bytes at the buffer's start.
-#[derive(Drop)]
+#[derive(Clone, Copy)]
 pub enum Input {
     Failed,
     Bytes(usize),

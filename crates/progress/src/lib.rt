@@ -1,5 +1,8 @@
 // What the stages hand on to each other, and the numbers by which a stage is asked for.
 
+#![tactic(auto)]
+
+
 // The stages in their order, from the one after `read` on; the last gives the body.
 pub const PAIR: usize = 2;
 
@@ -26,7 +29,7 @@ pub const BODY: usize = 12;
 // The selected faces: the label of the boundary and of the merged group of each, the number of its merged face, and the
 // lowest member of each merged face, of which there are `merged`, made by `joins` face joins. Entries past the faces of
 // the job mean nothing.
-#[derive(Drop)]
+#[derive(Clone, Copy)]
 pub struct Faces {
     pub merged: usize,
     pub joins: usize,
@@ -37,7 +40,7 @@ pub struct Faces {
 }
 
 // How many uses are removed, how many were passed over in total, how many vertex loops are kept.
-#[derive(Drop)]
+#[derive(Clone, Copy)]
 pub struct Figures {
     pub removed: usize,
     pub passed: usize,

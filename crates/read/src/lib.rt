@@ -1,4 +1,7 @@
 // Reading: the uses by face, loop and traversal, after any reversal by the selected sense.
+
+#![tactic(auto)]
+
 ghost use Rattle.std.specs.Prelude.{◌≡◌, ◌++◌, ◌+◌, ◌*◌, ◌<◌, ◌≤◌, length, take};
 ghost use Rattle.lists.specs.Cyclic.{nextPlace};
 ghost use Rattle.rules.specs.Read.{traversed, loopUses, usesOf};

@@ -3,6 +3,9 @@
 // `kept`; of the fans `fans`, `names` and `starts`; the edges as `rows`, the loops as `items`, `stretches` and `faces`; the
 // shells as `table`; `numbers` and `vertices` are spare, for the body. Tables are made in two sizes, for small parts and
 // for all others: clearing tables of the limits' size costs more than all else of a small part.
+
+#![tactic(auto)]
+
 ghost use Rattle.std.specs.Prelude.{◌≡◌, ◌*◌, ◌≤◌, length, replicate};
 ghost use Rattle.rules.specs.Contact.{edgesClear};
 ghost use Rattle.rules.specs.Sew.{Fanned, fansOf, unjoined, Ends};
@@ -337,7 +340,7 @@ fn on_edged(
 // EDGES AND LOOPS
 
 // How many edges and loops there are.
-#[derive(Drop)]
+#[derive(Clone, Copy)]
 struct Lengths {
     edges: usize,
     loops: usize,

@@ -1,4 +1,7 @@
 // The tests of one record, by its kind: refusals 3, 5, 4 and 6; and the counts after a record.
+
+#![tactic(auto)]
+
 ghost use Rattle.std.specs.Prelude.{◌≡◌, true, ◌&&◌, ◌||◌, not, ◌+◌, ◌*◌, ◌-◌, ◌%◌, ◌/◌, ◌<◌, ◌^◌, drop, eqb, ltb, leb};
 ghost use Rattle.lists.specs.Lists.{all, neighbours};
 ghost use Rattle.rules.specs.Fields.{le32, fieldsIn};
@@ -405,7 +408,7 @@ fn is_ring(job: &[u8], c: Counts, p: usize) -> bool
 }
 
 // Whether an item is of a ring, and the points where it starts and ends.
-#[derive(Drop)]
+#[derive(Clone, Copy)]
 struct Ends {
     ring: bool,
     start: usize,

@@ -1,6 +1,9 @@
 // Replays the packed vectors of the file that its word names: every answer is worked out anew and held against the
 // packed one. Prints a line for each difference, and at the end how many answers there were, or why the file cannot be
 // used.
+
+#![tactic(auto)]
+
 ghost use Rattle.std.specs.Prelude.{◌≡◌, ◌+◌, ◌<◌, ◌≤◌, ◌^◌, length};
 ghost use Rattle.replay.specs.Counted.{Counted};
 
@@ -19,7 +22,7 @@ const BODY: usize = 65536;
 
 // An answer: the refusal's number or 0, its place or the output's length, the output's hash, and how many bytes of the
 // output are packed or agree with the packed ones.
-#[derive(Drop)]
+#[derive(Clone, Copy)]
 struct Answer {
     number: usize,
     place: usize,
@@ -28,7 +31,7 @@ struct Answer {
 }
 
 // What is packed at a place: the operation, its room, the answer, where the output's bytes start, the place after it.
-#[derive(Drop)]
+#[derive(Clone, Copy)]
 struct Packed {
     operation: usize,
     room: usize,
@@ -39,7 +42,7 @@ struct Packed {
 
 // The place that is reached, how many jobs, answers and differences there were before it, and whether each of these jobs
 // has all its answers.
-#[derive(Drop)]
+#[derive(Clone, Copy)]
 struct Tally {
     at: usize,
     jobs: usize,

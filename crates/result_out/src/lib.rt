@@ -1,6 +1,9 @@
 // What the single stages from the fans on write: four-byte fields from the output's start on, or nothing and refusal 40
 // with the bytes needed where the output is too short. The bytes needed are the place after the same fields written to
 // an output of no bytes, which stores none of them.
+
+#![tactic(auto)]
+
 ghost use Rattle.std.specs.Prelude.{◌≡◌, ◌*◌, ◌<◌, ◌≤◌, ◌^◌, length};
 ghost use mathlib.Core.List.{flat_map};
 ghost use Rattle.rules.specs.Fields.{fieldBytes};

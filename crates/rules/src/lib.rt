@@ -1,14 +1,17 @@
 // The vocabulary that the definitions in specs/ and the code of every stage share. No code.
 
+#![tactic(auto)]
+
+
 // 0 Same, 1 Reversed.
-#[derive(Drop)]
+#[derive(Clone, Copy)]
 pub enum Sense {
     Same,
     Reversed,
 }
 
 // The kinds of job records, 1 to 13; any other number is unknown.
-#[derive(Drop)]
+#[derive(Clone, Copy)]
 pub enum Kind {
     Unknown,
     Head,
@@ -27,7 +30,7 @@ pub enum Kind {
 }
 
 // What is answered to a question of kind 8, Surface.
-#[derive(Drop)]
+#[derive(Clone, Copy)]
 pub enum SurfaceAnswer {
     Different,
     Agreeing,
@@ -37,7 +40,7 @@ pub enum SurfaceAnswer {
 }
 
 // What is answered to a question of kinds 9 to 13.
-#[derive(Drop)]
+#[derive(Clone, Copy)]
 pub enum Verdict {
     No,
     Yes,
@@ -46,7 +49,7 @@ pub enum Verdict {
 
 // What has been loaded so far: the part reached (0 nothing, 1 Head, 2 vertices, 3 edges, 4 faces with their loops,
 // 5 answers), then how many of each thing; `loops` counts both sorts.
-#[derive(Drop)]
+#[derive(Clone, Copy)]
 pub struct Counts {
     pub part: usize,
     pub vertices: usize,
@@ -58,7 +61,7 @@ pub struct Counts {
 }
 
 // An edge of the job; both vertices are 4,294,967,295 for a ring.
-#[derive(Drop)]
+#[derive(Clone, Copy)]
 pub struct Edge {
     pub curve: u32,
     pub sense: Sense,
@@ -67,7 +70,7 @@ pub struct Edge {
 }
 
 // A selected face.
-#[derive(Drop)]
+#[derive(Clone, Copy)]
 pub struct Face {
     pub surface: u32,
     pub own: Sense,
@@ -75,14 +78,14 @@ pub struct Face {
 }
 
 // An edge in a loop, with the sense in which the loop runs along it.
-#[derive(Drop)]
+#[derive(Clone, Copy)]
 pub struct Item {
     pub edge: u32,
     pub sense: Sense,
 }
 
 // A use of an edge by a selected face; `next` is its old successor.
-#[derive(Drop)]
+#[derive(Clone, Copy)]
 pub struct Use {
     pub edge: u32,
     pub face: u32,
@@ -91,7 +94,7 @@ pub struct Use {
 }
 
 // A vertex loop that is kept: its merged face and its point.
-#[derive(Drop)]
+#[derive(Clone, Copy)]
 pub struct KeptVertexLoop {
     pub face: u32,
     pub point: u32,
@@ -99,7 +102,7 @@ pub struct KeptVertexLoop {
 
 // An edge of the result: fans or 4,294,967,295 as its ends, the sorted pair of merged faces beside it, whether no join
 // has taken it.
-#[derive(Drop)]
+#[derive(Clone, Copy)]
 pub struct EdgeData {
     pub curve: u32,
     pub sense: Sense,
@@ -110,7 +113,7 @@ pub struct EdgeData {
 }
 
 // How an operation ends: the number of bytes written, or a refusal's number and place.
-#[derive(Drop)]
+#[derive(Clone, Copy)]
 pub enum Ending {
     Written(usize),
     Refused(usize, usize),

@@ -1,5 +1,8 @@
 // Sewing: from a job's bytes to the body or to the fields of a single stage. Each stage is done and handed to the next, up
 // to the one that is asked for.
+
+#![tactic(auto)]
+
 ghost use Rattle.std.specs.Prelude.{◌≡◌, ◌*◌, ◌≤◌, length, take};
 ghost use Rattle.rules.specs.Read.{usesOf};
 ghost use Rattle.rules.specs.Rules.{ordinary, fullTable};

@@ -1,5 +1,8 @@
 // Sewing for callers in C and Rust: numbers and byte slices. A `&[u8]` is passed as a pointer and a length, a `&mut usize`
 // as a pointer; `include/sewing.h` says what each must hold.
+
+#![tactic(auto)]
+
 ghost use Rattle.std.specs.Prelude.{◌≡◌, length};
 ghost use Rattle.rules.specs.Load.{requested};
 ghost use Rattle.rules.specs.Rules.{ordinary, fullTable};

@@ -1,6 +1,9 @@
 // Shells: outer or void, the outer shell that encloses each void, and the faces labelled by lump. A table has four
 // numbers for each shell: the label of its boundary, its lowest merged face, 1 for outer, and the lowest merged face of
 // the outer shell of its lump.
+
+#![tactic(auto)]
+
 ghost use Rattle.std.specs.Prelude.{◌≡◌, ℕ, ◌+◌, ◌*◌, ◌<◌, ◌≤◌, ◌^◌, List, map, length, get_or, replicate, eqb};
 ghost use Rattle.rules.specs.Fields.{le32};
 ghost use Rattle.rules.specs.Groups.{lowestMembers};
@@ -19,7 +22,7 @@ use fields::{get, put, word};
 use rules::Counts;
 
 // How many shells there are, or the refusal.
-#[derive(Drop)]
+#[derive(Clone, Copy)]
 pub enum Nesting {
     Done(usize),
     Refused(usize, usize),

@@ -1,5 +1,8 @@
 // Runs the stage that its first word names on the job of the file that its second names, or of standard input, and prints
 // a line for each record of the stage, or the refusal.
+
+#![tactic(auto)]
+
 use programs::Input;
 
 // One byte more than a job may have: a longer job is refused by its length.

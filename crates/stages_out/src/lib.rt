@@ -1,5 +1,8 @@
 // What the single stages through the loops write: four-byte fields from the output's start on, or nothing and refusal 40
 // with the bytes needed where the output is too short.
+
+#![tactic(auto)]
+
 ghost use Rattle.std.specs.Prelude.{◌≡◌, ◌+◌, ◌*◌, ◌<◌, ◌≤◌, ◌^◌, cond, not, length};
 ghost use mathlib.Core.List.{[], ◌∷◌, flat_map};
 ghost use Rattle.rules.specs.Fields.{fieldBytes};

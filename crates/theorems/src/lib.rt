@@ -1,1 +1,4 @@
 // Theorems about the definitions of `rules`: see specs/. No code.
+
+#![tactic(auto)]
+

@@ -1,4 +1,7 @@
 // The table of uses: four numbers for each use, its edge, selected face, sense and old successor.
+
+#![tactic(auto)]
+
 ghost use Rattle.std.specs.Prelude.{◌≡◌, [], ◌∷◌, ◌+◌, ◌*◌, ◌/◌, ◌<◌, ◌≤◌, length, get_or};
 ghost use Rattle.rules.specs.Job.{ring};
 ghost use Rattle.rules.specs.Read.{useAt, faceOfUse, oldSuccessor, edgeOfUse, useStart};

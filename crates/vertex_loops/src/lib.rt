@@ -1,4 +1,7 @@
 // The vertex loops kept, two numbers each: merged face and point.
+
+#![tactic(auto)]
+
 ghost use Rattle.std.specs.Prelude.{◌≡◌, ◌+◌, ◌*◌, ◌≤◌, ◌<◌, length};
 ghost use Rattle.rules.specs.VertexLoops.{alreadyThere, keepUnlessThere, vertexLoopStep, vertexLoops};
 ghost use Rattle.job.specs.Lists.{pointsIn, loopIn, loopsIn, answersIn};
@@ -11,7 +14,7 @@ use fields::{get, put, word};
 use rules::Counts;
 
 // How many are kept, or the refusal.
-#[derive(Drop)]
+#[derive(Clone, Copy)]
 pub enum Keeping {
     Done(usize),
     Refused(usize, usize),

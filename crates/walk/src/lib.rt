@@ -1,4 +1,7 @@
 // Walks: the successor and the passed count of each use, and the loops.
+
+#![tactic(auto)]
+
 ghost use Rattle.std.specs.Prelude.{◌≡◌, ◌+◌, ◌*◌, ◌<◌, ◌≤◌, false, length};
 ghost use Rattle.lists.specs.Lists.{sumOf};
 ghost use Rattle.rules.specs.Walk.{pass as passOf, successors as successorsOf, passedCounts, successor as successorAt, circuit, circuitUses, circuits, loopsOf};
@@ -10,7 +13,7 @@ use fields::{UNSET, get, is_set, put, put_flag};
 use uses::{count, use_next};
 
 // The use that passing over meets, or the unset mark, and how many uses it passed over.
-#[derive(Drop)]
+#[derive(Clone, Copy)]
 pub struct Passed {
     pub at: usize,
     pub passed: usize,
@@ -109,7 +112,7 @@ fn walk_loop(succ: &[u32], start: usize, visited: &mut [bool], ways: &mut [u32],
 }
 
 // How many loops there are so far, and where the next one's uses go.
-#[derive(Drop)]
+#[derive(Clone, Copy)]
 struct Reached {
     count: usize,
     at: usize,

@@ -1,0 +1,43 @@
+use Rattle.ask.specs.ToldLaws.{value-found, value-missing}
+use Rattle.answers.specs.ChainLaws.{chained, place-fits}
+use native.Mathlib.Omega.{arith}
+use borrow.Author.Rules.{rules}
+use Rattle.ask.proofs.answer_to.Goals as goal
+
+pub find-f-requires : goal.find-f-requires
+find-f-requires c =
+    let a = c.args in
+    let pre = c.requires in
+    (pre.1, chained a.job.now a.index.now a.c pre.0)
+
+pub overflow_add-p : goal.overflow_add-p
+overflow_add-p c =
+    let find = c.find-f in
+    omega (arith, place-fits find.result c.in-At.given.0.0 find.ensures.1 c.in-At.is)
+
+pub overflow_add-p-in-At : goal.overflow_add-p-in-At
+overflow_add-p-in-At c =
+    let find = c.find-f in
+    let told = c.in-At in
+    omega (arith, place-fits find.result told.given.0.0 find.ensures.1 told.is, c.requires.1.padded.words)
+
+pub word-requires : goal.word-requires
+word-requires c =
+    let find = c.find-f in
+    let told = c.in-At in
+    omega (arith, place-fits find.result told.given.0.0 find.ensures.1 told.is, c.requires.1.padded.words)
+
+pub returns-in-At : goal.returns-in-At
+returns-in-At c =
+    let a = c.args in
+    let pre = c.requires in
+    let find = c.find-f in
+    let told = c.in-At in
+    value-found a.job.now a.index.now a.c a.q find.result pre.0 pre.1 find.ensures.0 told.given.0.0 c.word.result pre.2 told.is c.word.ensures.0
+
+pub returns-in-Missing : goal.returns-in-Missing
+returns-in-Missing c =
+    let a = c.args in
+    let pre = c.requires in
+    let find = c.find-f in
+    value-missing a.job.now a.index.now a.c a.q find.result pre.0 pre.1 find.ensures.0 c.in-Missing.is

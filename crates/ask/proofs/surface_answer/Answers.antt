@@ -1,0 +1,17 @@
+use Rattle.ask.specs.ToldLaws.{surface-0, surface-1, surface-2, surface-3, surface-other}
+use Rattle.ask.proofs.surface_answer.Goals as goal
+
+pub returns-in-0 : goal.returns-in-0
+returns-in-0 c = surface-0 c.args.v c.in-0.is
+
+pub returns-in-1 : goal.returns-in-1
+returns-in-1 c = surface-1 c.args.v c.in-1.is
+
+pub returns-in-2 : goal.returns-in-2
+returns-in-2 c = surface-2 c.args.v c.in-2.is
+
+pub returns-in-3 : goal.returns-in-3
+returns-in-3 c = surface-3 c.args.v c.in-3.is
+
+pub returns-in_default : goal.returns-in_default
+returns-in_default c = let r = c.match.rest in surface-other c.args.v r.0.0.0.1 r.0.0.1 r.0.1 r.1

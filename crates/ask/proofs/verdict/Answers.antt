@@ -1,0 +1,11 @@
+use Rattle.ask.specs.ToldLaws.{verdict-0, verdict-1, verdict-other}
+use Rattle.ask.proofs.verdict.Goals as goal
+
+pub returns-in-0 : goal.returns-in-0
+returns-in-0 c = verdict-0 c.args.v c.in-0.is
+
+pub returns-in-1 : goal.returns-in-1
+returns-in-1 c = verdict-1 c.args.v c.in-1.is
+
+pub returns-in_default : goal.returns-in_default
+returns-in_default c = let r = c.match.rest in verdict-other c.args.v r.0.1 r.1

@@ -1,0 +1,14 @@
+use Rattle.edges.specs.Table.{rowsIn}
+use Rattle.rules.specs.Join.{edgeDataAt}
+use mathlib.Core.Path.{◌≡◌}
+use Prim.Native.Nat.{◌-◌, ◌/◌, ◌≤◌}
+use lib.ListN.{length}
+use Rattle.body.specs.Rows.{edgeRow}
+use Rattle.body.specs.Writing.{Rowed}
+use Rattle.body.proofs.put_edges.Given as goal
+
+abbrev pub invariant-loop-e : goal.invariant-loop-e
+invariant-loop-e l = (l.e ≤ length l.rows / 7) × (l.n ≡ length l.rows / 7) × Rowed (λ k. edgeRow l.vertices l.count (edgeDataAt (rowsIn l.rows) k)) 22 l.initial.out l.at l.out l.p l.e
+
+abbrev pub decreases-loop-e : goal.decreases-loop-e
+decreases-loop-e l = l.n - l.e

@@ -1,0 +1,28 @@
+use Rattle.uses.specs.Table.{usesIn}
+use Rattle.rules.specs.Read.{faceOfUse}
+use mathlib.Core.Path.{ap, ◌∙◌}
+use Rattle.edges.specs.Table.{loopFace}
+use Rattle.lists.specs.InPlace.{Filled, filled-none, filled-more, filled-all}
+use Prim.Native.Nat.{◌-◌}
+use lib.ListN.{length, get_or}
+use native.Mathlib.Omega.{arith}
+use borrow.Author.Rules.{rules}
+use Rattle.edges.proofs.loop_faces.Goals as goal
+
+pub loop-k-init : goal.loop-k-init
+loop-k-init c = filled-none _ _
+
+pub first_use-h-requires : goal.first_use-h-requires
+first_use-h-requires c = omega (arith, c.loop-k.invariant.size, c.loop-k-test.true, c.well-formed)
+
+pub overflow_add-k : goal.overflow_add-k
+overflow_add-k c = omega arith
+
+pub loop-k-smaller : goal.loop-k-smaller
+loop-k-smaller c = omega arith
+
+pub loop-k-preserved : goal.loop-k-preserved
+loop-k-preserved c = filled-more _ c.args.faces.now c.loop-k.faces c.put.new.t c.loop-k.k c.get-f.result c.loop-k.invariant (omega (arith, c.loop-k.invariant.size, c.loop-k-test.true)) (c.get-f.ensures.0 ∙ ap (λ g. get_or c.args.numbers.now g 0) (c.use_face.ensures.0 ∙ ap (faceOfUse (usesIn c.args.uses.now)) c.first_use-h.ensures)) c.put.ensures
+
+pub returns : goal.returns
+returns c = filled-all _ _ _ c.loop-k.k c.loop-k.invariant (omega (arith, c.loop-k-test.false, c.loop-k.invariant.size))

@@ -1,0 +1,15 @@
+use Rattle.groups.specs.ParentLaws.{Numbered, numbered-step, numbered-all}
+use lib.ListN.{length}
+use Prim.Native.Nat.{◌-◌, ◌≤◌}
+use mathlib.Core.Path.{◌≡◌, ◌∙◌}
+use native.Mathlib.Omega.{arith}
+use borrow.Author.Rules.{rules}
+use Rattle.groups.proofs.alone.Goals as goal
+
+pub loop-i-preserved : goal.loop-i-preserved
+loop-i-preserved c = let l = c.loop-i in
+    (omega arith, c.parents-1.given ∙ l.invariant.1, numbered-step l.parents c.put.new.t l.i l.invariant.2 c.loop-i-test.true c.put.ensures)
+
+pub returns : goal.returns
+returns c = let l = c.loop-i in
+    numbered-all l.parents (length c.args.parents.now) l.i l.invariant.1 l.invariant.2 (omega arith)

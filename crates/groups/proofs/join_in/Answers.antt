@@ -1,0 +1,37 @@
+use Rattle.groups.specs.ParentLaws.{joined-less, joined-more, joined-same, separate-roots, one-root}
+use native.Mathlib.Omega.{arith}
+use borrow.Author.Rules.{rules}
+use Rattle.groups.proofs.join_in.Goals as goal
+
+pub returns-then-ra-rb : goal.returns-then-ra-rb
+returns-then-ra-rb c =
+    let s = c.args in
+    let x = c.root_in-ra in
+    let y = c.root_in-rb in (
+      joined-less s.parents.now x.new.parents y.new.parents s.a s.b x.result y.result x.ensures y.ensures c.put.new.t c.if-ra-rb.true
+          c.put.ensures,
+      separate-roots s.parents.now x.new.parents y.new.parents s.a s.b x.result y.result x.ensures y.ensures
+          (λ e. let t = c.if-ra-rb.true in omega arith),
+    )
+
+pub returns-then-rb-ra : goal.returns-then-rb-ra
+returns-then-rb-ra c =
+    let s = c.args in
+    let x = c.root_in-ra in
+    let y = c.root_in-rb in (
+      joined-more s.parents.now x.new.parents y.new.parents s.a s.b x.result y.result x.ensures y.ensures c.put-then-rb-ra.new.t c.if-rb-ra.true
+          c.put-then-rb-ra.ensures,
+      separate-roots s.parents.now x.new.parents y.new.parents s.a s.b x.result y.result x.ensures y.ensures
+          (λ e. let t = c.if-rb-ra.true in omega arith),
+    )
+
+pub returns : goal.returns
+returns c =
+    let s = c.args in
+    let x = c.root_in-ra in
+    let y = c.root_in-rb in (
+      joined-same s.parents.now x.new.parents y.new.parents s.a s.b x.result y.result x.ensures y.ensures
+          (omega (arith, c.if-rb-ra.false, c.if-ra-rb.false)),
+      one-root s.parents.now x.new.parents y.new.parents s.a s.b x.result y.result x.ensures
+          y.ensures (omega (arith, c.if-rb-ra.false, c.if-ra-rb.false)),
+    )

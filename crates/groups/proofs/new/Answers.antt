@@ -1,0 +1,18 @@
+use Rattle.groups.specs.Padding.{zeros, lent-size, new-stands}
+use native.Mathlib.Omega.{arith}
+use mathlib.Core.Path.{sym}
+use lib.ListN.{length, take}
+use borrow.Author.Rules.{rules}
+use Rattle.groups.proofs.new.Goals as goal
+
+-- no goal for slice-aggregate-alone
+-- -- old need: slice-aggregate-alone
+-- slice-aggregate-alone : goal.slice-aggregate-alone
+-- slice-aggregate-alone c = sym (lent-size c.args.n 256 c.requires)
+
+pub alone-requires : goal.alone-requires
+alone-requires c = let e = lent-size c.args.n 256 c.requires in omega (arith, e)
+
+pub returns : goal.returns
+returns c = let n = c.args.n in
+    new-stands 256 n (length (take n (zeros 256))) c.alone.new.parents c.requires (lent-size n 256 c.requires) c.alone.ensures.1

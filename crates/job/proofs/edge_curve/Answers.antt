@@ -1,0 +1,13 @@
+use Rattle.job.specs.Lists.{edgeIn}
+use Rattle.job.specs.ListLaws.{edges-at, edges-past}
+use mathlib.Core.Path.{sym, ap, ◌∙◌}
+use native.Mathlib.Omega.{arith}
+use borrow.Author.Rules.{rules}
+use Rattle.job.proofs.edge_curve.Goals as goal
+
+pub returns-then-e-c : goal.returns-then-e-c
+unfolding edgeIn
+returns-then-e-c c = (c.word.ensures.0 ∙ sym (ap (λ e. e.curve) (edges-at c.args.job.now c.args.c c.args.e c.if-e-c.true)), c.word.ensures.1)
+
+pub returns : goal.returns
+returns c = (sym (ap (λ e. e.curve) (edges-past c.args.job.now c.args.c c.args.e c.if-e-c.false)), omega arith)

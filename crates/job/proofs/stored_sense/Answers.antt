@@ -1,0 +1,10 @@
+use Rattle.rules.specs.Sense.{product}
+use Rattle.rules.specs.SenseLaws.{answers-product}
+use mathlib.Core.Path.{◌∙◌}
+use borrow.Author.Rules.{rules}
+use Rattle.job.proofs.stored_sense.Goals as goal
+
+pub returns : goal.returns
+returns c =
+    answers-product c.face_own-own.result c.face_selected-selected.result c.product.result c.product.ensures
+    ∙ (λ i. product (c.face_own-own.ensures i) (c.face_selected-selected.ensures i))

@@ -1,0 +1,36 @@
+use Rattle.lines.specs.Text.{countedOf}
+use borrow.Author.Tests.{ne_eqb}
+use borrow.Author.Rules.{rules}
+use Rattle.lines.proofs.counted_fields.Goals as goal
+
+pub returns-in-6 : goal.returns-in-6
+unfolding countedOf
+returns-in-6 c = (
+  simp c.in-6.is,
+  search rules,
+)
+
+pub returns-in-10 : goal.returns-in-10
+unfolding countedOf
+returns-in-10 c = (
+  simp c.in-10.is,
+  search rules,
+)
+
+pub returns-in-11 : goal.returns-in-11
+unfolding countedOf
+returns-in-11 c = (
+  simp c.in-11.is,
+  search rules,
+)
+
+pub returns-in_default : goal.returns-in_default
+unfolding countedOf
+returns-in_default c = (
+  simp (
+    ne_eqb _ _ c.in_default.not-11,
+    ne_eqb _ _ c.in_default.not-10,
+    ne_eqb _ _ c.in_default.not-6,
+  ),
+  search rules,
+)

@@ -1,0 +1,13 @@
+use Rattle.rules.specs.Listing.{lineOf}
+use Rattle.lines.specs.Cut.{Going}
+use Rattle.lines.specs.Text.{recordAt, recordSize}
+use lib.ListN.{length}
+use Prim.Native.Nat.{◌-◌}
+use mathlib.Core.Path.{◌≡◌}
+use Rattle.lines.proofs.put_lines.Given as goal
+
+abbrev pub invariant-loop-from : goal.invariant-loop-from
+invariant-loop-from l = (length l.page ≡ length l.initial.page) × Going recordAt recordSize lineOf l.initial.page 0 l.body l.page l.p l.from
+
+abbrev pub decreases-loop-from : goal.decreases-loop-from
+decreases-loop-from l = length l.body - l.from

@@ -1,0 +1,24 @@
+use lib.ListN.{length-set}
+use Prim.Native.Nat.{◌-◌}
+use Rattle.lines.specs.Writing.{Spelled, spelled-start, spelled-last, spelled-on, spelled-end}
+use mathlib.Core.Path.{sym, ◌∙◌}
+use native.Mathlib.Omega.{arith}
+use borrow.Author.Rules.{rules}
+use Rattle.lines.proofs.spell.Goals as goal
+
+pub loop-i-init : goal.loop-i-init
+loop-i-init c = spelled-start c.args.v c.args.digits.now c.requires
+
+-- no goal for slice-write-digits
+-- -- old need: slice-write-digits
+-- slice-write-digits : goal.slice-write-digits
+-- slice-write-digits c = omega (arith, c.loop-i.invariant.1, c.loop-i.invariant.0)
+
+pub returns-then-rest-lt10 : goal.returns-then-rest-lt10
+returns-then-rest-lt10 c = (omega (arith, c.loop-i.invariant.1), spelled-last c.args.v c.loop-i.digits c.loop-i.i (c.loop-i.i - 1) c.loop-i.rest (omega arith) c.if-rest-lt10.true c.loop-i.invariant)
+
+pub loop-i-preserved : goal.loop-i-preserved
+loop-i-preserved c = spelled-on c.args.v c.loop-i.digits c.loop-i.i (c.loop-i.i - 1) c.loop-i.rest (omega arith) c.if-rest-lt10.false c.loop-i.invariant
+
+pub returns : goal.returns
+returns c = (omega arith, spelled-end c.args.v c.loop-i.digits c.loop-i.i c.loop-i.rest c.loop-i-test.false c.loop-i.invariant)

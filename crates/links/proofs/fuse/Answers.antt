@@ -1,0 +1,130 @@
+use Rattle.links.specs.Tables.{linksOf}
+use Rattle.links.specs.Fuse.{lent-order, lent-codes, lent-nexts, lent-head, slot-after, next-after, end-there, fuse-is}
+use borrow.Author.Rules.{rules}
+use Rattle.links.proofs.fuse.Goals as goal
+
+abbrev start-of : tie.After-turn-and-replace → tie.Start
+start-of c = search
+
+-- was overflow-sub-turn-and-replace: check which goal
+pub overflow_sub-end : goal.overflow_sub-end
+overflow_sub-end c =
+    let a = c.args in
+    let g = c.get-p in
+    let o = c.get-k in
+    let s = c.get-start in
+    let b = c.own_end-bound in
+    lent-order (linksOf a.list.now a.nexts.now a.heads.now a.owners.now a.spots.now a.stretches.now) a.y a.x g.result o.result s.result b.result
+    c.pre.0 g.ensures.0 o.ensures.0 s.ensures.0 b.ensures
+
+-- no goal for slice-bounds-turn-and-replace-start
+-- -- old need: slice-bounds-turn-and-replace-start
+-- part-turn-and-replace-start : goal.slice-bounds-turn-and-replace-start
+-- part-turn-and-replace-start c =
+--     let a = c.args in
+--     let g = c.get-p in
+--     let o = c.get-k in
+--     let s = c.get-start in
+--     let b = c.own_end-bound in
+--     lent-order (linksOf a.list.now a.nexts.now a.heads.now a.owners.now a.spots.now a.stretches.now) a.y a.x g.result o.result s.result b.result
+--     c.pre.0 g.ensures.0 o.ensures.0 s.ensures.0 b.ensures
+
+-- no goal for slice-bounds-turn-and-replace-end
+-- -- old need: slice-bounds-turn-and-replace-end
+-- part-turn-and-replace-end : goal.slice-bounds-turn-and-replace-end
+-- part-turn-and-replace-end c =
+--     let a = c.args in
+--     let g = c.get-p in
+--     let o = c.get-k in
+--     let s = c.get-start in
+--     let b = c.own_end-bound in
+--     lent-codes (linksOf a.list.now a.nexts.now a.heads.now a.owners.now a.spots.now a.stretches.now) a.y a.x g.result o.result s.result b.result
+--     c.pre.0 g.ensures.0 o.ensures.0 s.ensures.0 b.ensures
+
+-- no goal for overflow-sub-turn-and-replace-2
+-- -- old need: overflow-sub-turn-and-replace-2
+-- sub-turn-and-replace-2 : goal.overflow-sub-turn-and-replace-2
+-- sub-turn-and-replace-2 c =
+--     let a = c.args in
+--     let g = c.get-p in
+--     let o = c.get-k in
+--     let s = c.get-start in
+--     let b = c.own_end-bound in
+--     lent-order (linksOf a.list.now a.nexts.now a.heads.now a.owners.now a.spots.now a.stretches.now) a.y a.x g.result o.result s.result b.result
+--     c.pre.0 g.ensures.0 o.ensures.0 s.ensures.0 b.ensures
+
+-- no goal for slice-bounds-turn-and-replace-start-2
+-- -- old need: slice-bounds-turn-and-replace-start-2
+-- part-turn-and-replace-start-2 : goal.slice-bounds-turn-and-replace-start-2
+-- part-turn-and-replace-start-2 c =
+--     let a = c.args in
+--     let g = c.get-p in
+--     let o = c.get-k in
+--     let s = c.get-start in
+--     let b = c.own_end-bound in
+--     lent-order (linksOf a.list.now a.nexts.now a.heads.now a.owners.now a.spots.now a.stretches.now) a.y a.x g.result o.result s.result b.result
+--     c.pre.0 g.ensures.0 o.ensures.0 s.ensures.0 b.ensures
+
+-- no goal for slice-bounds-turn-and-replace-end-2
+-- -- old need: slice-bounds-turn-and-replace-end-2
+-- part-turn-and-replace-end-2 : goal.slice-bounds-turn-and-replace-end-2
+-- part-turn-and-replace-end-2 c =
+--     let a = c.args in
+--     let g = c.get-p in
+--     let o = c.get-k in
+--     let s = c.get-start in
+--     let b = c.own_end-bound in
+--     lent-nexts (linksOf a.list.now a.nexts.now a.heads.now a.owners.now a.spots.now a.stretches.now) a.y a.x g.result o.result s.result b.result
+--     c.pre.0 g.ensures.0 o.ensures.0 s.ensures.0 b.ensures
+
+-- no goal for slice-bounds-turn-and-replace-end-3
+-- -- old need: slice-bounds-turn-and-replace-end-3
+-- part-turn-and-replace-end-3 : goal.slice-bounds-turn-and-replace-end-3
+-- part-turn-and-replace-end-3 c =
+--     let a = c.args in
+--     let g = c.get-p in
+--     let o = c.get-k in
+--     let s = c.get-start in
+--     let b = c.own_end-bound in
+--     lent-head (linksOf a.list.now a.nexts.now a.heads.now a.owners.now a.spots.now a.stretches.now) a.y a.x g.result o.result s.result b.result
+--     c.pre.0 g.ensures.0 o.ensures.0 s.ensures.0 b.ensures
+
+pub turn_and_replace-requires : goal.turn_and_replace-requires
+turn_and_replace-requires c =
+    let a = c.args in
+    let g = c.get-p in
+    let o = c.get-k in
+    let s = c.get-start in
+    let b = c.own_end-bound in (
+      slot-after (linksOf a.list.now a.nexts.now a.heads.now a.owners.now a.spots.now a.stretches.now) a.y a.x g.result o.result s.result b.result
+          c.pre.0 g.ensures.0 o.ensures.0 s.ensures.0 b.ensures,
+      next-after
+          (linksOf a.list.now a.nexts.now a.heads.now a.owners.now a.spots.now a.stretches.now) a.y a.x g.result o.result s.result b.result c.pre.0
+          g.ensures.0 o.ensures.0 s.ensures.0 b.ensures,
+      g.ensures.1,
+      c.pre.1,
+    )
+
+-- no goal for overflow-sub-put
+-- -- old need: overflow-sub-put
+-- sub-put : goal.overflow-sub-put
+-- sub-put c =
+--     let a = c.args in
+--     let g = c.get-p in
+--     let o = c.get-k in
+--     let s = c.get-start in
+--     let b = c.own_end-bound in
+--     end-there (linksOf a.list.now a.nexts.now a.heads.now a.owners.now a.spots.now a.stretches.now) a.y a.x g.result o.result s.result b.result
+--     c.pre.0 g.ensures.0 o.ensures.0 s.ensures.0 b.ensures c.get-end.result c.get-end.ensures.0
+
+pub returns : goal.returns
+returns c =
+    let a = c.args in
+    let g = c.get-p in
+    let o = c.get-k in
+    let s = c.get-start in
+    let b = c.own_end-bound in
+    fuse-is (linksOf a.list.now a.nexts.now a.heads.now a.owners.now a.spots.now a.stretches.now) a.y a.x g.result o.result s.result b.result
+    c.pre.0 g.ensures.0 o.ensures.0 s.ensures.0 b.ensures c.get-end.result c.turn_and_replace.new.part
+    c.turn_and_replace.new.nexts c.turn_and_replace.new.head _ _ c.get-end.ensures.0 c.turn_and_replace.ensures
+    c.put.ensures c.put-2.ensures

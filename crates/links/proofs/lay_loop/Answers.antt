@@ -1,0 +1,33 @@
+use mathlib.Core.Path.{◌≡◌, refl, ◌∙◌}
+use Prim.Native.Nat.{◌-◌}
+use lib.ListN.{length}
+use lib.Seq.{sets}
+use Rattle.links.specs.Tables.{follow, codesAt}
+use Rattle.links.specs.Lay.{lay-step, lay-done, lay-whole}
+use native.Mathlib.Omega.{arith}
+use borrow.Author.Rules.{rules}
+use Rattle.links.proofs.lay_loop.Goals as goal
+
+pub loop-i-init : goal.loop-i-init
+loop-i-init c = (refl, refl, refl)
+
+pub loop-i-smaller : goal.loop-i-smaller
+loop-i-smaller c = omega arith
+
+pub loop-i-preserved : goal.loop-i-preserved
+loop-i-preserved c =
+    let a = c.args in
+    let l = c.loop-i in
+    let n = length a.part.now in (
+      l.invariant.0,
+      lay-step a.list.now a.nexts.now l.part c.put.new.t (sets a.part.now 0 (codesAt a.list.now (follow a.nexts.now a.head (n - 0)))) l.i n l.p c.get-p.result c.get-x.result l.invariant.1 c.loop-i-test.true c.get-x.ensures.0 c.get-p.ensures.0 c.put.ensures,
+      c.put.auto.0 ∙ l.invariant.2,
+    )
+
+pub returns : goal.returns
+returns c =
+    let a = c.args in
+    let l = c.loop-i in
+    let n = length a.part.now in
+    lay-whole a.list.now a.nexts.now a.part.now l.part a.head n refl
+    (lay-done a.list.now a.nexts.now l.part (sets a.part.now 0 (codesAt a.list.now (follow a.nexts.now a.head (n - 0)))) l.i n l.p l.invariant.1 c.loop-i-test.false)

@@ -1,0 +1,61 @@
+use mathlib.Core.Path.{◌≡◌, refl, ◌∙◌}
+use Prim.Native.Nat.{◌-◌, ◌/◌, ◌≤◌}
+use lib.ListN.{length}
+use Rattle.links.specs.Lay.{laidUpto, upto-none, upto-part, upto-all, reads-order, reads-inside}
+use native.Mathlib.Omega.{arith}
+use borrow.Author.Rules.{rules}
+use Rattle.links.proofs.lay_loops.Goals as goal
+
+pub loop-k-init : goal.loop-k-init
+loop-k-init c = let a = c.args in (refl, upto-none a.list.now a.nexts.now a.heads.now a.stretches.now a.items.now, omega arith, refl)
+
+-- was overflow-mul-get: check which goal
+pub overflow_mul-k : goal.overflow_mul-k
+overflow_mul-k c = omega arith
+
+-- was overflow-mul-get-2: check which goal
+pub overflow_mul-k-in-loop-k : goal.overflow_mul-k-in-loop-k
+overflow_mul-k-in-loop-k c = omega arith
+
+pub overflow_add-k : goal.overflow_add-k
+overflow_add-k c = omega arith
+
+-- no goal for overflow-mul-lay-loop
+-- -- old need: overflow-mul-lay-loop
+-- mul-lay-loop : goal.overflow-mul-lay-loop
+-- mul-lay-loop c = omega (arith, c.get-start.ensures.1)
+
+-- no goal for overflow-sub-lay-loop
+-- -- old need: overflow-sub-lay-loop
+-- sub-lay-loop : goal.overflow-sub-lay-loop
+-- sub-lay-loop c = reads-order c.args.stretches.now c.args.items.now c.requires c.loop-k.k c.get-start.result c.get-end.result c.loop-k-test.true c.get-start.ensures.0 c.get-end.ensures.0
+
+-- no goal for slice-bounds-lay-loop-start
+-- -- old need: slice-bounds-lay-loop-start
+-- part-lay-loop-start : goal.slice-bounds-lay-loop-start
+-- part-lay-loop-start c = reads-order c.args.stretches.now c.args.items.now c.requires c.loop-k.k c.get-start.result c.get-end.result c.loop-k-test.true c.get-start.ensures.0 c.get-end.ensures.0
+
+-- no goal for slice-bounds-lay-loop-end
+-- -- old need: slice-bounds-lay-loop-end
+-- part-lay-loop-end : goal.slice-bounds-lay-loop-end
+-- part-lay-loop-end c = reads-inside c.args.stretches.now c.args.items.now c.loop-k.items c.requires c.loop-k.k c.get-end.result c.loop-k-test.true c.get-end.ensures.0 c.loop-k.invariant.3
+
+pub overflow_add-k-in-loop-k : goal.overflow_add-k-in-loop-k
+overflow_add-k-in-loop-k c = omega arith
+
+pub loop-k-smaller : goal.loop-k-smaller
+loop-k-smaller c = omega arith
+
+pub loop-k-preserved : goal.loop-k-preserved
+loop-k-preserved c =
+    let a = c.args in
+    let l = c.loop-k in
+    let next = upto-part a.list.now a.nexts.now a.heads.now a.stretches.now a.items.now c.requires l.items c.lay_loop.new.1.1.1.0 l.k c.get-head.result c.get-start.result c.get-end.result
+    c.loop-k-test.true l.invariant.1 c.get-head.ensures.0 c.get-start.ensures.0 c.get-end.ensures.0 c.lay_loop.ensures in
+    (refl, next.0, omega (arith, c.loop-k-test.true), next.1)
+
+pub returns : goal.returns
+returns c =
+    let a = c.args in
+    let l = c.loop-k in
+    upto-all a.list.now a.nexts.now a.heads.now a.stretches.now a.items.now l.items (length a.stretches.now / 2) l.k l.invariant.1 refl (omega (arith, c.loop-k-test.false, l.invariant.0)) (omega (arith, l.invariant.0, l.invariant.2))

@@ -1,0 +1,30 @@
+use Rattle.maximal_edges.specs.CountLaws.{Counted, counted-none, counted-all}
+use Rattle.edges.specs.TableLaws.{length-rows}
+use Rattle.edges.specs.Table.{rowsIn}
+use lib.ListN.{length}
+use Prim.Native.Nat.{◌-◌, ◌/◌, ◌≤◌}
+use native.Mathlib.Omega.{arith}
+use mathlib.Core.Path.{◌≡◌, refl, ◌∙◌}
+use borrow.Author.Rules.{rules}
+use Rattle.maximal_edges.proofs.count_ends.Goals as goal
+
+pub loop-e-init : goal.loop-e-init
+loop-e-init c =
+    let a = c.args in
+    (refl, omega arith, refl, refl, refl, counted-none (rowsIn a.rows.now) a.ends.now a.lows.now a.highs.now c.requires.1)
+
+pub count_edge-requires : goal.count_edge-requires
+count_edge-requires c =
+    let l = c.loop-e in
+    (l.invariant.5, omega (arith, length-rows c.args.rows.now, l.invariant.0), omega (arith, c.requires.0, l.invariant.0))
+
+pub loop-e-preserved : goal.loop-e-preserved
+loop-e-preserved c =
+    let l = c.loop-e in
+    let counted = c.count_edge in
+    (l.invariant.0, omega arith, counted.auto.1.0 ∙ l.invariant.2, counted.auto.1.1.0 ∙ l.invariant.3, counted.auto.1.1.1.0 ∙ l.invariant.4, counted.ensures)
+
+pub returns : goal.returns
+returns c =
+    let l = c.loop-e in
+    counted-all (rowsIn c.args.rows.now) l.ends l.lows l.highs l.e l.invariant.5 (omega (arith, l.invariant.0, l.invariant.1, c.loop-e-test.false, length-rows c.args.rows.now))

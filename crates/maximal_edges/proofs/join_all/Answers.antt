@@ -1,0 +1,211 @@
+use Rattle.maximal_edges.specs.Hung.{Hung, hung-ringed, may-join, hung-joined}
+use Rattle.maximal_edges.specs.ChangeLaws.{count-edges}
+use Rattle.edges.specs.Table.{Laid}
+use Rattle.links.specs.Tables.{linksOf}
+use Rattle.links.specs.Lay.{laidOut}
+use Rattle.links.specs.Replace.{laid-base}
+use Rattle.maximal_edges.specs.RunLaws.{going-start, going-done, going-stopped, ring-inside, ring-less, going-ring, join-inside, join-less, going-join}
+use Rattle.maximal_edges.specs.Joined.{edgesIn, stateIn, joiningOf, wholeRun, doneWith, Fitting, nextAfter, lowerOf, Going}
+use Rattle.job.specs.Lists.{answersIn}
+use Rattle.rules.specs.Join.{twoEnds, maximalEdges}
+use Rattle.lists.specs.Runs.{pigeon-below}
+use Rattle.lists.specs.Lists.{keep}
+use lib.Seq.{length-take-le}
+use lib.ListN.{length, get_or}
+use Prim.Native.Nat.{◌+◌, ◌*◌}
+use mathlib.Core.Path.{◌≡◌, refl, sym, ap, subst, ◌∙◌}
+use native.Mathlib.Omega.{arith}
+use borrow.Author.Rules.{rules}
+use Rattle.maximal_edges.proofs.join_all.Goals as goal
+
+pub sweeps-init : goal.sweeps-init
+sweeps-init c =
+    let a = c.args in
+    let pre = c.requires in
+    let answers = answersIn a.job.now a.index.now a.c in
+    let names = a.names.now in
+    let whole = wholeRun answers a.starts.now names a.rows.now a.count a.items.now a.stretches.now in
+    (refl, refl, refl, refl, refl, refl, going-start answers a.starts.now names a.rows.now a.count (length a.stretches.now) (laidOut a.list.now a.nexts.now a.heads.now a.stretches.now a.items.now) a.stretches.now a.ends.now a.lows.now a.highs.now whole pre.1 pre.2 refl (subst (Laid a.stretches.now) (sym pre.9) pre.3) pre.4 (λ faces. ap (λ l. maximalEdges answers a.starts.now names (length names) (stateIn a.rows.now a.count l a.stretches.now faces 0 0)) (sym pre.9)), refl, refl, refl, refl, refl, pre.8)
+
+pub overflow_mul-part : goal.overflow_mul-part
+overflow_mul-part c = omega (arith, c.sweeps.invariant.6.few)
+
+-- no goal for slice-reshare-prefix-part
+-- -- old need: slice-reshare-prefix-part
+-- slice-reshare-prefix-part : goal.slice-reshare-prefix-part
+-- slice-reshare-prefix-part c = omega (arith, c.sweeps.invariant.6.size)
+
+-- no goal for slice-aggregate-part
+-- -- old need: slice-aggregate-part
+-- slice-aggregate-part : goal.slice-aggregate-part
+-- slice-aggregate-part c =
+--     let l = c.sweeps in
+--     sym (length-take-le (7 * l.n) l.rows (omega (arith, l.invariant.6.size)))
+
+pub sweep-change-requires : goal.sweep-change-requires
+sweep-change-requires c =
+    let l = c.sweeps in
+    let pre = c.requires in
+    (pre.0, l.invariant.6.tabled, λ v m. omega (arith, pre.6 v m, l.invariant.0), l.invariant.6.known)
+
+pub lay_loops-requires : goal.lay_loops-requires
+lay_loops-requires c =
+    let a = c.args in
+    let l = c.sweeps in
+    laid-base (linksOf l.list l.nexts l.heads a.owners.now l.spots l.stretches) l.items l.invariant.6.laid
+
+pub returns-in-Unchanged : goal.returns-in-Unchanged
+returns-in-Unchanged c =
+    let a = c.args in
+    let l = c.sweeps in
+    let laid = laidOut l.list l.nexts l.heads l.stretches l.items in
+    let links = linksOf l.list l.nexts l.heads a.owners.now l.spots l.stretches in
+    let pre = c.requires in
+    let answers = answersIn a.job.now a.index.now a.c in
+    let names = a.names.now in
+    let whole = wholeRun answers a.starts.now names a.rows.now a.count a.items.now a.stretches.now in (
+      λ faces h. ap (joiningOf l.rows c.lay_loops.new.items l.stretches faces) c.done.ensures ∙ ap (λ z. joiningOf l.rows z l.stretches faces (doneWith l.n l.joins l.rings)) c.lay_loops.ensures ∙ going-done answers a.starts.now names whole (length a.stretches.now) l.rows l.n laid l.stretches l.ends l.lows l.highs l.joins l.rings l.low l.high l.top l.invariant.6 c.sweep-change.result c.sweep-change.ensures c.in-Unchanged.is faces h,
+      subst (λ z. Fitting names l.rows z l.stretches c.done.result) (sym c.lay_loops.ensures) (subst (Fitting names l.rows laid l.stretches) (sym c.done.ensures) (l.invariant.6.laid, l.invariant.6.few, omega (arith, l.invariant.6.budget), omega (arith, l.invariant.6.size))),
+    )
+
+pub returns-in-Refused : goal.returns-in-Refused
+returns-in-Refused c =
+    let a = c.args in
+    let l = c.sweeps in
+    let laid = laidOut l.list l.nexts l.heads l.stretches l.items in
+    let links = linksOf l.list l.nexts l.heads a.owners.now l.spots l.stretches in
+    let pre = c.requires in
+    let answers = answersIn a.job.now a.index.now a.c in
+    let names = a.names.now in
+    let whole = wholeRun answers a.starts.now names a.rows.now a.count a.items.now a.stretches.now in
+    (going-stopped answers a.starts.now names whole (length a.stretches.now) l.rows l.n laid l.stretches l.ends l.lows l.highs l.joins l.rings l.low l.high l.top l.invariant.6 c.sweep-change.result _ _ c.sweep-change.ensures c.in-Refused.is, tt)
+
+pub ring_at-requires : goal.ring_at-requires
+ring_at-requires c =
+    let a = c.args in
+    let l = c.sweeps in
+    let laid = laidOut l.list l.nexts l.heads l.stretches l.items in
+    let links = linksOf l.list l.nexts l.heads a.owners.now l.spots l.stretches in
+    let pre = c.requires in
+    let answers = answersIn a.job.now a.index.now a.c in
+    let names = a.names.now in
+    let whole = wholeRun answers a.starts.now names a.rows.now a.count a.items.now a.stretches.now in
+    (omega (arith, l.invariant.6.size), omega (arith, l.invariant.6.few), ring-inside answers a.starts.now names whole (length a.stretches.now) l.rows l.n laid l.stretches l.ends l.lows l.highs l.joins l.rings l.low l.high l.top l.invariant.6 pre.5 (λ x m. omega (arith, pre.6 x m, pre.4.size)) a.ranks.now pre.7 c.sweep-change.result c.sweep-change.ensures _ _ c.in-Ring.is)
+
+pub next_after-top-requires : goal.next_after-top-requires
+next_after-top-requires c = omega (arith, c.get.ensures.1)
+
+pub overflow_add-rings : goal.overflow_add-rings
+overflow_add-rings c =
+    let pre = c.requires in
+    omega (arith, c.sweeps.invariant.6.budget, pigeon-below 2048 c.args.names.now pre.5 (λ x m. omega (arith, pre.6 x m, pre.4.size)))
+
+-- was sweeps-smaller: check which goal
+pub sweeps-smaller : goal.sweeps-smaller
+sweeps-smaller c =
+    let a = c.args in
+    let l = c.sweeps in
+    let laid = laidOut l.list l.nexts l.heads l.stretches l.items in
+    let links = linksOf l.list l.nexts l.heads a.owners.now l.spots l.stretches in
+    let pre = c.requires in
+    let answers = answersIn a.job.now a.index.now a.c in
+    let names = a.names.now in
+    let whole = wholeRun answers a.starts.now names a.rows.now a.count a.items.now a.stretches.now in
+    let ring = c.ring_at in
+    ring-less answers a.starts.now names whole (length a.stretches.now) l.rows l.n laid l.stretches l.ends l.lows l.highs l.joins l.rings l.low l.high l.top l.invariant.6 pre.5 (λ x m. omega (arith, pre.6 x m, pre.4.size)) a.ranks.now pre.7 c.sweep-change.result c.sweep-change.ensures _ _ c.in-Ring.is ring.new.rows ring.new.1.1.0 ring.ensures.0
+
+-- was sweeps-preserved: check which goal
+pub sweeps-preserved : goal.sweeps-preserved
+sweeps-preserved c =
+    let a = c.args in
+    let l = c.sweeps in
+    let laid = laidOut l.list l.nexts l.heads l.stretches l.items in
+    let links = linksOf l.list l.nexts l.heads a.owners.now l.spots l.stretches in
+    let pre = c.requires in
+    let answers = answersIn a.job.now a.index.now a.c in
+    let names = a.names.now in
+    let whole = wholeRun answers a.starts.now names a.rows.now a.count a.items.now a.stretches.now in
+    let ring = c.ring_at in (
+      ring.auto.1.1.0 ∙ l.invariant.0,
+      l.invariant.1,
+      l.invariant.2,
+      ring.auto.0 ∙ l.invariant.3,
+      l.invariant.4,
+      l.invariant.5,
+      going-ring answers a.starts.now names whole (length a.stretches.now) l.rows l.n laid l.stretches l.ends l.lows l.highs l.joins l.rings l.low l.high l.top l.invariant.6 pre.5 (λ x m. omega (arith, pre.6 x m, pre.4.size)) a.ranks.now pre.7 c.sweep-change.result c.sweep-change.ensures _ _ c.in-Ring.is ring.new.rows ring.new.1.1.0 ring.ensures.0 c.next_after-top.result ring.auto.0 ring.ensures.1 (c.next_after-top.ensures ∙ ap (nextAfter l.high l.top) c.get.ensures.0),
+      l.invariant.7,
+      l.invariant.8,
+      l.invariant.9,
+      l.invariant.10,
+      l.invariant.11,
+      hung-ringed names (edgesIn l.rows l.n) links l.invariant.12 c.sweep-change.result c.sweep-change.ensures.real _ _ c.in-Ring.is (edgesIn ring.new.rows l.n) ring.ensures.0,
+    )
+
+pub join_at-e-requires : goal.join_at-e-requires
+join_at-e-requires c =
+    let a = c.args in
+    let l = c.sweeps in
+    let laid = laidOut l.list l.nexts l.heads l.stretches l.items in
+    let links = linksOf l.list l.nexts l.heads a.owners.now l.spots l.stretches in
+    let pre = c.requires in
+    let answers = answersIn a.job.now a.index.now a.c in
+    let names = a.names.now in
+    let whole = wholeRun answers a.starts.now names a.rows.now a.count a.items.now a.stretches.now in
+    let w = join-inside answers a.starts.now names whole (length a.stretches.now) l.rows l.n laid l.stretches l.ends l.lows l.highs l.joins l.rings l.low l.high l.top l.invariant.6 pre.5 (λ x m. omega (arith, pre.6 x m, pre.4.size)) a.ranks.now pre.7 c.sweep-change.result c.sweep-change.ensures _ _ _ c.in-Join.is in
+    (w.3, omega (arith, w.2), w.0, w.1, may-join names (edgesIn l.rows l.n) links l.invariant.12 c.sweep-change.result c.sweep-change.ensures.real _ _ _ c.in-Join.is l.n (sym (count-edges l.rows l.n (omega (arith, l.invariant.6.size)))) (omega (arith, w.2)))
+
+pub next_after-top-requires-in-Join : goal.next_after-top-requires-in-Join
+next_after-top-requires-in-Join c = omega (arith, c.get-in-Join.ensures.1)
+
+pub overflow_add-n : goal.overflow_add-n
+overflow_add-n c = omega (arith, c.sweeps.invariant.6.few)
+
+pub overflow_add-joins : goal.overflow_add-joins
+overflow_add-joins c =
+    let pre = c.requires in
+    omega (arith, c.sweeps.invariant.6.budget, pigeon-below 2048 c.args.names.now pre.5 (λ x m. omega (arith, pre.6 x m, pre.4.size)))
+
+-- no goal for sweeps-smaller-2
+-- -- old need: sweeps-smaller-2
+-- sweeps-less-2 : goal.sweeps-smaller-2
+-- sweeps-less-2 c =
+--     let a = c.args in
+--     let l = c.sweeps in
+--     let laid = laidOut l.list l.nexts l.heads l.stretches l.items in
+--     let links = linksOf l.list l.nexts l.heads a.owners.now l.spots l.stretches in
+--     let pre = c.requires in
+--     let answers = answersIn a.job.now a.index.now a.c in
+--     let names = a.names.now in
+--     let whole = wholeRun answers a.starts.now names a.rows.now a.count a.items.now a.stretches.now in
+--     let join = c.join_at-e in
+--     join-less answers a.starts.now names whole (length a.stretches.now) l.rows l.n laid l.stretches l.ends l.lows l.highs l.joins l.rings l.low l.high l.top l.invariant.6 pre.5 (λ x m. omega (arith, pre.6 x m, pre.4.size)) a.ranks.now pre.7 c.sweep-change.result c.sweep-change.ensures _ _ _ c.in-Join.is join.new.rows (laidOut join.new.nexts join.new.heads join.new.owners join.new.ends l.items) join.new.ends join.new.lows join.new.highs join.new.1.1.1.1.1.1.1.1.1.1.0 join.result (join.ensures.lists l.items (laid-base links l.items l.invariant.6.laid))
+
+-- no goal for sweeps-preserved-2
+-- -- old need: sweeps-preserved-2
+-- sweeps-again-2 : goal.sweeps-preserved-2
+-- sweeps-again-2 c =
+--     let a = c.args in
+--     let l = c.sweeps in
+--     let laid = laidOut l.list l.nexts l.heads l.stretches l.items in
+--     let links = linksOf l.list l.nexts l.heads a.owners.now l.spots l.stretches in
+--     let pre = c.requires in
+--     let answers = answersIn a.job.now a.index.now a.c in
+--     let names = a.names.now in
+--     let whole = wholeRun answers a.starts.now names a.rows.now a.count a.items.now a.stretches.now in
+--     let join = c.join_at-e in
+--     let ranks = a.ranks.now in (
+--       join.auto.1.1.1.1.1.1.1.1.0 ∙ l.invariant.0,
+--       join.auto.1.1.1.1.1.1.1.1.1.0 ∙ l.invariant.1,
+--       join.auto.1.1.1.1.1.1.1.1.1.1.0 ∙ l.invariant.2,
+--       join.auto.0 ∙ l.invariant.3,
+--       l.invariant.4,
+--       join.auto.1.1.1.1.1.1.1.0 ∙ l.invariant.5,
+--       going-join answers a.starts.now names whole (length a.stretches.now) l.rows l.n laid l.stretches l.ends l.lows l.highs l.joins l.rings l.low l.high l.top l.invariant.6 pre.5 (λ x m. omega (arith, pre.6 x m, pre.4.size)) a.ranks.now pre.7 c.sweep-change.result c.sweep-change.ensures _ _ _ c.in-Join.is join.new.rows (laidOut join.new.nexts join.new.heads join.new.owners join.new.ends l.items) join.new.ends join.new.lows join.new.highs join.new.1.1.1.1.1.1.1.1.1.1.0 join.result (join.ensures.lists l.items (laid-base links l.items l.invariant.6.laid)) c.next_after-top-in-Join.result c.get-p.result c.get-q.result c.lower-low.result c.lower-high.result join.auto.0 join.auto.1.1.1.1.1.1.1.0 (c.next_after-top-in-Join.ensures ∙ ap (nextAfter l.high l.top) c.get-in-Join.ensures.0) (c.get-p.ensures.0 ∙ ap (λ x. get_or ranks x 0) c.wide.ensures.0) (c.get-q.ensures.0 ∙ ap (λ x. get_or ranks x 0) c.wide-in-Join.ensures.0) (c.lower-low.ensures ∙ ap (lowerOf c.next_after-top-in-Join.result) c.lower.ensures) (c.lower-high.ensures ∙ ap (lowerOf c.next_after-top-in-Join.result) c.higher.ensures),
+--       join.auto.1.1.0 ∙ l.invariant.7,
+--       join.auto.1.1.1.0 ∙ l.invariant.8,
+--       join.auto.1.1.1.1.0 ∙ l.invariant.9,
+--       join.auto.1.1.1.1.1.1.0 ∙ l.invariant.10,
+--       l.invariant.11,
+--       hung-joined names (edgesIn l.rows l.n) links l.invariant.12 c.sweep-change.result c.sweep-change.ensures.real _ _ _ c.in-Join.is (linksOf join.new.nexts join.new.heads join.new.owners a.owners.now join.new.stretches join.new.ends) (edgesIn join.new.rows (l.n + 1)) join.ensures.links join.ensures.edges,
+--     )
+

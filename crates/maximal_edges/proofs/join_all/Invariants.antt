@@ -1,0 +1,16 @@
+use Rattle.maximal_edges.specs.Hung.{Hung}
+use Rattle.links.specs.Tables.{linksOf}
+use Rattle.links.specs.Lay.{laidOut}
+use Rattle.maximal_edges.specs.Joined.{edgesIn, wholeRun, Going}
+use Rattle.job.specs.Lists.{answersIn}
+use Rattle.rules.specs.Join.{twoEnds}
+use Rattle.lists.specs.Lists.{keep}
+use lib.ListN.{length}
+use mathlib.Core.Path.{◌≡◌}
+use Rattle.maximal_edges.proofs.join_all.Given as goal
+
+abbrev pub invariant-sweeps : goal.invariant-sweeps
+invariant-sweeps l = (length l.ends ≡ length l.initial.ends) × (length l.lows ≡ length l.initial.lows) × (length l.highs ≡ length l.initial.highs) × (length l.rows ≡ length l.initial.rows) × (length l.items ≡ length l.initial.items) × (length l.stretches ≡ length l.initial.stretches) × Going (answersIn l.job l.index l.c) l.starts l.names (wholeRun (answersIn l.job l.index l.c) l.starts l.names l.initial.rows l.count l.initial.items l.initial.stretches) (length l.initial.stretches) l.rows l.n (laidOut l.codes l.nexts l.heads l.stretches l.items) l.stretches l.ends l.lows l.highs l.joins l.rings l.low l.high l.top × (length l.codes ≡ length l.initial.codes) × (length l.nexts ≡ length l.initial.nexts) × (length l.heads ≡ length l.initial.heads) × (length l.spots ≡ length l.initial.spots) × (l.items ≡ l.initial.items) × Hung (edgesIn l.rows l.n) (linksOf l.codes l.nexts l.heads l.owners l.spots l.stretches)
+
+abbrev pub decreases-sweeps : goal.decreases-sweeps
+decreases-sweeps l = length (keep (twoEnds (edgesIn l.rows l.n)) l.names)

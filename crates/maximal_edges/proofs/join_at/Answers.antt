@@ -1,0 +1,80 @@
+use Rattle.links.specs.Tables.{linksOf}
+use Rattle.links.specs.Replace.{joined-replaced}
+use Rattle.maximal_edges.specs.ChangeLaws.{rows-join, ends-joined}
+use Rattle.maximal_edges.specs.StillLaws.{new-start, new-end}
+use Rattle.maximal_edges.specs.Joined.{edgesIn}
+use Rattle.rules.specs.Join.{edgeDataAt, farEnd, joinedEdge}
+use lib.Seq.{length-take-le}
+use Prim.Native.Nat.{◌*◌}
+use mathlib.Core.Path.{◌≡◌, sym, ◌∙◌}
+use native.Mathlib.Omega.{arith}
+use borrow.Author.Rules.{rules}
+use Rattle.maximal_edges.proofs.join_at.Goals as goal
+
+-- no goal for slice-aggregate-edge-at
+-- -- old need: slice-aggregate-edge-at
+-- slice-aggregate-edge-at : goal.slice-aggregate-edge-at
+-- slice-aggregate-edge-at c =
+--     let a = c.args in
+--     sym (length-take-le (7 * a.n) a.rows.now (omega (arith, c.requires.0)))
+
+-- no goal for slice-aggregate-edge-at-2
+-- -- old need: slice-aggregate-edge-at-2
+-- slice-aggregate-edge-at-2 : goal.slice-aggregate-edge-at-2
+-- slice-aggregate-edge-at-2 c =
+--     let a = c.args in
+--     sym (length-take-le (7 * a.n) a.rows.now (omega (arith, c.requires.0)))
+
+-- no goal for slice-aggregate-part
+-- -- old need: slice-aggregate-part
+-- slice-aggregate-part : goal.slice-aggregate-part
+-- slice-aggregate-part c =
+--     let a = c.args in
+--     sym (length-take-le (7 * a.n) a.rows.now (omega (arith, c.requires.0)))
+
+pub join_places-requires : goal.join_places-requires
+join_places-requires c =
+    let pre = c.requires in
+    pre.4
+
+pub put_edge-requires : goal.put_edge-requires
+put_edge-requires c =
+    let pre = c.requires in
+    omega (arith, pre.1, pre.2, pre.3)
+
+pub put_edge-requires-2 : goal.put_edge-requires-2
+put_edge-requires-2 c =
+    let pre = c.requires in
+    omega (arith, pre.1, pre.3)
+
+pub put_edge-requires-3 : goal.put_edge-requires-3
+put_edge-requires-3 c = omega (arith, c.requires.1)
+
+pub replace_end-requires : goal.replace_end-requires
+replace_end-requires c = omega (arith, c.requires.1)
+
+pub replace_end-requires-2 : goal.replace_end-requires-2
+replace_end-requires-2 c = omega (arith, c.requires.1)
+
+pub returns : goal.returns
+returns c =
+    let a = c.args in
+    let pre = c.requires in
+    let es = edgesIn a.rows.now a.n in
+    let x = edgeDataAt es a.a in
+    let y = edgeDataAt es a.b in
+    let new : c.joined_edge-e.result ≡ joinedEdge a.v x y = c.joined_edge-e.ensures ∙ (λ i. joinedEdge a.v (c.edge_at-x.ensures i) (c.edge_at-y.ensures i)) in
+    let tables = ends-joined a.lows.now a.highs.now c.replace_end.new.lows c.replace_end.new.highs c.replace_end-2.new.lows c.replace_end-2.new.highs (farEnd a.v x) (farEnd a.v y) c.wide.result c.wide-2.result a.a a.b a.n (c.wide.ensures.0 ∙ new-start c.joined_edge-e.result x y a.v new) (c.wide-2.ensures.0 ∙ new-end c.joined_edge-e.result x y a.v new) c.replace_end.ensures.0 c.replace_end.ensures.1 c.replace_end-2.ensures.0 c.replace_end-2.ensures.1 in
+    let edges-now = rows-join a.rows.now c.put_edge.new.rows c.put_edge-2.new.rows c.put_edge-3.new.rows a.n a.v a.a a.b c.edge_at-x.result c.edge_at-y.result c.retired.result c.retired-2.result c.joined_edge-e.result pre.0 (omega (arith, pre.2, pre.3)) pre.3 c.edge_at-x.ensures c.edge_at-y.ensures c.retired.ensures c.retired-2.ensures c.joined_edge-e.ensures c.put_edge.ensures c.put_edge-2.ensures c.put_edge-3.ensures in
+    record {
+      links = c.join_places.ensures;
+      edges = edges-now;
+      lists = λ items laid. record {
+        edges = edges-now;
+        loops = joined-replaced es a.v a.a a.b a.n (linksOf a.list.now a.nexts.now a.heads.now a.owners.now a.spots.now a.stretches.now) (linksOf c.join_places.new.list c.join_places.new.nexts c.join_places.new.heads a.owners.now c.join_places.new.spots c.join_places.new.stretches) items pre.4.number c.join_places.ensures laid;
+        corner = c.put.ensures;
+        lower = tables.0;
+        higher = tables.1;
+        made = new;
+      };
+    }

@@ -1,0 +1,10 @@
+use Rattle.rules.specs.Join.{joinedEdge}
+use mathlib.Core.Bool.{true}
+use borrow.Author.Rules.{rules}
+use Rattle.maximal_edges.proofs.joined_edge.Goals as goal
+
+pub returns : goal.returns
+unfolding joinedEdge
+returns c =
+    let a = c.args in
+    λ i. record { curve = a.a.curve; sense = c.joined_sense-sense.ensures i; start = c.far_end-start.ensures i; end = c.far_end-end.ensures i; faces = a.a.faces; active = true }

@@ -1,0 +1,26 @@
+use Rattle.maximal_edges.specs.SweepLaws.{turned, turned-told}
+use Rattle.job.specs.Lists.{answersIn}
+use mathlib.Core.Path.{ap}
+use borrow.Author.Rules.{rules}
+use Rattle.maximal_edges.proofs.not_singular.Goals as goal
+
+pub returns-in-Yes : goal.returns-in-Yes
+returns-in-Yes c =
+    let a = c.args in
+    let singular-call = c.singular-t in
+    let answers = answersIn a.job.now a.index.now a.c in
+    turned-told answers a.e a.point singular-call.result _ singular-call.ensures (ap turned c.in-Yes.is)
+
+pub returns-in-No : goal.returns-in-No
+returns-in-No c =
+    let a = c.args in
+    let singular-call = c.singular-t in
+    let answers = answersIn a.job.now a.index.now a.c in
+    turned-told answers a.e a.point singular-call.result _ singular-call.ensures (ap turned c.in-No.is)
+
+pub returns-in-Refused : goal.returns-in-Refused
+returns-in-Refused c =
+    let a = c.args in
+    let singular-call = c.singular-t in
+    let answers = answersIn a.job.now a.index.now a.c in
+    turned-told answers a.e a.point singular-call.result _ singular-call.ensures (ap turned c.in-Refused.is)

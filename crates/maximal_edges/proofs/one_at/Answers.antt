@@ -1,0 +1,14 @@
+use Rattle.theorems.specs.Ends.{one-at-same, one-at-other}
+use native.Mathlib.Omega.{arith}
+use mathlib.Core.Path.{sym}
+use Rattle.maximal_edges.proofs.one_at.Goals as goal
+
+pub returns-then-a-x : goal.returns-then-a-x
+returns-then-a-x c =
+    let a = c.args in
+    (sym (one-at-same a.a a.x c.if-a-x.true), omega arith)
+
+pub returns : goal.returns
+returns c =
+    let a = c.args in
+    (sym (one-at-other a.a a.x c.if-a-x.false), omega arith)

@@ -1,0 +1,22 @@
+use Rattle.maximal_edges.specs.ChangeLaws.{rows-ring}
+use lib.Seq.{length-take-le}
+use Prim.Native.Nat.{◌*◌}
+use borrow.Author.Rules.{rules}
+use mathlib.Core.Path.{sym}
+use Rattle.maximal_edges.proofs.ring_at.Goals as goal
+
+-- no goal for slice-aggregate-edge-at
+-- -- old need: slice-aggregate-edge-at
+-- slice-aggregate-edge-at : goal.slice-aggregate-edge-at
+-- slice-aggregate-edge-at c =
+--     let a = c.args in
+--     sym (length-take-le (7 * a.n) a.rows.now c.requires.0)
+
+pub returns : goal.returns
+returns c =
+    let a = c.args in
+    let put-edge-call = c.put_edge in
+    let edge-at-call = c.edge_at-x in
+    let ring-of-call = c.ring_of in
+    let pre = c.requires in
+    (rows-ring a.rows.now put-edge-call.new.rows a.n a.a edge-at-call.result ring-of-call.result pre.0 pre.2 edge-at-call.ensures ring-of-call.ensures put-edge-call.ensures, c.put.ensures)

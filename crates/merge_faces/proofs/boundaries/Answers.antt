@@ -1,0 +1,14 @@
+use Rattle.merge_faces.specs.MergingLaws.{boundaries-are}
+use Rattle.uses.specs.Table.{usesIn}
+use Prim.Native.Nat.{◌-◌}
+use lib.ListN.{length}
+use borrow.Author.Rules.{rules}
+use Rattle.merge_faces.proofs.boundaries.Goals as goal
+
+pub returns : goal.returns
+returns c = let a = c.args in
+    let n = length a.labels.now in
+    let alone = c.new-alone in
+    let joined = c.join_pairs-joined in
+    let count = c.count in
+    boundaries-are (usesIn a.uses.now) a.twins.now n (256 - n) count.result alone.result.parents joined.result.parents c.labels_of.new.1.0 alone.ensures joined.ensures count.ensures c.labels_of.ensures

@@ -1,0 +1,9 @@
+use Rattle.merge_faces.specs.Removing.{counted-yes, counted-no}
+use borrow.Author.Rules.{rules}
+use Rattle.merge_faces.proofs.counted.Goals as goal
+
+pub returns-then-yes : goal.returns-then-yes
+returns-then-yes c = counted-yes c.args.n c.args.yes c.if-yes.true
+
+pub returns : goal.returns
+returns c = counted-no c.args.n c.args.yes c.if-yes.false

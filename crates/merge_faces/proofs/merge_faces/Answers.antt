@@ -1,0 +1,61 @@
+use mathlib.Core.Path.{◌≡◌, refl, sym, ◌∙◌}
+use Rattle.merge_faces.specs.MergingLaws.{MergingAt, merging-start, merging-few, merging-step, merging-stop, merging-end, length-faces}
+use Rattle.job.specs.Lists.{facesIn, answersIn}
+use Rattle.uses.specs.Table.{usesIn}
+use lib.ListN.{length}
+use Prim.Native.Nat.{◌-◌, ◌≤◌}
+use native.Mathlib.Omega.{arith}
+use borrow.Author.Rules.{rules}
+use Rattle.merge_faces.proofs.merge_faces.Goals as goal
+
+pub loop-h-init : goal.loop-h-init
+loop-h-init c =
+    let a = c.args in (
+      omega arith,
+      refl,
+      merging-start (answersIn a.job.now a.index.now a.c) (facesIn a.job.now a.index.now a.c) (usesIn a.uses.now) a.twins.now
+          c.alone.new.parents (length a.labels.now) (c.pre.2 ∙ sym (length-faces a.job.now a.index.now a.c)) c.alone.ensures.1,
+    )
+
+pub merge_use-r-requires : goal.merge_use-r-requires
+merge_use-r-requires c =
+    let l = c.loop-h in (c.pre.0, c.pre.1, omega (arith, c.count-n.ensures, c.pre.3), l.invariant.2.stands.ordered)
+
+pub returns-in-Refused : goal.returns-in-Refused
+returns-in-Refused c =
+    let l = c.loop-h in
+    let a = c.args in
+    let u = c.merge_use-r in
+    merging-stop (answersIn a.job.now a.index.now a.c) (facesIn a.job.now a.index.now a.c) (usesIn a.uses.now) a.twins.now l.labels
+    u.last.1.1.1.1.1.0 l.joins l.h l.invariant.2 (omega (arith, c.count-n.ensures)) u.result _ _ c.in-Refused.is u.ensures
+
+pub overflow_add-joins : goal.overflow_add-joins
+overflow_add-joins c =
+    let l = c.loop-h in
+    let a = c.args in
+    let u = c.merge_use-r in
+    omega (
+      arith,
+      merging-few (answersIn a.job.now a.index.now a.c) (facesIn a.job.now a.index.now a.c) (usesIn a.uses.now) a.twins.now
+          l.labels u.last.1.1.1.1.1.0 l.joins l.h l.invariant.2 u.result _ c.in-Done.is u.ensures,
+      c.count-n.ensures,
+      c.pre.3,
+    )
+
+pub loop-h-preserved : goal.loop-h-preserved
+loop-h-preserved c =
+    let l = c.loop-h in
+    let a = c.args in
+    let u = c.merge_use-r in (
+      omega arith,
+      c.labels-in-loop-h-1.given ∙ l.invariant.1,
+      merging-step (answersIn a.job.now a.index.now a.c) (facesIn a.job.now a.index.now a.c) (usesIn a.uses.now) a.twins.now l.labels
+          u.last.1.1.1.1.1.0 l.joins l.h l.invariant.2 (omega (arith, c.count-n.ensures)) u.result _ c.in-Done.is u.ensures,
+    )
+
+pub returns : goal.returns
+returns c =
+    let l = c.loop-h in
+    let a = c.args in
+    merging-end (answersIn a.job.now a.index.now a.c) (facesIn a.job.now a.index.now a.c) (usesIn a.uses.now) a.twins.now l.labels
+    c.settle.new.parents l.joins l.h l.invariant.2 (omega (arith, c.count-n.ensures)) c.settle.ensures

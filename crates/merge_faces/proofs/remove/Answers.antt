@@ -1,0 +1,19 @@
+use Rattle.merge_faces.specs.Removing.{Removing, removing-start, removing-few, removing-step, removing-end}
+use Rattle.uses.specs.Table.{usesIn}
+use lib.ListN.{length}
+use Prim.Native.Nat.{◌-◌}
+use native.Mathlib.Omega.{arith}
+use borrow.Author.Rules.{rules}
+use Rattle.merge_faces.proofs.remove.Goals as goal
+
+pub loop-h-init : goal.loop-h-init
+loop-h-init c = let a = c.args in removing-start (usesIn a.uses.now) a.twins.now a.groups.now a.removed.now c.requires
+
+pub counted-gone-requires : goal.counted-gone-requires
+counted-gone-requires c = let a = c.args in let l = c.loop-h in omega (arith, removing-few (usesIn a.uses.now) a.twins.now a.groups.now l.removed l.gone l.h l.invariant, c.loop-h-test.true, l.invariant.size, c.requires, c.well-formed.1.1.1.0.1)
+
+pub loop-h-preserved : goal.loop-h-preserved
+loop-h-preserved c = let a = c.args in let l = c.loop-h in removing-step (usesIn a.uses.now) a.twins.now a.groups.now l.removed c.put_flag.new.t l.gone l.h c.counted-gone.result c.is_removed-yes.result l.invariant c.loop-h-test.true c.is_removed-yes.ensures c.put_flag.ensures c.counted-gone.ensures
+
+pub returns : goal.returns
+returns c = let a = c.args in let l = c.loop-h in removing-end (usesIn a.uses.now) a.twins.now a.groups.now l.removed l.gone l.h l.invariant c.loop-h-test.false

@@ -1,0 +1,10 @@
+use Rattle.rules.specs.Sense.{isSame}
+use borrow.Author.Rules.{rules}
+use mathlib.Core.Path.{sym, ap, ◌∙◌}
+use Rattle.pair.proofs.is_same.Goals as goal
+
+pub returns-in-Same : goal.returns-in-Same
+returns-in-Same c = sym (ap isSame (sym c.use_sense-s.ensures ∙ c.in-Same.is))
+
+pub returns-in-Reversed : goal.returns-in-Reversed
+returns-in-Reversed c = sym (ap isSame (sym c.use_sense-s.ensures ∙ c.in-Reversed.is))

@@ -1,0 +1,42 @@
+use Rattle.pair.specs.AllLaws.{blank, blank-part, blank-size, part-long, paired-refused, paired-done}
+use Rattle.job.specs.Lists.{answersIn}
+use Rattle.uses.specs.Table.{usesIn}
+use borrow.Author.Rules.{rules}
+use Rattle.pair.proofs.pair.Goals as goal
+
+-- no goal for slice-aggregate-pair-edges
+-- -- old need: slice-aggregate-pair-edges
+-- slice-aggregate-pair-edges : goal.slice-aggregate-pair-edges
+-- unfolding blank
+-- slice-aggregate-pair-edges c =
+--     let counted = c.count-n in
+--     blank-size 2048 (usesIn c.args.uses.now) counted.result counted.ensures c.requires.2
+
+pub pair_edges-r-requires : goal.pair_edges-r-requires
+unfolding blank
+pair_edges-r-requires c =
+    let pre = c.requires in
+    let counted = c.count-n in
+    (pre.0, pre.1, pre.3, pre.4, blank-part 2048 (usesIn c.args.uses.now) counted.result counted.ensures pre.2)
+
+pub returns-in-Refused : goal.returns-in-Refused
+unfolding blank
+returns-in-Refused c =
+    let a = c.args in
+    let counted = c.count-n in
+    let paired = c.pair_edges-r in
+    let us = usesIn a.uses.now in (
+      paired-refused 2048 us counted.result counted.ensures c.requires.2 paired.new.1.1.1.1.1.1.0 paired.auto.1.1.1.1.1.1.0 (answersIn a.job.now a.index.now a.c) a.c.edges paired.result paired.ensures _ _ c.in-Refused.is,
+      part-long 2048 us counted.result counted.ensures c.requires.2 paired.new.1.1.1.1.1.1.0 paired.auto.1.1.1.1.1.1.0,
+    )
+
+pub returns-in-Done : goal.returns-in-Done
+unfolding blank
+returns-in-Done c =
+    let a = c.args in
+    let counted = c.count-n in
+    let paired = c.pair_edges-r in
+    let us = usesIn a.uses.now in (
+      paired-done 2048 us counted.result counted.ensures c.requires.2 paired.new.1.1.1.1.1.1.0 paired.auto.1.1.1.1.1.1.0 (answersIn a.job.now a.index.now a.c) a.c.edges paired.result paired.ensures c.in-Done.is,
+      part-long 2048 us counted.result counted.ensures c.requires.2 paired.new.1.1.1.1.1.1.0 paired.auto.1.1.1.1.1.1.0,
+    )

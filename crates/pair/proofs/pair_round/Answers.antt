@@ -1,0 +1,49 @@
+use Rattle.pair.specs.EdgeLaws.{round-refused, round-other, round-lacks, round-on}
+use Rattle.ask.specs.Told.{Order32}
+use Rattle.job.specs.Lists.{answersIn}
+use Rattle.uses.specs.Table.{usesIn}
+use borrow.Author.Rules.{rules}
+use native.Mathlib.Omega.{arith}
+use mathlib.Core.Path.{◌∙◌, subst}
+use Rattle.pair.proofs.pair_round.Goals as goal
+
+pub ask_radial-o-requires : goal.ask_radial-o-requires
+ask_radial-o-requires c = (c.requires.0, omega arith)
+
+pub returns-then-n-k : goal.returns-then-n-k
+returns-then-n-k c =
+    let a = c.args in
+    let ask-radial-call = c.ask_radial-o in
+    round-other a.job.now (answersIn a.job.now a.index.now a.c) (usesIn a.uses.now) a.e a.twins.now ask-radial-call.result ask-radial-call.ensures.0 _ _ c.in-Uses.is a.k c.requires.4 c.if-n-k.true
+
+pub has_all-requires : goal.has_all-requires
+has_all-requires c =
+    let small = subst Order32 c.in-Uses.is c.ask_radial-o.ensures.1 in
+    (small.0, small.1, c.requires.1.falling)
+
+pub take_predecessors-requires : goal.take_predecessors-requires
+take_predecessors-requires c =
+    let small = subst Order32 c.in-Uses.is c.ask_radial-o.ensures.1 in
+    (small.0, small.1, omega arith)
+
+pub returns-then-has_all : goal.returns-then-has_all
+returns-then-has_all c =
+    let a = c.args in
+    let pre = c.requires in
+    let ask-radial-call = c.ask_radial-o in
+    let has-all-call = c.Has-All in
+    c.take_predecessors.ensures ∙ round-on a.job.now (answersIn a.job.now a.index.now a.c) (usesIn a.uses.now) a.e a.twins.now ask-radial-call.result ask-radial-call.ensures.0 _ _ c.in-Uses.is a.firsts.now a.nexts.now pre.1 pre.2 has-all-call.result has-all-call.ensures c.if-has_all.true a.k pre.4 c.if-n-k.false
+
+pub returns-in-Refused : goal.returns-in-Refused
+returns-in-Refused c =
+    let a = c.args in
+    let ask-radial-call = c.ask_radial-o in
+    round-refused a.job.now (answersIn a.job.now a.index.now a.c) (usesIn a.uses.now) a.e a.twins.now ask-radial-call.result ask-radial-call.ensures.0 _ _ c.in-Refused.is
+
+pub returns-else-has_all : goal.returns-else-has_all
+returns-else-has_all c =
+    let a = c.args in
+    let pre = c.requires in
+    let ask-radial-call = c.ask_radial-o in
+    let has-all-call = c.Has-All in
+    round-lacks a.job.now (answersIn a.job.now a.index.now a.c) (usesIn a.uses.now) a.e a.twins.now ask-radial-call.result ask-radial-call.ensures.0 _ _ c.in-Uses.is a.firsts.now a.nexts.now pre.1 pre.2 has-all-call.result has-all-call.ensures c.if-has_all.false

@@ -1,0 +1,30 @@
+use Prim.Native.Nat.{◌<◌, ◌≤◌}
+use native.Mathlib.Omega.{arith}
+use mathlib.Core.Logic.{inl, inr}
+use Rattle.lines.specs.Listed.{bytes-below}
+use Rattle.lines.specs.StageListed.{stays, runs, lists-stage, lists-none}
+use borrow.Author.Rules.{rules}
+use Rattle.programs.proofs.list_stage.Goals as goal
+
+pub returns-then-stage-eq0 : goal.returns-then-stage-eq0
+returns-then-stage-eq0 c =
+    let none = inl c.if-stage-eq0.true in
+    (stays c.args.stage c.args.job.now c.args.out.now none, lists-none c.args.stage c.args.job.now c.args.page.now none)
+
+pub returns-then-stage-gt11 : goal.returns-then-stage-gt11
+returns-then-stage-gt11 c =
+    let past : 11 < c.args.stage = omega (arith, c.if-stage-gt11.true) in
+    (stays c.args.stage c.args.job.now c.args.out.now (inr past), lists-none c.args.stage c.args.job.now c.args.page.now (inr past))
+
+pub returns : goal.returns
+returns c =
+    let size = c.operate-arg.given in
+    let a = c.args in
+    let some : 0 < a.stage = omega (arith, c.if-stage-eq0.left) in
+    let most : a.stage ≤ 11 = omega (arith, c.if-stage-gt11.left) in
+    let bytes = bytes-below a.job.now (λ i. (c.shared-slice-known.given i).fits) in
+    let after = c.operate-ending.last.1.1.0 in (
+      runs a.stage a.job.now a.out.now after c.operate-ending.result some most c.operate-ending.ensures,
+      lists-stage a.stage a.job.now a.out.now after a.page.now c.put_stage.new.page c.put_stage.result c.operate-ending.result some most
+          bytes size.0.1 c.operate-ending.ensures c.put_stage.ensures,
+    )

@@ -1,0 +1,18 @@
+use Rattle.lists.specs.Cyclic.{nextPlace, next-wraps, next-on}
+use Prim.Native.Nat.{suc}
+use native.Mathlib.Omega.{arith}
+use mathlib.Core.Path.{◌≡◌}
+use borrow.Author.Rules.{rules}
+use Rattle.read.proofs.next_of.Goals as goal
+
+pub returns-then-i-n : goal.returns-then-i-n
+returns-then-i-n c =
+    let a = c.args in
+    let e : nextPlace a.i a.n ≡ 0 = next-wraps a.i a.n (omega arith) in
+    (omega arith, omega arith)
+
+pub returns : goal.returns
+returns c =
+    let a = c.args in
+    let e : nextPlace a.i a.n ≡ suc a.i = next-on a.i a.n (omega arith) in
+    (omega arith, omega arith)

@@ -1,0 +1,28 @@
+use mathlib.Core.Path.{sym, ap, ◌∙◌}
+use Rattle.rules.specs.Contact.{edgesClear}
+use Rattle.uses.specs.Table.{usesIn}
+use Rattle.progress.specs.Parts.{zeros, part-size}
+use Rattle.rebuild.specs.Sizes.{chain-room}
+use native.Mathlib.Omega.{arith}
+use borrow.Author.Rules.{rules}
+use Rattle.rebuild.proofs.clear_in_large.Goals as goal
+
+-- no goal for slice-aggregate-clear-linked
+-- -- old need: slice-aggregate-clear-linked
+-- slice-aggregate-clear-linked : goal.slice-aggregate-clear-linked
+-- unfolding zeros
+-- slice-aggregate-clear-linked c = part-size c.args.edges 1024 c.requires.0
+
+-- no goal for slice-aggregate-clear-linked-2
+-- -- old need: slice-aggregate-clear-linked-2
+-- slice-aggregate-clear-linked-2 : goal.slice-aggregate-clear-linked-2
+-- unfolding zeros
+-- slice-aggregate-clear-linked-2 c = part-size c.count-n.result 2048 (omega (arith, c.count-n.ensures, c.requires.1))
+
+pub clear_linked-requires : goal.clear_linked-requires
+unfolding zeros
+clear_linked-requires c = chain-room c.args.edges c.count-n.result 1024 2048 (usesIn c.args.uses.now) c.args.labels.now c.requires.0 (omega arith) c.count-n.ensures c.requires.1 (omega arith) c.requires.2
+
+pub returns : goal.returns
+unfolding zeros
+returns c = c.clear_linked.ensures ∙ ap (edgesClear c.args.number (usesIn c.args.uses.now) c.args.twins.now c.args.labels.now) (sym (part-size c.args.edges 1024 c.requires.0))

@@ -1,0 +1,46 @@
+use Prim.Native.Nat.{◌≤◌}
+use mathlib.Core.Path.{sym, ap, ◌∙◌}
+use mathlib.Core.List.{map}
+use lib.ListN.{length}
+use lib.Seq.{length-take-le}
+use Rattle.lists.specs.Lists.{below}
+use Rattle.edges.specs.Table.{loopFace}
+use Rattle.job.specs.Lists.{edgesIn}
+use Rattle.uses.specs.Table.{usesIn}
+use Rattle.progress.specs.Known.{numbersIn}
+use Rattle.progress.specs.Parts.{cut-back}
+use Rattle.rebuild.specs.Lined.{few-owners, lined}
+use native.Mathlib.Omega.{arith}
+use borrow.Author.Rules.{rules}
+use Rattle.rebuild.proofs.make_edges.Goals as goal
+
+-- no goal for slice-aggregate-loop-faces
+-- -- old need: slice-aggregate-loop-faces
+-- slice-aggregate-loop-faces : goal.slice-aggregate-loop-faces
+-- slice-aggregate-loop-faces c = sym (length-take-le c.args.c.faces c.args.m.numbers c.requires.2)
+
+-- no goal for slice-aggregate-loop-faces-2
+-- -- old need: slice-aggregate-loop-faces-2
+-- slice-aggregate-loop-faces-2 : goal.slice-aggregate-loop-faces-2
+-- slice-aggregate-loop-faces-2 c = sym (length-take-le c.loops.result c.args.faces.now (omega (arith, c.loops.ensures.1, c.requires.3.faces-size)))
+
+-- no goal for slice-aggregate-edges
+-- -- old need: slice-aggregate-edges
+-- slice-aggregate-edges : goal.slice-aggregate-edges
+-- slice-aggregate-edges c = sym (length-take-le c.args.c.faces c.args.m.numbers c.requires.2)
+
+pub edges-edges-requires : goal.edges-edges-requires
+edges-edges-requires c = (c.requires.0, c.requires.1, omega (arith, c.requires.3.uses, c.requires.3.twins), sym c.requires.3.twins, c.requires.3.owns-size ∙ sym c.requires.3.twins, omega (arith, c.requires.3.rows-size, c.requires.3.twins))
+
+pub items-requires : goal.items-requires
+items-requires c = few-owners (edgesIn c.args.job.now c.args.c) (usesIn c.args.uses.now) c.args.twins.now c.args.removed.now (numbersIn c.args.c c.args.m) c.args.succ.now c.args.fans.now c.args.owns.now c.edges-edges.new.owns c.edges-edges.new.1.1.1.1.1.1.1.1.1.0 c.edges-edges.result c.requires.3.owns-blank c.edges-edges.ensures
+
+pub returns : goal.returns
+returns c =
+    let cut : c.loops.result ≤ length c.args.faces.now = omega (arith, c.loops.ensures.1, c.requires.3.faces-size) in
+    lined (edgesIn c.args.job.now c.args.c) (usesIn c.args.uses.now) c.args.twins.now c.args.removed.now (numbersIn c.args.c c.args.m) c.args.succ.now c.args.fans.now c.args.rows.now c.args.owns.now c.args.items.now c.args.stretches.now c.args.faces.now c.requires.3
+    c.loops.new.ways c.loops.new.stretches c.loop.last.1.1.1.1.0 _ c.edges-edges.new.1.1.1.1.1.1.1.1.1.0 c.edges-edges.new.owns c.items.new.ways
+    c.loops.result c.edges-edges.result c.loops.ensures.0 c.loops.ensures.1 c.loops.ensures.2
+    (c.loop.ensures ∙ ap (λ k. map (loopFace (usesIn c.args.uses.now) (numbersIn c.args.c c.args.m) c.loops.new.ways c.loops.new.stretches) (below k)) (length-take-le c.loops.result c.args.faces.now cut))
+    (cut-back c.loops.result c.args.faces.now c.loop.last.1.1.1.1.0 cut c.loop.auto.1.1.1.1.0)
+    c.edges-edges.ensures c.items.ensures

@@ -1,0 +1,29 @@
+use mathlib.Core.Path.{sym, ◌∙◌}
+use lib.Seq.{length-take-le}
+use Rattle.rebuild.specs.Sizes.{settled-limited, settled-few, settled-twins, settled-succ}
+use native.Mathlib.Omega.{arith}
+use borrow.Author.Rules.{rules}
+use Rattle.rebuild.proofs.make_fans.Goals as goal
+
+pub fans-requires : goal.fans-requires
+fans-requires c = ((settled-limited c.requires.0).vertices, (settled-limited c.requires.0).edges, settled-succ c.requires.0, c.requires.1 ∙ settled-twins c.requires.0, settled-few c.requires.0)
+
+pub fan_names-k-requires : goal.fan_names-k-requires
+fan_names-k-requires c = ((settled-limited c.requires.0).vertices, (settled-limited c.requires.0).edges, c.requires.2 ∙ settled-twins c.requires.0, settled-few c.requires.0)
+
+pub start_points-requires : goal.start_points-requires
+start_points-requires c = ((settled-limited c.requires.0).vertices, (settled-limited c.requires.0).edges, c.requires.3 ∙ settled-twins c.requires.0)
+
+-- no goal for slice-reshare-prefix-on-fanned
+-- -- old need: slice-reshare-prefix-on-fanned
+-- slice-reshare-prefix-on-fanned : goal.slice-reshare-prefix-on-fanned
+-- slice-reshare-prefix-on-fanned c = omega (arith, c.fan_names-k.ensures.1, c.fan_names-k.auto.1.1.1.1.1.0, c.requires.2, settled-twins c.requires.0)
+
+-- no goal for slice-aggregate-on-fanned
+-- -- old need: slice-aggregate-on-fanned
+-- slice-aggregate-on-fanned : goal.slice-aggregate-on-fanned
+-- slice-aggregate-on-fanned c = sym (length-take-le c.fan_names-k.result c.fan_names-k.new.1.1.1.1.1.0 (omega (arith, c.fan_names-k.ensures.1, c.fan_names-k.auto.1.1.1.1.1.0, c.requires.2, settled-twins c.requires.0)))
+
+pub on_fanned-requires : goal.on_fanned-requires
+on_fanned-requires c = (record { settled = c.requires.0; fans-are = c.fans.ensures; names-are = c.fan_names-k.ensures.0; starts-are = c.start_points.ensures }, c.requires.4)
+

@@ -1,0 +1,57 @@
+use lib.ListN.{length}
+use Rattle.uses.specs.Table.{usesIn}
+use Rattle.rebuild.specs.Sizes.{spare-same, names-low}
+use Rattle.maximal_edges.specs.Joined.{stateIn}
+use Rattle.rebuild.specs.JoinExits.{joined-tables, edges-written, edges-refused, edges-joined}
+use borrow.Author.Rules.{rules}
+use Rattle.rebuild.proofs.on_edged.Goals as goal
+
+pub returns-then-stage-eq-EDGES : goal.returns-then-stage-eq-EDGES
+returns-then-stage-eq-EDGES c =
+    let a = c.args in
+    let written = c.write_joining in
+    let state = stateIn a.rows.now a.count a.items.now a.stretches.now a.faces.now 0 0 in
+    λ f H. edges-written a.job.now a.index.now H a.stage a.out.now state written.last.1.1.1.1.1.1.1.0 written.result c.if-stage-eq-EDGES.true written.ensures
+
+pub maximal_edges-r-requires : goal.maximal_edges-r-requires
+maximal_edges-r-requires c =
+    (c.pre.0.indexed, c.pre.3, c.pre.2, c.pre.1.laid, c.pre.0.nodup, names-low c.pre.0, c.pre.5)
+
+pub on_joined-requires : goal.on_joined-requires
+on_joined-requires c =
+    let a = c.args in
+    let pre = c.pre in
+    let run = c.maximal_edges-r in
+    let rows = run.new.items in
+    let items = run.last.1.1.1.1.1.1.1.0 in
+    let stretches = run.last.1.1.1.1.1.1.1.1.0 in
+    let tables =
+    joined-tables a.job.now a.index.now a.c a.starts.now a.names.now a.rows.now rows a.count a.items.now items a.stretches.now stretches a.faces.now run.result
+    c.in-Done.given.0.0 (names-low pre.0) pre.1 run.kept.1.1.1.1.1.1.1.0 run.kept.1.1.1.1.1.1.1.1.0
+    (run.ensures.0 a.faces.now pre.1.loops) run.ensures.1 c.in-Done.is in
+    (pre.0, tables, spare-same (length (usesIn a.uses.now)) a.rows.now rows a.numbers.now a.vertices.now pre.4 run.kept.1.1.1.1.1.0)
+
+pub returns-in-Refused : goal.returns-in-Refused
+returns-in-Refused c =
+    let a = c.args in
+    let run = c.maximal_edges-r in
+    let state = stateIn a.rows.now a.count a.items.now a.stretches.now a.faces.now 0 0 in
+    let rows = run.new.items in
+    let items = run.last.1.1.1.1.1.1.1.0 in
+    let stretches = run.last.1.1.1.1.1.1.1.1.0 in
+    let ran = run.ensures.0 a.faces.now c.pre.1.loops in
+    λ f H. edges-refused a.job.now a.index.now H a.stage a.out.now state rows items stretches a.faces.now run.result ran c.if-stage-eq-EDGES.left
+    c.in-Refused.given.0.0 c.in-Refused.given.0.1.0 c.in-Refused.is
+
+pub returns-in-Done : goal.returns-in-Done
+returns-in-Done c =
+    let a = c.args in
+    let run = c.maximal_edges-r in
+    let next = c.on_joined in
+    let state = stateIn a.rows.now a.count a.items.now a.stretches.now a.faces.now 0 0 in
+    let rows = run.new.items in
+    let items = run.last.1.1.1.1.1.1.1.0 in
+    let stretches = run.last.1.1.1.1.1.1.1.1.0 in
+    let ran = run.ensures.0 a.faces.now c.pre.1.loops in
+    λ f H. edges-joined a.job.now a.index.now H a.stage a.out.now state rows items stretches a.faces.now run.result ran c.if-stage-eq-EDGES.left
+    c.in-Done.given.0.0 next.last.1.1.1.1.1.1.1.1.1.1.1.1.1.1.1.1.1.1.0 next.result c.in-Done.is (next.ensures f H)

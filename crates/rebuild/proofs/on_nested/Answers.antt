@@ -1,0 +1,71 @@
+use Rattle.uses.specs.Table.{usesIn}
+use Rattle.rebuild.specs.Lumped.{lumped}
+use Rattle.rebuild.specs.BodyExits.{faces-room, faces-cut, members-cut, members-few, shells-few, rows-cut, body-sized, lumps-written, lumps-refused, lumps-on}
+use borrow.Author.Rules.{rules}
+use Rattle.rebuild.proofs.on_nested.Goals as goal
+
+-- no goal for slice-aggregate-write-lumps
+-- -- old need: slice-aggregate-write-lumps
+-- slice-aggregate-write-lumps : goal.slice-aggregate-write-lumps
+-- slice-aggregate-write-lumps c = faces-cut c.requires.0
+
+-- no goal for slice-aggregate-write-lumps-2
+-- -- old need: slice-aggregate-write-lumps-2
+-- slice-aggregate-write-lumps-2 : goal.slice-aggregate-write-lumps-2
+-- slice-aggregate-write-lumps-2 c = members-cut c.requires.0
+
+pub write_lumps-requires : goal.write_lumps-requires
+write_lumps-requires c = (shells-few c.requires.0 c.args.n c.args.table.now c.requires.2, members-few c.requires.0)
+
+pub returns-then-stage-eq-LUMPS : goal.returns-then-stage-eq-LUMPS
+returns-then-stage-eq-LUMPS c =
+    let a = c.args in
+    let pre = c.requires in
+    λ f H. lumps-written a.job.now a.index.now H a.stage a.out.now a.rows.now a.k a.items.now a.stretches.now a.faces.now a.n a.table.now c.write_lumps.new.1.1.1.1.0 c.write_lumps.result c.if-stage-eq-LUMPS.true c.write_lumps.ensures
+
+pub lumps_clear-t-requires : goal.lumps_clear-t-requires
+lumps_clear-t-requires c =
+    let a = c.args in
+    let pre = c.requires in
+    lumped a.job.now a.index.now a.c (usesIn a.uses.now) a.m a.names.now a.g a.n a.table.now pre.0 pre.2 pre.3
+
+pub returns-in-Refused : goal.returns-in-Refused
+returns-in-Refused c =
+    let a = c.args in
+    let pre = c.requires in
+    λ f H. lumps-refused a.job.now a.index.now H a.stage a.out.now a.rows.now a.k a.items.now a.stretches.now a.faces.now a.n a.table.now pre.2 c.lumps_clear-t.result c.lumps_clear-t.ensures c.if-stage-eq-LUMPS.false c.in-Refused.given.0.0 c.in-Refused.given.0.1.0 c.in-Refused.is
+
+-- no goal for slice-aggregate-put-body
+-- -- old need: slice-aggregate-put-body
+-- slice-aggregate-put-body : goal.slice-aggregate-put-body
+-- slice-aggregate-put-body c =
+--     let a = c.args in
+--     let pre = c.requires in
+--     rows-cut pre.0 a.rows.now a.k.edges a.items.now a.stretches.now a.faces.now pre.1
+
+-- no goal for slice-aggregate-put-body-2
+-- -- old need: slice-aggregate-put-body-2
+-- slice-aggregate-put-body-2 : goal.slice-aggregate-put-body-2
+-- slice-aggregate-put-body-2 c = members-cut c.requires.0
+
+-- no goal for array-share-prefix-boundaries-2
+-- -- old need: array-share-prefix-boundaries-2
+-- array-share-prefix-boundaries-2 : goal.array-share-prefix-boundaries-2
+-- array-share-prefix-boundaries-2 c = faces-room c.requires.0
+
+-- no goal for slice-aggregate-put-body-3
+-- -- old need: slice-aggregate-put-body-3
+-- slice-aggregate-put-body-3 : goal.slice-aggregate-put-body-3
+-- slice-aggregate-put-body-3 c = faces-cut c.requires.0
+
+pub put_body-requires : goal.put_body-requires
+put_body-requires c =
+    let a = c.args in
+    let pre = c.requires in
+    body-sized pre.0 a.rows.now a.k.edges a.items.now a.stretches.now a.faces.now a.n a.table.now a.numbers.now a.vertices.now pre.1 pre.2 pre.4
+
+pub returns : goal.returns
+returns c =
+    let a = c.args in
+    let pre = c.requires in
+    λ f H. lumps-on a.job.now a.index.now H a.stage a.out.now a.rows.now a.k a.items.now a.stretches.now a.faces.now a.n a.table.now pre.2 c.lumps_clear-t.result c.lumps_clear-t.ensures c.if-stage-eq-LUMPS.false c.count.result c.count.ensures c.put_body.new.1.1.1.1.1.1.1.1.1.1.1.1.1.1.1.1.1.0 c.put_body.result c.in-Done.is c.put_body.ensures

@@ -1,0 +1,81 @@
+use Rattle.records.specs.Joints.{jointsFrom, allJoints, joints-none, joints-of-first, joints-first, joints-ring, joints-apart, joints-on, joints-last}
+use Rattle.records.specs.declared.Ends.{Ends}
+use Rattle.job.specs.Lists.{pointsIn, edgesIn}
+use Rattle.rules.specs.Job.{ofRing, endPoint}
+use Rattle.rules.specs.FieldLaws.{itemAt}
+use Prim.Native.Nat.{◌+◌, ◌*◌}
+use mathlib.Core.Path.{◌≡◌, sym, ap, ◌∙◌}
+use mathlib.Core.Bool.{false}
+use native.Mathlib.Omega.{arith}
+use Rattle.records.proofs.joined.Goals as goal
+
+pub returns-then-n-eq0 : goal.returns-then-n-eq0
+returns-then-n-eq0 c =
+    let a = c.args in
+    sym (joints-none (pointsIn a.job.now a.c) (edgesIn a.job.now a.c) a.job.now a.body a.n (omega arith))
+
+pub item_ends-first-requires : goal.item_ends-first-requires
+item_ends-first-requires c =
+    (c.pre.0, omega arith)
+
+pub returns-then-first : goal.returns-then-first
+returns-then-first c =
+    let a = c.args in
+    sym (joints-of-first (pointsIn a.job.now a.c) (edgesIn a.job.now a.c) a.job.now a.body a.n
+    c.item_ends-first.result (omega arith) c.item_ends-first.ensures c.if-first.true)
+
+pub overflow_sub-left : goal.overflow_sub-left
+overflow_sub-left c = omega arith
+
+pub loop-left-init : goal.loop-left-init
+loop-left-init c =
+    let a = c.args in
+    let are = c.item_ends-first.ensures in
+    let joints = joints-first (pointsIn a.job.now a.c) (edgesIn a.job.now a.c) a.job.now a.body a.n (omega arith) in
+    (omega arith, sym (ap (λ (x : Ends). x.ring) are) ∙ c.if-first.false, ap (λ (x : Ends). x.end) are, joints)
+
+pub overflow_add-q : goal.overflow_add-q
+overflow_add-q c = omega arith
+
+pub item_ends-next-requires : goal.item_ends-next-requires
+item_ends-next-requires c =
+    (c.pre.0, omega arith)
+
+pub returns-then-next : goal.returns-then-next
+returns-then-next c =
+    let a = c.args in
+    let l = c.loop-left in
+    sym (l.invariant.3 ∙ joints-ring (pointsIn a.job.now a.c) (edgesIn a.job.now a.c) a.job.now a.body l.p l.left l.end l.invariant.1 l.invariant.2
+    c.item_ends-next.result c.loop-left-test.true c.item_ends-next.ensures c.if-next.true)
+
+pub returns-then-next-end : goal.returns-then-next-end
+returns-then-next-end c =
+    let a = c.args in
+    let l = c.loop-left in
+    sym (l.invariant.3 ∙ joints-apart (pointsIn a.job.now a.c) (edgesIn a.job.now a.c) a.job.now a.body l.p l.left l.end l.invariant.1 l.invariant.2
+    c.item_ends-next.result c.loop-left-test.true c.item_ends-next.ensures c.if-next.left c.if-next-end.true)
+
+pub overflow_sub-left-in-loop-left : goal.overflow_sub-left-in-loop-left
+overflow_sub-left-in-loop-left c = omega arith
+
+pub loop-left-smaller : goal.loop-left-smaller
+loop-left-smaller c = omega arith
+
+pub loop-left-preserved : goal.loop-left-preserved
+loop-left-preserved c =
+    let a = c.args in
+    let l = c.loop-left in
+    let are = c.item_ends-next.ensures in (
+      omega arith,
+      sym (ap (λ (x : Ends). x.ring) are) ∙ c.if-next.left,
+      ap (λ (x : Ends). x.end) are,
+      l.invariant.3 ∙ joints-on (pointsIn a.job.now a.c) (edgesIn a.job.now a.c) a.job.now a.body l.p l.left l.end l.invariant.1 l.invariant.2
+          c.item_ends-next.result c.loop-left-test.true are c.if-next.left c.if-next-end.false,
+    )
+
+pub returns : goal.returns
+returns c =
+    let a = c.args in
+    let l = c.loop-left in
+    sym (l.invariant.3 ∙ joints-last (pointsIn a.job.now a.c) (edgesIn a.job.now a.c) a.job.now a.body l.p l.left l.end l.invariant.1 l.invariant.2
+    c.item_ends-first.result c.loop-left-test.left c.item_ends-first.ensures c.if-first.left)

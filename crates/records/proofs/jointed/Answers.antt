@@ -1,0 +1,24 @@
+use Rattle.records.specs.Joints.{jointed-ring, jointed-plain, jointed-other}
+use Rattle.job.specs.Lists.{pointsIn, edgesIn}
+use mathlib.Core.Path.{sym, ◌∙◌}
+use borrow.Author.Rules.{rules}
+use Rattle.records.proofs.jointed.Goals as goal
+
+pub returns-then-n-ne1 : goal.returns-then-n-ne1
+returns-then-n-ne1 c =
+    let a = c.args in
+    c.joined.ensures
+    ∙ sym (jointed-other (pointsIn a.job.now a.c) (edgesIn a.job.now a.c) a.job.now a.body a.n c.if-n-ne1.true)
+
+pub returns-then-is_ring : goal.returns-then-is_ring
+returns-then-is_ring c =
+    let a = c.args in
+    sym (jointed-ring (pointsIn a.job.now a.c) (edgesIn a.job.now a.c) a.job.now a.body a.n c.is_ring.result
+    c.if-n-ne1.left c.is_ring.ensures c.if-is_ring.true)
+
+pub returns : goal.returns
+returns c =
+    let a = c.args in
+    c.joined-2.ensures
+    ∙ sym (jointed-plain (pointsIn a.job.now a.c) (edgesIn a.job.now a.c) a.job.now a.body a.n c.is_ring.result
+    c.if-n-ne1.left c.is_ring.ensures c.if-is_ring.left)

@@ -1,0 +1,62 @@
+use Rattle.rules.specs.Kinds.{limitPassed}
+use borrow.Author.Rules.{rules}
+use Rattle.records.proofs.limit_passed.Goals as goal
+
+pub returns-in-Unknown : goal.returns-in-Unknown
+unfolding limitPassed
+returns-in-Unknown c = simp c.in-Unknown.is
+
+pub returns-in-Head : goal.returns-in-Head
+unfolding limitPassed
+returns-in-Head c = simp c.in-Head.is
+
+pub returns-in-Vertex : goal.returns-in-Vertex
+unfolding limitPassed
+returns-in-Vertex c = simp c.in-Vertex.is
+
+pub returns-in-EdgeRecord : goal.returns-in-EdgeRecord
+unfolding limitPassed
+returns-in-EdgeRecord c = simp c.in-EdgeRecord.is
+
+pub returns-in-FaceRecord : goal.returns-in-FaceRecord
+unfolding limitPassed
+returns-in-FaceRecord c = simp c.in-FaceRecord.is
+
+pub returns-in-LoopRecord : goal.returns-in-LoopRecord
+unfolding limitPassed
+returns-in-LoopRecord c = simp (
+  ← c.loops-passed.ensures,
+  c.in-LoopRecord.is,
+)
+
+pub returns-in-VertexLoop : goal.returns-in-VertexLoop
+unfolding limitPassed
+returns-in-VertexLoop c = simp c.in-VertexLoop.is
+
+pub returns-in-Radial : goal.returns-in-Radial
+unfolding limitPassed
+returns-in-Radial c = simp c.in-Radial.is
+
+pub returns-in-Surface : goal.returns-in-Surface
+unfolding limitPassed
+returns-in-Surface c = simp c.in-Surface.is
+
+pub returns-in-Points : goal.returns-in-Points
+unfolding limitPassed
+returns-in-Points c = simp c.in-Points.is
+
+pub returns-in-Curves : goal.returns-in-Curves
+unfolding limitPassed
+returns-in-Curves c = simp c.in-Curves.is
+
+pub returns-in-Singular : goal.returns-in-Singular
+unfolding limitPassed
+returns-in-Singular c = simp c.in-Singular.is
+
+pub returns-in-Orientation : goal.returns-in-Orientation
+unfolding limitPassed
+returns-in-Orientation c = simp c.in-Orientation.is
+
+pub returns-in-Inside : goal.returns-in-Inside
+unfolding limitPassed
+returns-in-Inside c = simp c.in-Inside.is

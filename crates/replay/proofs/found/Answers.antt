@@ -1,0 +1,15 @@
+use lib.Seq.{length-take-le}
+use lib.ListN.{length-take}
+use Prim.Native.Nat.{◌-◌, ◌/◌}
+use mathlib.Core.Path.{sym}
+use native.Mathlib.Omega.{arith}
+use borrow.Author.Rules.{rules}
+use Rattle.replay.proofs.found.Goals as goal
+
+-- no goal for slice-aggregate-run
+-- -- old need: slice-aggregate-run
+-- slice-aggregate-run : goal.slice-aggregate-run
+-- slice-aggregate-run c = sym (length-take-le c.least-room.result c.args.out.now c.least-room.ensures)
+
+pub run-ending-requires : goal.run-ending-requires
+run-ending-requires c = (c.requires.0, omega (arith, c.requires.1, length-take c.least-room.result c.args.out.now))

@@ -1,0 +1,8 @@
+use Rattle.stages_out.specs.Writing.{place-after}
+use Rattle.rules.specs.Shells.{shellFaces}
+use native.Mathlib.Omega.{arith}
+use borrow.Author.Rules.{rules}
+use Rattle.result_out.proofs.count_faces_of.Goals as goal
+
+pub returns : goal.returns
+returns c = let a = c.args in omega (arith, place-after (shellFaces a.boundaries.now a.members.now a.b) _ _ 0 c.put_faces_of.result c.put_faces_of.ensures)

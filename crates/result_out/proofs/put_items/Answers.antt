@@ -1,0 +1,30 @@
+use Rattle.result_out.specs.EdgeLaws.{item-row, item-rows}
+use Rattle.result_out.specs.Writing.{RowedFrom, rowed-start, rowed-step, rowed-end}
+use Rattle.result_out.specs.Rows.{itemRow}
+use lib.ListN.{length, get_or}
+use Prim.Native.Nat.{◌-◌, ◌≤◌}
+use mathlib.Core.List.{flat_map}
+use native.Mathlib.Omega.{arith}
+use borrow.Author.Rules.{rules}
+use Rattle.result_out.proofs.put_items.Goals as goal
+
+pub loop-i-init : goal.loop-i-init
+loop-i-init c = let a = c.args in (omega arith, rowed-start (λ k. itemRow (get_or a.part.now k 0)) 2 a.out.now a.at)
+
+pub put_two-p-requires : goal.put_two-p-requires
+put_two-p-requires c = omega (arith, c.requires.0, c.requires.1, c.loop-i.invariant.0, c.loop-i.invariant.1.small)
+
+pub loop-i-preserved : goal.loop-i-preserved
+loop-i-preserved c =
+    let a = c.args in
+    let l = c.loop-i in (
+      omega arith,
+      rowed-step (λ k. itemRow (get_or a.part.now k 0)) 2 a.out.now a.at l.out c.put_two-p.new.out l.p l.i c.put_two-p.result (omega arith) l.invariant.1
+          (item-row a.part.now l.out c.put_two-p.new.out l.p c.put_two-p.result l.i c.get-x.result c.get-x.ensures.0 c.put_two-p.ensures),
+    )
+
+pub returns : goal.returns
+returns c =
+    let a = c.args in
+    let l = c.loop-i in
+    rowed-end (λ k. itemRow (get_or a.part.now k 0)) 2 a.out.now a.at (flat_map itemRow a.part.now) l.out l.p l.i (item-rows a.part.now l.i (omega arith)) l.invariant.1

@@ -1,0 +1,58 @@
+use Rattle.result_out.specs.EdgeLaws.{faceLoopRow, loop-wrote, loop-short, loop-rows}
+use Rattle.result_out.specs.Writing.{RowedFrom, rowed-start, rowed-step, rowed-end}
+use Rattle.stages_out.specs.RowLaws.{part-short}
+use Rattle.edges.specs.Table.{faceLoopsIn}
+use Rattle.rules.specs.Stage.{faceLoopFields}
+use lib.ListN.{length}
+use Prim.Native.Nat.{◌+◌, ◌*◌, ◌-◌, ◌<◌, ◌≤◌}
+use mathlib.Core.List.{flat_map}
+use native.Mathlib.Omega.{arith}
+use borrow.Author.Rules.{rules}
+use Rattle.result_out.proofs.put_loops.Goals as goal
+
+pub loop-k-init : goal.loop-k-init
+loop-k-init c = let a = c.args in (omega arith, rowed-start (faceLoopRow a.items.now a.stretches.now a.faces.now) 4098 a.out.now a.at)
+
+-- no goal for overflow-sub-put-loop
+-- -- old need: overflow-sub-put-loop
+-- sub-put-loop : goal.overflow-sub-put-loop
+-- sub-put-loop c =
+--     let k = c.loop-k.k in
+--     let b : 2 * k + 1 < length c.args.stretches.now = omega (arith, c.requires.1, c.loop-k-test.true) in
+--     omega (arith, c.get-a.ensures.0, c.get-e.ensures.0, c.requires.0.order k b)
+
+-- no goal for slice-bounds-put-loop-start
+-- -- old need: slice-bounds-put-loop-start
+-- part-put-loop-start : goal.slice-bounds-put-loop-start
+-- part-put-loop-start c =
+--     let k = c.loop-k.k in
+--     let b : 2 * k + 1 < length c.args.stretches.now = omega (arith, c.requires.1, c.loop-k-test.true) in
+--     omega (arith, c.get-a.ensures.0, c.get-e.ensures.0, c.requires.0.order k b, c.requires.0.inside k b)
+
+-- no goal for slice-bounds-put-loop-end
+-- -- old need: slice-bounds-put-loop-end
+-- part-put-loop-end : goal.slice-bounds-put-loop-end
+-- part-put-loop-end c =
+--     let k = c.loop-k.k in
+--     let b : 2 * k + 1 < length c.args.stretches.now = omega (arith, c.requires.1, c.loop-k-test.true) in
+--     omega (arith, c.get-a.ensures.0, c.get-e.ensures.0, c.requires.0.order k b, c.requires.0.inside k b)
+
+pub put_loop-p-requires : goal.put_loop-p-requires
+put_loop-p-requires c = (part-short c.args.items.now (c.get-e.result - c.get-a.result) c.get-a.result c.requires.2, omega (arith, c.requires.3, c.requires.4, c.loop-k.invariant.0, c.loop-k.invariant.1.small))
+
+pub loop-k-preserved : goal.loop-k-preserved
+loop-k-preserved c =
+    let a = c.args in
+    let l = c.loop-k in (
+      omega arith,
+      rowed-step (faceLoopRow a.items.now a.stretches.now a.faces.now) 4098 a.out.now a.at l.out c.put_loop-p.new.1.1.0 l.p l.k c.put_loop-p.result
+          (loop-short a.items.now a.stretches.now a.faces.now l.k c.requires.2) l.invariant.1
+          (loop-wrote a.items.now a.stretches.now a.faces.now l.out c.put_loop-p.new.1.1.0 l.p c.put_loop-p.result l.k c.get-face.result c.get-a.result c.get-e.result c.get-face.ensures.0 c.get-a.ensures.0 c.get-e.ensures.0 c.put_loop-p.ensures),
+    )
+
+pub returns : goal.returns
+returns c =
+    let a = c.args in
+    let l = c.loop-k in
+    rowed-end (faceLoopRow a.items.now a.stretches.now a.faces.now) 4098 a.out.now a.at (flat_map faceLoopFields (faceLoopsIn a.items.now a.stretches.now a.faces.now)) l.out l.p l.k
+    (loop-rows a.items.now a.stretches.now a.faces.now l.k (omega arith)) l.invariant.1

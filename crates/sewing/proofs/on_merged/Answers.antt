@@ -1,0 +1,66 @@
+use Rattle.progress.specs.Endings.{ends-as, ends-refused}
+use Rattle.sewing.specs.StepLaws.{ends-staged, faces-cut, merging-asked, keep-refused, kept-from, keep-on}
+use Rattle.stages_out.specs.Rows.{pairRows}
+use Rattle.progress.specs.KnownLaws.{opened-limited}
+use Rattle.progress.specs.Known.{boundariesIn, groupsIn}
+use Rattle.uses.specs.Table.{usesIn}
+use mathlib.Core.Path.{refl, sym}
+use lib.ListN.{length}
+use native.Mathlib.Omega.{arith}
+use borrow.Author.Rules.{rules}
+use Rattle.sewing.proofs.on_merged.Goals as goal
+
+-- no goal for array-share-prefix-labels
+-- -- old need: array-share-prefix-labels
+-- array-share-prefix-labels : goal.array-share-prefix-labels
+-- array-share-prefix-labels c = omega (arith, c.requires.0.boundaries-size, (opened-limited c.args.job.now c.args.index.now c.args.c c.requires.0.paired.opened).faces)
+
+-- no goal for slice-aggregate-write-pairs
+-- -- old need: slice-aggregate-write-pairs
+-- slice-aggregate-write-pairs : goal.slice-aggregate-write-pairs
+-- slice-aggregate-write-pairs c = sym (faces-cut c.args.job.now c.args.index.now c.args.c (usesIn c.args.uses.now) c.args.twins.now c.args.m c.requires.0 c.args.stage 0 c.args.m.boundaries c.requires.0.boundaries-size)
+
+-- no goal for array-share-prefix-groups
+-- -- old need: array-share-prefix-groups
+-- array-share-prefix-groups : goal.array-share-prefix-groups
+-- array-share-prefix-groups c = omega (arith, c.requires.0.groups-size, (opened-limited c.args.job.now c.args.index.now c.args.c c.requires.0.paired.opened).faces)
+
+-- no goal for slice-aggregate-write-pairs-2
+-- -- old need: slice-aggregate-write-pairs-2
+-- slice-aggregate-write-pairs-2 : goal.slice-aggregate-write-pairs-2
+-- slice-aggregate-write-pairs-2 c = sym (faces-cut c.args.job.now c.args.index.now c.args.c (usesIn c.args.uses.now) c.args.twins.now c.args.m c.requires.0 c.args.stage 0 c.args.m.groups c.requires.0.groups-size)
+
+pub write_pairs-requires : goal.write_pairs-requires
+write_pairs-requires c = omega (arith, faces-cut c.args.job.now c.args.index.now c.args.c (usesIn c.args.uses.now) c.args.twins.now c.args.m c.requires.0 c.args.stage 0 c.args.m.boundaries c.requires.0.boundaries-size, (opened-limited c.args.job.now c.args.index.now c.args.c c.requires.0.paired.opened).faces)
+
+pub returns-then-stage-eq-MERGE : goal.returns-then-stage-eq-MERGE
+returns-then-stage-eq-MERGE c = let a = c.args in
+    ends-staged (pairRows (boundariesIn a.c a.m) (groupsIn a.c a.m)) (pairRows (boundariesIn a.c a.m) (groupsIn a.c a.m)) a.out.now c.write_pairs.new.out c.write_pairs.result refl
+    (merging-asked a.job.now a.index.now a.c (usesIn a.uses.now) a.twins.now a.m c.requires.0 a.stage (length a.out.now) c.if-stage-eq-MERGE.true) c.write_pairs.ensures
+
+-- no goal for array-share-prefix-numbers
+-- -- old need: array-share-prefix-numbers
+-- array-share-prefix-numbers : goal.array-share-prefix-numbers
+-- array-share-prefix-numbers c = omega (arith, c.requires.0.numbers-size, (opened-limited c.args.job.now c.args.index.now c.args.c c.requires.0.paired.opened).faces)
+
+-- no goal for slice-aggregate-vertex-loops
+-- -- old need: slice-aggregate-vertex-loops
+-- slice-aggregate-vertex-loops : goal.slice-aggregate-vertex-loops
+-- slice-aggregate-vertex-loops c = sym (faces-cut c.args.job.now c.args.index.now c.args.c (usesIn c.args.uses.now) c.args.twins.now c.args.m c.requires.0 c.args.stage 0 c.args.m.numbers c.requires.0.numbers-size)
+
+pub vertex_loops-r-requires : goal.vertex_loops-r-requires
+vertex_loops-r-requires c = let L = opened-limited c.args.job.now c.args.index.now c.args.c c.requires.0.paired.opened in
+    (c.requires.0.paired.opened.indexed, L.vertices, L.loops, c.requires.1)
+
+pub on_kept-requires : goal.on_kept-requires
+on_kept-requires c = let a = c.args in
+    (kept-from a.job.now a.index.now a.c (usesIn a.uses.now) a.twins.now a.m c.requires.0 a.stage (length a.out.now) c.if-stage-eq-MERGE.false c.vertex_loops-r.result c.vertex_loops-r.new.1.1.1.1.0 c.vertex_loops-r.ensures.0 _ c.vertex_loops-r.ensures.1 c.in-Done.is)
+
+pub returns-in-Refused : goal.returns-in-Refused
+returns-in-Refused c = let a = c.args in
+    ends-refused _ a.out.now _ _ (keep-refused a.job.now a.index.now a.c (usesIn a.uses.now) a.twins.now a.m c.requires.0 a.stage (length a.out.now) c.if-stage-eq-MERGE.false c.vertex_loops-r.result c.vertex_loops-r.new.1.1.1.1.0 c.vertex_loops-r.ensures.0 _ _ c.in-Refused.is)
+
+pub returns-in-Done : goal.returns-in-Done
+returns-in-Done c = let a = c.args in
+    let K = kept-from a.job.now a.index.now a.c (usesIn a.uses.now) a.twins.now a.m c.requires.0 a.stage (length a.out.now) c.if-stage-eq-MERGE.false c.vertex_loops-r.result c.vertex_loops-r.new.1.1.1.1.0 c.vertex_loops-r.ensures.0 _ c.vertex_loops-r.ensures.1 c.in-Done.is in
+    ends-as _ _ a.out.now c.on_kept.new.1.1.1.1.1.1.1.1.1.0 c.on_kept.result (sym (keep-on a.job.now a.index.now a.c (usesIn a.uses.now) a.twins.now a.m c.requires.0 a.stage (length a.out.now) c.if-stage-eq-MERGE.false c.vertex_loops-r.new.1.1.1.1.0 _ K)) c.on_kept.ensures

@@ -1,0 +1,102 @@
+use Rattle.progress.specs.Parts.{lent-long, lent-part, part-size, zeros}
+use Rattle.progress.specs.Endings.{ends-as, ends-refused}
+use Rattle.sewing.specs.StepLaws.{ends-staged, pairing-asked, merge-refused, groups-lowest, grouped-from, merge-on}
+use Rattle.progress.specs.KnownLaws.{opened-limited, paired-few, paired-size}
+use Rattle.job.specs.Lists.{jobIn}
+use Rattle.uses.specs.Table.{usesIn}
+use mathlib.Core.Path.{refl, sym}
+use lib.ListN.{length}
+use native.Mathlib.Omega.{arith}
+use borrow.Author.Rules.{rules}
+use Rattle.sewing.proofs.on_paired.Goals as goal
+
+pub write_twins-requires : goal.write_twins-requires
+write_twins-requires c =
+    let a = c.args in
+    let P = c.pre.0 in
+    omega (arith, paired-size a.job.now a.index.now a.c (usesIn a.uses.now) a.twins.now P, (opened-limited a.job.now a.index.now a.c P.opened).uses)
+
+pub returns-then-stage-eq-PAIR : goal.returns-then-stage-eq-PAIR
+returns-then-stage-eq-PAIR c =
+    let a = c.args in
+    let x = c.write_twins in
+    ends-staged a.twins.now a.twins.now a.out.now x.new.index x.result refl
+    (pairing-asked a.stage (jobIn a.job.now a.index.now a.c) (usesIn a.uses.now) (length a.out.now) a.twins.now c.if-stage-eq-PAIR.true) x.ensures
+
+-- no goal for array-borrow-prefix-groups
+-- -- old need: array-borrow-prefix-groups
+-- array-borrow-prefix-groups : goal.array-borrow-prefix-groups
+-- array-borrow-prefix-groups c =
+--     let a = c.args in
+--     (opened-limited a.job.now a.index.now a.c c.pre.0.opened).faces
+
+-- no goal for slice-aggregate-merge-faces
+-- -- old need: slice-aggregate-merge-faces
+-- slice-aggregate-merge-faces : goal.slice-aggregate-merge-faces
+-- unfolding zeros
+-- slice-aggregate-merge-faces c =
+--     let a = c.args in
+--     part-size a.c.faces 256 (opened-limited a.job.now a.index.now a.c c.pre.0.opened).faces
+
+pub merge_faces-r-requires : goal.merge_faces-r-requires
+unfolding zeros
+merge_faces-r-requires c =
+    let a = c.args in
+    let P = c.pre.0 in
+    let L = opened-limited a.job.now a.index.now a.c P.opened in
+    (P.opened.indexed, L.faces, sym (part-size a.c.faces 256 L.faces), paired-few a.job.now a.index.now a.c (usesIn a.uses.now) a.twins.now P)
+
+pub faces_of-m-requires : goal.faces_of-m-requires
+unfolding zeros
+faces_of-m-requires c =
+    let a = c.args in
+    let P = c.pre.0 in
+    let L = opened-limited a.job.now a.index.now a.c P.opened in
+    let x = c.merge_faces-r in
+    let l = x.last.1.1.1.1.1.0 in
+    let e = x.kept.1.1.1.1.1.0 in (
+      L.faces,
+      lent-long 256 a.c.faces l e L.faces,
+      groups-lowest a.job.now a.index.now a.c (usesIn a.uses.now) a.twins.now P a.stage (length a.out.now) c.if-stage-eq-PAIR.left x.result l x.ensures
+          _ (lent-part 256 a.c.faces l e L.faces) _ c.in-Done.is,
+    )
+
+pub on_merged-requires : goal.on_merged-requires
+unfolding zeros
+on_merged-requires c =
+    let a = c.args in
+    let P = c.pre.0 in
+    let L = opened-limited a.job.now a.index.now a.c P.opened in
+    let x = c.merge_faces-r in
+    let y = c.faces_of-m in
+    let l = x.last.1.1.1.1.1.0 in
+    let e = x.kept.1.1.1.1.1.0 in (
+      grouped-from a.job.now a.index.now a.c (usesIn a.uses.now) a.twins.now P a.stage (length a.out.now) c.if-stage-eq-PAIR.left x.result l x.ensures
+          _ (lent-part 256 a.c.faces l e L.faces) _ c.in-Done.is y.result (lent-long 256 a.c.faces l e L.faces) y.ensures,
+      c.pre.1,
+    )
+
+pub returns-in-Refused : goal.returns-in-Refused
+returns-in-Refused c =
+    let a = c.args in
+    let x = c.merge_faces-r in
+    ends-refused _ a.out.now _ _
+    (merge-refused a.job.now a.index.now a.c (usesIn a.uses.now) a.twins.now c.pre.0 a.stage (length a.out.now) c.if-stage-eq-PAIR.left x.result
+    x.last.1.1.1.1.1.0 x.ensures _ _ c.in-Refused.is)
+
+pub returns-in-Done : goal.returns-in-Done
+unfolding zeros
+returns-in-Done c =
+    let a = c.args in
+    let P = c.requires.0 in
+    let L = opened-limited a.job.now a.index.now a.c P.opened in
+    let x = c.merge_faces-r in
+    let y = c.faces_of-m in
+    let z = c.on_merged in
+    let l = x.new.1.1.1.1.1.0 in
+    let e = x.auto.1.1.1.1.1.0 in
+    let G =
+    grouped-from a.job.now a.index.now a.c (usesIn a.uses.now) a.twins.now P a.stage (length a.out.now) c.if-stage-eq-PAIR.false x.result l x.ensures
+    _ (lent-part 256 a.c.faces l e L.faces) _ c.in-Done.is y.result (lent-long 256 a.c.faces l e L.faces) y.ensures in
+    ends-as _ _ a.out.now z.last.1.1.1.1.1.1.1.1.0 z.result
+    (sym (merge-on a.job.now a.index.now a.c (usesIn a.uses.now) a.twins.now P a.stage (length a.out.now) c.if-stage-eq-PAIR.false y.result G)) z.ensures

@@ -1,0 +1,13 @@
+use Rattle.progress.specs.Endings.{ends-refused}
+use Rattle.sewing.specs.StepLaws.{opened-from, read-refused}
+use borrow.Author.Rules.{rules}
+use Rattle.sewing.proofs.read_stage.Goals as goal
+
+pub write_loaded-requires : goal.write_loaded-requires
+write_loaded-requires c =
+    opened-from c.args.job.now c.load-r.new.index c.load-r.result _ c.load-r.ensures c.in-Done.is
+
+pub returns-in-Refused : goal.returns-in-Refused
+returns-in-Refused c =
+    ends-refused _ c.args.out.now _ _
+    (read-refused c.args.job.now c.load-r.new.index c.load-r.result _ _ _ c.load-r.ensures c.in-Refused.is)

@@ -1,0 +1,10 @@
+use lib.ListN.{length}
+use Rattle.rules.specs.Rules.{ordinary}
+use Rattle.rules.specs.Stage.{edgeStage}
+use Rattle.sewing_c.specs.NumberLaws.{edges-numbered}
+use Rattle.sewing_c.specs.ToldLaws.{told}
+use borrow.Author.Rules.{rules}
+use Rattle.sewing_c.proofs.zaxclover_edge_stage.Goals as goal
+
+pub returns : goal.returns
+returns c = told (edgeStage ordinary c.args.job.now (length c.args.out.now)) c.args.out.now c.edge_stage-ending.new.out c.edge_stage-ending.result c.tell.result c.tell.new.1.0 c.edge_stage-ending.ensures c.tell.ensures (edges-numbered ordinary c.args.job.now (length c.args.out.now))

@@ -1,0 +1,13 @@
+use Rattle.sewing_c.specs.ToldLaws.{few-bytes, listed, lists-answer}
+use borrow.Author.Rules.{rules}
+use Rattle.sewing_c.proofs.zaxclover_listing.Goals as goal
+
+pub put_listing-requires : goal.put_listing-requires
+put_listing-requires c =
+    few-bytes c.args.out.now c.front-body.result.now c.front-body.ensures
+
+pub returns : goal.returns
+returns c =
+    lists-answer _ _ c.args.out.now c.args.page.now c.put_listing.new.page c.put_listing.result
+    (listed c.args.page.now c.put_listing.new.page _ c.front-body.result.now _ c.Ending-of.result c.put_listing.result
+    c.front-body.ensures c.Ending-of.ensures c.put_listing.ensures)

@@ -1,0 +1,10 @@
+use lib.ListN.{length}
+use Rattle.rules.specs.Rules.{ordinary}
+use Rattle.rules.specs.Stage.{loopStage}
+use Rattle.sewing_c.specs.NumberLaws.{loops-numbered}
+use Rattle.sewing_c.specs.ToldLaws.{told}
+use borrow.Author.Rules.{rules}
+use Rattle.sewing_c.proofs.zaxclover_loop_stage.Goals as goal
+
+pub returns : goal.returns
+returns c = (told (loopStage ordinary c.args.job.now (length c.args.out.now)) c.args.out.now c.loop.last.1.0 c.loop.result c.tell.result c.tell.new.1.0 c.loop.ensures.0 c.tell.ensures (loops-numbered ordinary c.args.job.now (length c.args.out.now)), c.loop.ensures.1)

@@ -1,0 +1,9 @@
+use lib.ListN.{length}
+use Rattle.rules.specs.Stage.{readStage}
+use Rattle.sewing_c.specs.NumberLaws.{read-numbered}
+use Rattle.sewing_c.specs.ToldLaws.{told}
+use borrow.Author.Rules.{rules}
+use Rattle.sewing_c.proofs.zaxclover_read_stage.Goals as goal
+
+pub returns : goal.returns
+returns c = told (readStage c.args.job.now (length c.args.out.now)) c.args.out.now c.read_stage-ending.new.out c.read_stage-ending.result c.tell.result c.tell.new.1.0 c.read_stage-ending.ensures c.tell.ensures (read-numbered c.args.job.now (length c.args.out.now))

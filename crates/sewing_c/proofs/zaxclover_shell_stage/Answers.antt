@@ -1,0 +1,10 @@
+use lib.ListN.{length}
+use Rattle.rules.specs.Rules.{ordinary}
+use Rattle.rules.specs.Stage.{shellStage}
+use Rattle.sewing_c.specs.NumberLaws.{shell-stage-numbered}
+use Rattle.sewing_c.specs.ToldLaws.{told}
+use borrow.Author.Rules.{rules}
+use Rattle.sewing_c.proofs.zaxclover_shell_stage.Goals as goal
+
+pub returns : goal.returns
+returns c = told (shellStage ordinary c.args.job.now (length c.args.out.now)) c.args.out.now c.shell_stage-ending.new.out c.shell_stage-ending.result c.tell.result c.tell.new.1.0 c.shell_stage-ending.ensures c.tell.ensures (shell-stage-numbered ordinary c.args.job.now (length c.args.out.now))

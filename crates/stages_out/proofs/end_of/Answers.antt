@@ -1,0 +1,11 @@
+use mathlib.Core.Path.{◌∙◌}
+use Rattle.stages_out.specs.RowLaws.{end-none, end-at}
+use native.Mathlib.Omega.{arith}
+use borrow.Author.Rules.{rules}
+use Rattle.stages_out.proofs.end_of.Goals as goal
+
+pub returns-then-k-eq0 : goal.returns-then-k-eq0
+returns-then-k-eq0 c = (end-none c.args.stretches.now c.args.k c.if-k-eq0.true, omega arith)
+
+pub returns : goal.returns
+returns c = (c.get.ensures.0 ∙ end-at c.args.stretches.now c.args.k c.if-k-eq0.false, c.get.ensures.1)

@@ -1,0 +1,10 @@
+use Rattle.uses.specs.Table.{usesIn}
+use Rattle.stages_out.specs.RowLaws.{record-rows}
+use borrow.Author.Rules.{rules}
+use Rattle.stages_out.proofs.put_uses.Goals as goal
+
+pub returns : goal.returns
+returns c =
+    let a = c.args in
+    record-rows (usesIn a.uses.now) c.records_of-records.result a.out.now c.put_records.last.1.1.0 c.put_records.result
+    c.count.result c.count.ensures c.records_of-records.ensures c.put_records.ensures

@@ -1,0 +1,49 @@
+use mathlib.Core.Path.{◌≡◌, refl, sym, subst}
+use Prim.Native.Nat.{◌-◌, ◌≤◌}
+use lib.ListN.{length}
+use Rattle.uses.specs.Table.{usesIn, Records}
+use Rattle.uses.specs.TableLaws.{length-uses, records-none, records-more}
+use native.Mathlib.Omega.{arith}
+use borrow.Author.Rules.{rules}
+use Rattle.uses.proofs.records_of.Goals as goal
+
+pub loop-h-init : goal.loop-h-init
+loop-h-init c =
+    (sym (length-uses c.args.uses.now), omega arith, records-none (usesIn c.args.uses.now) c.record_of-none.result)
+
+-- no goal for overflow-mul-records
+-- -- old need: overflow-mul-records
+-- mul-records : goal.overflow-mul-records
+-- mul-records c =
+--     omega (arith, c.loop-h-test.true, c.loop-h.invariant.0, c.pre)
+
+-- no goal for array-set-from-records
+-- -- old need: array-set-from-records
+-- array-set-from-records : goal.array-set-from-records
+-- array-set-from-records c =
+--     omega (arith, c.loop-h-test.true, c.loop-h.invariant.0, c.pre)
+
+pub overflow_add-h : goal.overflow_add-h
+overflow_add-h c =
+    omega (arith, c.loop-h-test.true, c.loop-h.invariant.0, c.pre)
+
+pub loop-h-smaller : goal.loop-h-smaller
+loop-h-smaller c =
+    omega (arith, c.loop-h-test.true)
+
+pub loop-h-preserved : goal.loop-h-preserved
+loop-h-preserved c =
+    let l = c.loop-h in
+    let us = usesIn c.args.uses.now in (
+      l.invariant.0,
+      omega (arith, c.loop-h-test.true),
+      records-more us l.records _ l.h c.record_of.result l.invariant.2
+          (omega (arith, c.loop-h-test.true, l.invariant.0, c.pre)) c.record_of.ensures refl,
+    )
+
+pub returns : goal.returns
+returns c =
+    let l = c.loop-h in
+    let us = usesIn c.args.uses.now in
+    let e : l.h ≡ length us = omega (arith, c.loop-h-test.left, l.invariant.0, l.invariant.1) in
+    subst (Records us l.records) e l.invariant.2

@@ -1,0 +1,9 @@
+use Rattle.job.specs.Lists.{edgesIn, pointsIn}
+use Rattle.rules.specs.Job.{edgeAt, startBy}
+use lib.ListN.{get_or}
+use mathlib.Core.Path.{ap, ◌∙◌}
+use borrow.Author.Rules.{rules}
+use Rattle.uses.proofs.start_point.Goals as goal
+
+pub returns : goal.returns
+returns c = (c.point.ensures.0 ∙ ap (λ v. get_or (pointsIn c.args.job.now c.args.c) v 0) (c.start_by-v.ensures.0 ∙ (λ i. startBy (c.use_sense-s.ensures i) (edgeAt (edgesIn c.args.job.now c.args.c) (c.use_edge-e.ensures.0 i)))), c.point.ensures.1)

@@ -1,0 +1,7 @@
+use Rattle.uses.specs.TableLaws.{edge-is}
+use mathlib.Core.Path.{sym, ◌∙◌}
+use borrow.Author.Rules.{rules}
+use Rattle.uses.proofs.use_edge.Goals as goal
+
+pub returns : goal.returns
+returns c = (c.field_of.ensures.0 ∙ sym (edge-is c.args.uses.now c.args.h), c.field_of.ensures.1)
