@@ -1,3 +1,4 @@
+use Rattle.std.proofs.Common.{arith}
 use Rattle.job.specs.ListLaws.{no-kind}
 use Rattle.rules.specs.Kinds.{kindOf}
 use mathlib.Core.Path.{sym}
@@ -57,4 +58,7 @@ returns-in-13 c = simp c.in-13.is
 
 pub returns-in_default : goal.returns-in_default
 unfolding kindOf
-returns-in_default c = sym (no-kind c.args.k c.in_default.not-1 c.in_default.not-2 c.in_default.not-3 c.in_default.not-4 c.in_default.not-5 c.in_default.not-6 c.in_default.not-7 c.in_default.not-8 c.in_default.not-9 c.in_default.not-10 c.in_default.not-11 c.in_default.not-12 c.in_default.not-13)
+returns-in_default c =
+    sym
+    (no-kind c.args.k (omega arith) (omega arith) (omega arith) (omega arith) (omega arith) (omega arith) (omega arith)
+    (omega arith) (omega arith) (omega arith) (omega arith) (omega arith) (omega arith))
