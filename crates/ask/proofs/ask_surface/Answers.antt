@@ -10,8 +10,8 @@ use Rattle.ask.proofs.ask_surface.Goals as goal
 
 pub answer_to-a-requires : goal.answer_to-a-requires
 answer_to-a-requires c =
-    let w = put-as c.about_one.result (aboutOne 8 c.args.h) c.about_one.ensures (shaped-one 8 c.args.h (omega arith) c.pre.1)
-    (λ z. omega arith) in (c.pre.0, w.0, w.1)
+    let w = put-as c.about_one.result (aboutOne 8 c.args.h) c.about_one.ensures (shaped-one 8 c.args.h (omega arith) c.requires.1)
+    (λ z. omega arith) in (c.requires.0, w.0, w.1)
 
 pub returns-in-Value : goal.returns-in-Value
 returns-in-Value c =

@@ -22,7 +22,7 @@ pub loop-e-preserved : goal.loop-e-preserved
 loop-e-preserved c = let a = c.args in
     let l = c.loop-e in
     let x = c.put_edge-p in
-    (omega (arith, l.invariant.1, c.loop-e-test.true), l.invariant.1, rowed-step (λ k. edgeRow a.vertices.now a.count (edgeDataAt (rowsIn a.rows.now) k)) 22 a.out.now a.at l.out x.new.1.1.1.1.0 l.p l.e x.result l.invariant.2 x.ensures.0 x.ensures.1)
+    (omega (arith, l.invariant.1, c.loop-e-test.true), l.invariant.1, rowed-step (λ k. edgeRow a.vertices.now a.count (edgeDataAt (rowsIn a.rows.now) k)) 22 a.out.now a.at l.out x.new.out l.p l.e x.result l.invariant.2 x.ensures.0 x.ensures.1)
 
 pub returns : goal.returns
 returns c = let a = c.args in

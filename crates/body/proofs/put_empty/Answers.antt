@@ -13,5 +13,5 @@ pub returns : goal.returns
 returns c =
     let a = c.args in
     let x = c.put_totals in
-    ends-written (framedAll (bodyRecords emptyBody)) a.out.now x.new.out 34 x.result empty-size c.if-out-lt34.left
+    ends-written (framedAll (bodyRecords emptyBody)) a.out.now x.new.out 34 x.result empty-size c.if-out-lt34.false
     (wrote-as _ (framedAll (bodyRecords emptyBody)) a.out.now x.new.out 0 x.result empty-is x.ensures.0)

@@ -37,8 +37,8 @@ overflow_add-f c = omega (arith, c.loop-f-test.true, c.requires.6)
 pub loop-f-preserved : goal.loop-f-preserved
 loop-f-preserved c = (
   omega (arith, c.loop-f-test.true),
-  rowed-step (faceRow (facesIn c.args.job.now c.args.index.now c.args.c) c.args.items.now c.args.stretches.now c.args.faces.now c.args.members.now c.args.kept.now c.args.k c.number_edges-count.new.numbers c.number_edges-count.result) 33576974 c.args.out.now c.args.at c.loop-f.out c.put_vertex_loops-p.new.1.1.1.0 c.loop-f.p c.loop-f.f c.put_vertex_loops-p.result c.loop-f.invariant.1
-      (face-row-wrote (facesIn c.args.job.now c.args.index.now c.args.c) c.args.items.now c.args.stretches.now c.args.faces.now c.args.members.now c.args.kept.now c.args.k c.number_edges-count.new.numbers c.number_edges-count.result c.loop-f.out c.put_face-q.new.1.1.1.1.0 c.put_loops-s.new.1.1.1.1.1.1.0 c.put_vertex_loops-p.new.1.1.1.0 c.loop-f.p c.put_face-q.result c.put_loops-s.result c.put_vertex_loops-p.result c.loop-f.f c.get-m.result c.get-m.ensures.0 c.put_face-q.ensures.0 c.put_loops-s.ensures.0 c.put_vertex_loops-p.ensures.0) (omega (arith, c.put_face-q.ensures.1, c.put_loops-s.ensures.1, c.put_vertex_loops-p.ensures.1)),
+  rowed-step (faceRow (facesIn c.args.job.now c.args.index.now c.args.c) c.args.items.now c.args.stretches.now c.args.faces.now c.args.members.now c.args.kept.now c.args.k c.number_edges-count.new.numbers c.number_edges-count.result) 33576974 c.args.out.now c.args.at c.loop-f.out c.put_vertex_loops-p.new.out c.loop-f.p c.loop-f.f c.put_vertex_loops-p.result c.loop-f.invariant.1
+      (face-row-wrote (facesIn c.args.job.now c.args.index.now c.args.c) c.args.items.now c.args.stretches.now c.args.faces.now c.args.members.now c.args.kept.now c.args.k c.number_edges-count.new.numbers c.number_edges-count.result c.loop-f.out c.put_face-q.new.out c.put_loops-s.new.out c.put_vertex_loops-p.new.out c.loop-f.p c.put_face-q.result c.put_loops-s.result c.put_vertex_loops-p.result c.loop-f.f c.get-m.result c.get-m.ensures.0 c.put_face-q.ensures.0 c.put_loops-s.ensures.0 c.put_vertex_loops-p.ensures.0) (omega (arith, c.put_face-q.ensures.1, c.put_loops-s.ensures.1, c.put_vertex_loops-p.ensures.1)),
 )
 
 pub returns : goal.returns

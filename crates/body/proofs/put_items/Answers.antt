@@ -21,7 +21,7 @@ pub loop-i-preserved : goal.loop-i-preserved
 loop-i-preserved c = let a = c.args in
     let l = c.loop-i in
     let x = c.put_item-p in
-    (omega (arith, c.loop-i-test.true), rowed-step (λ k. fieldBytes (itemRow a.numbers.now a.count (get_or a.part.now k 0))) 8 a.out.now a.at l.out x.new.1.1.1.0 l.p l.i x.result l.invariant.1 (subst (λ v. Wrote l.out l.p (fieldBytes (itemRow a.numbers.now a.count v)) x.new.1.1.1.0 x.result) c.get-x.ensures.0 x.ensures.0) x.ensures.1)
+    (omega (arith, c.loop-i-test.true), rowed-step (λ k. fieldBytes (itemRow a.numbers.now a.count (get_or a.part.now k 0))) 8 a.out.now a.at l.out x.new.out l.p l.i x.result l.invariant.1 (subst (λ v. Wrote l.out l.p (fieldBytes (itemRow a.numbers.now a.count v)) x.new.out x.result) c.get-x.ensures.0 x.ensures.0) x.ensures.1)
 
 pub returns : goal.returns
 returns c = let a = c.args in

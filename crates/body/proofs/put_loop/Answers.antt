@@ -94,4 +94,4 @@ returns c = let a = c.args in
     let x = c.put_items in
     let s = c.get-a in
     let e = c.get-e in
-    (loop-wrote a.numbers.now a.count a.items.now a.stretches.now a.faces.now a.f a.out.now h.new.out x.new.1.1.1.0 a.at h.result x.result a.k c.get.result s.result e.result c.get.ensures.0 c.if-get-f.false s.ensures.0 e.ensures.0 (omega (arith, inside, e.ensures.0)) h.ensures x.ensures.0, omega (arith, x.ensures.1, after-head a.out.now h.new.out a.at h.result 25 (2 * (e.result - s.result)) h.ensures))
+    (loop-wrote a.numbers.now a.count a.items.now a.stretches.now a.faces.now a.f a.out.now h.new.out x.new.out a.at h.result x.result a.k c.get.result s.result e.result c.get.ensures.0 c.if-get-f.false s.ensures.0 e.ensures.0 (omega (arith, inside, e.ensures.0)) h.ensures x.ensures.0, omega (arith, x.ensures.1, after-head a.out.now h.new.out a.at h.result 25 (2 * (e.result - s.result)) h.ensures))

@@ -17,7 +17,7 @@ pub loop-k-preserved : goal.loop-k-preserved
 loop-k-preserved c = let a = c.args in
     let l = c.loop-k in
     let x = c.put_loop-p in
-    (omega (arith, c.loop-k-test.true), rowed-step (loopRow a.items.now a.stretches.now a.faces.now a.numbers.now a.count a.f) 16390 a.out.now a.at l.out x.new.1.1.1.1.1.1.1.0 l.p l.k x.result l.invariant.1 x.ensures.0 x.ensures.1)
+    (omega (arith, c.loop-k-test.true), rowed-step (loopRow a.items.now a.stretches.now a.faces.now a.numbers.now a.count a.f) 16390 a.out.now a.at l.out x.new.out l.p l.k x.result l.invariant.1 x.ensures.0 x.ensures.1)
 
 pub returns : goal.returns
 returns c = let a = c.args in

@@ -13,4 +13,4 @@ returns c = let a = c.args in
     let s = c.put_shell_faces-size in
     let h = c.put_head-p in
     let x = c.put_shell_faces in
-    (shell-wrote a.boundaries.now a.members.now a.b a.out.now h.new.out x.new.1.1.1.0 a.at h.result x.result s.result s.ensures.0.1 h.ensures x.ensures.0, omega (arith, x.ensures.1, after-head a.out.now h.new.out a.at h.result 28 (c.put_shell_faces-size.result / 4) h.ensures))
+    (shell-wrote a.boundaries.now a.members.now a.b a.out.now h.new.out x.new.out a.at h.result x.result s.result s.ensures.0.1 h.ensures x.ensures.0, omega (arith, x.ensures.1, after-head a.out.now h.new.out a.at h.result 28 (c.put_shell_faces-size.result / 4) h.ensures))

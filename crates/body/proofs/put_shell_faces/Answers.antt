@@ -19,7 +19,7 @@ pub loop-f-preserved : goal.loop-f-preserved
 loop-f-preserved c = let a = c.args in
     let l = c.loop-f in
     let x = c.put_shell_face-p in
-    (omega (arith, c.loop-f-test.true), rowed-step (shellFaceRow a.boundaries.now a.members.now a.b) 4 a.out.now a.at l.out x.new.1.1.1.1.0 l.p l.f x.result l.invariant.1 x.ensures.0 x.ensures.1)
+    (omega (arith, c.loop-f-test.true), rowed-step (shellFaceRow a.boundaries.now a.members.now a.b) 4 a.out.now a.at l.out x.new.out l.p l.f x.result l.invariant.1 x.ensures.0 x.ensures.1)
 
 pub returns : goal.returns
 returns c = let a = c.args in

@@ -16,7 +16,7 @@ pub loop-i-preserved : goal.loop-i-preserved
 loop-i-preserved c = let a = c.args in
     let l = c.loop-i in
     let x = c.put_vertex_loop-p in
-    (omega (arith, c.loop-i-test.true), rowed-step (vertexLoopRow a.kept.now a.f) 10 a.out.now a.at l.out x.new.1.1.1.0 l.p l.i x.result l.invariant.1 x.ensures.0 x.ensures.1)
+    (omega (arith, c.loop-i-test.true), rowed-step (vertexLoopRow a.kept.now a.f) 10 a.out.now a.at l.out x.new.out l.p l.i x.result l.invariant.1 x.ensures.0 x.ensures.1)
 
 pub returns : goal.returns
 returns c = let a = c.args in

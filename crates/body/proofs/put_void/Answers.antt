@@ -12,4 +12,4 @@ returns-then-shell_home-o c = let a = c.args in (void-elsewhere a.boundaries.now
 pub returns : goal.returns
 returns c = let a = c.args in
     let x = c.put_shell in
-    (void-wrote a.boundaries.now a.members.now a.table.now a.o a.k c.shell_outer.result c.shell_outer.ensures a.out.now x.new.1.1.1.0 a.at x.result c.shell_home.result c.shell_boundary-b.result c.if-shell_outer.false c.shell_home.ensures.0 c.if-shell_home-o.false c.shell_boundary-b.ensures.0 x.ensures.0, x.ensures.1)
+    (void-wrote a.boundaries.now a.members.now a.table.now a.o a.k c.shell_outer.result c.shell_outer.ensures a.out.now x.new.out a.at x.result c.shell_home.result c.shell_boundary-b.result c.if-shell_outer.false c.shell_home.ensures.0 c.if-shell_home-o.false c.shell_boundary-b.ensures.0 x.ensures.0, x.ensures.1)

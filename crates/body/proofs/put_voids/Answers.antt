@@ -16,7 +16,7 @@ pub loop-k-preserved : goal.loop-k-preserved
 loop-k-preserved c = let a = c.args in
     let l = c.loop-k in
     let x = c.put_void-p in
-    (omega (arith, c.loop-k-test.true), rowed-step (voidRow a.boundaries.now a.members.now a.table.now a.o) 1030 a.out.now a.at l.out x.new.1.1.1.1.1.0 l.p l.k x.result l.invariant.1 x.ensures.0 x.ensures.1)
+    (omega (arith, c.loop-k-test.true), rowed-step (voidRow a.boundaries.now a.members.now a.table.now a.o) 1030 a.out.now a.at l.out x.new.out l.p l.k x.result l.invariant.1 x.ensures.0 x.ensures.1)
 
 pub returns : goal.returns
 returns c = let a = c.args in

@@ -24,7 +24,7 @@ loop-h-preserved c =
     let l = c.loop-h in
     let a = c.args in
     let fan-step-call = c.fan_step in
-    (omega arith, c.labels-in-loop-h-1.given ∙ l.invariant.1, fanned-step (edgesIn a.job.now a.c) (usesIn a.uses.now) a.twins.now a.removed.now a.succ.now l.labels fan-step-call.new.1.1.1.1.1.1.0 l.h l.invariant.2 fan-step-call.ensures)
+    (omega arith, c.labels-in-loop-h-1.given ∙ l.invariant.1, fanned-step (edgesIn a.job.now a.c) (usesIn a.uses.now) a.twins.now a.removed.now a.succ.now l.labels fan-step-call.new.labels l.h l.invariant.2 fan-step-call.ensures)
 
 pub returns : goal.returns
 returns c =

@@ -15,7 +15,7 @@ overflow_sub-end c =
     let s = c.get-start in
     let b = c.own_end-bound in
     lent-order (linksOf a.list.now a.nexts.now a.heads.now a.owners.now a.spots.now a.stretches.now) a.y a.x g.result o.result s.result b.result
-    c.pre.0 g.ensures.0 o.ensures.0 s.ensures.0 b.ensures
+    c.requires.0 g.ensures.0 o.ensures.0 s.ensures.0 b.ensures
 
 -- no goal for slice-bounds-turn-and-replace-start
 -- -- old need: slice-bounds-turn-and-replace-start
@@ -27,7 +27,7 @@ overflow_sub-end c =
 --     let s = c.get-start in
 --     let b = c.own_end-bound in
 --     lent-order (linksOf a.list.now a.nexts.now a.heads.now a.owners.now a.spots.now a.stretches.now) a.y a.x g.result o.result s.result b.result
---     c.pre.0 g.ensures.0 o.ensures.0 s.ensures.0 b.ensures
+--     c.requires.0 g.ensures.0 o.ensures.0 s.ensures.0 b.ensures
 
 -- no goal for slice-bounds-turn-and-replace-end
 -- -- old need: slice-bounds-turn-and-replace-end
@@ -39,7 +39,7 @@ overflow_sub-end c =
 --     let s = c.get-start in
 --     let b = c.own_end-bound in
 --     lent-codes (linksOf a.list.now a.nexts.now a.heads.now a.owners.now a.spots.now a.stretches.now) a.y a.x g.result o.result s.result b.result
---     c.pre.0 g.ensures.0 o.ensures.0 s.ensures.0 b.ensures
+--     c.requires.0 g.ensures.0 o.ensures.0 s.ensures.0 b.ensures
 
 -- no goal for overflow-sub-turn-and-replace-2
 -- -- old need: overflow-sub-turn-and-replace-2
@@ -51,7 +51,7 @@ overflow_sub-end c =
 --     let s = c.get-start in
 --     let b = c.own_end-bound in
 --     lent-order (linksOf a.list.now a.nexts.now a.heads.now a.owners.now a.spots.now a.stretches.now) a.y a.x g.result o.result s.result b.result
---     c.pre.0 g.ensures.0 o.ensures.0 s.ensures.0 b.ensures
+--     c.requires.0 g.ensures.0 o.ensures.0 s.ensures.0 b.ensures
 
 -- no goal for slice-bounds-turn-and-replace-start-2
 -- -- old need: slice-bounds-turn-and-replace-start-2
@@ -63,7 +63,7 @@ overflow_sub-end c =
 --     let s = c.get-start in
 --     let b = c.own_end-bound in
 --     lent-order (linksOf a.list.now a.nexts.now a.heads.now a.owners.now a.spots.now a.stretches.now) a.y a.x g.result o.result s.result b.result
---     c.pre.0 g.ensures.0 o.ensures.0 s.ensures.0 b.ensures
+--     c.requires.0 g.ensures.0 o.ensures.0 s.ensures.0 b.ensures
 
 -- no goal for slice-bounds-turn-and-replace-end-2
 -- -- old need: slice-bounds-turn-and-replace-end-2
@@ -75,7 +75,7 @@ overflow_sub-end c =
 --     let s = c.get-start in
 --     let b = c.own_end-bound in
 --     lent-nexts (linksOf a.list.now a.nexts.now a.heads.now a.owners.now a.spots.now a.stretches.now) a.y a.x g.result o.result s.result b.result
---     c.pre.0 g.ensures.0 o.ensures.0 s.ensures.0 b.ensures
+--     c.requires.0 g.ensures.0 o.ensures.0 s.ensures.0 b.ensures
 
 -- no goal for slice-bounds-turn-and-replace-end-3
 -- -- old need: slice-bounds-turn-and-replace-end-3
@@ -87,7 +87,7 @@ overflow_sub-end c =
 --     let s = c.get-start in
 --     let b = c.own_end-bound in
 --     lent-head (linksOf a.list.now a.nexts.now a.heads.now a.owners.now a.spots.now a.stretches.now) a.y a.x g.result o.result s.result b.result
---     c.pre.0 g.ensures.0 o.ensures.0 s.ensures.0 b.ensures
+--     c.requires.0 g.ensures.0 o.ensures.0 s.ensures.0 b.ensures
 
 pub turn_and_replace-requires : goal.turn_and_replace-requires
 turn_and_replace-requires c =
@@ -97,12 +97,12 @@ turn_and_replace-requires c =
     let s = c.get-start in
     let b = c.own_end-bound in (
       slot-after (linksOf a.list.now a.nexts.now a.heads.now a.owners.now a.spots.now a.stretches.now) a.y a.x g.result o.result s.result b.result
-          c.pre.0 g.ensures.0 o.ensures.0 s.ensures.0 b.ensures,
+          c.requires.0 g.ensures.0 o.ensures.0 s.ensures.0 b.ensures,
       next-after
-          (linksOf a.list.now a.nexts.now a.heads.now a.owners.now a.spots.now a.stretches.now) a.y a.x g.result o.result s.result b.result c.pre.0
+          (linksOf a.list.now a.nexts.now a.heads.now a.owners.now a.spots.now a.stretches.now) a.y a.x g.result o.result s.result b.result c.requires.0
           g.ensures.0 o.ensures.0 s.ensures.0 b.ensures,
       g.ensures.1,
-      c.pre.1,
+      c.requires.1,
     )
 
 -- no goal for overflow-sub-put
@@ -115,7 +115,7 @@ turn_and_replace-requires c =
 --     let s = c.get-start in
 --     let b = c.own_end-bound in
 --     end-there (linksOf a.list.now a.nexts.now a.heads.now a.owners.now a.spots.now a.stretches.now) a.y a.x g.result o.result s.result b.result
---     c.pre.0 g.ensures.0 o.ensures.0 s.ensures.0 b.ensures c.get-end.result c.get-end.ensures.0
+--     c.requires.0 g.ensures.0 o.ensures.0 s.ensures.0 b.ensures c.get-end.result c.get-end.ensures.0
 
 pub returns : goal.returns
 returns c =
@@ -125,6 +125,6 @@ returns c =
     let s = c.get-start in
     let b = c.own_end-bound in
     fuse-is (linksOf a.list.now a.nexts.now a.heads.now a.owners.now a.spots.now a.stretches.now) a.y a.x g.result o.result s.result b.result
-    c.pre.0 g.ensures.0 o.ensures.0 s.ensures.0 b.ensures c.get-end.result c.turn_and_replace.new.part
+    c.requires.0 g.ensures.0 o.ensures.0 s.ensures.0 b.ensures c.get-end.result c.turn_and_replace.new.part
     c.turn_and_replace.new.nexts c.turn_and_replace.new.head _ _ c.get-end.ensures.0 c.turn_and_replace.ensures
     c.put.ensures c.put-2.ensures

@@ -50,7 +50,7 @@ pub loop-k-preserved : goal.loop-k-preserved
 loop-k-preserved c =
     let a = c.args in
     let l = c.loop-k in
-    let next = upto-part a.list.now a.nexts.now a.heads.now a.stretches.now a.items.now c.requires l.items c.lay_loop.new.1.1.1.0 l.k c.get-head.result c.get-start.result c.get-end.result
+    let next = upto-part a.list.now a.nexts.now a.heads.now a.stretches.now a.items.now c.requires l.items c.lay_loop.new.part l.k c.get-head.result c.get-start.result c.get-end.result
     c.loop-k-test.true l.invariant.1 c.get-head.ensures.0 c.get-start.ensures.0 c.get-end.ensures.0 c.lay_loop.ensures in
     (refl, next.0, omega (arith, c.loop-k-test.true), next.1)
 

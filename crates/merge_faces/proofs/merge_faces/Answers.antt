@@ -14,12 +14,12 @@ loop-h-init c =
       omega arith,
       refl,
       merging-start (answersIn a.job.now a.index.now a.c) (facesIn a.job.now a.index.now a.c) (usesIn a.uses.now) a.twins.now
-          c.alone.new.parents (length a.labels.now) (c.pre.2 ∙ sym (length-faces a.job.now a.index.now a.c)) c.alone.ensures.1,
+          c.alone.new.parents (length a.labels.now) (c.requires.2 ∙ sym (length-faces a.job.now a.index.now a.c)) c.alone.ensures.1,
     )
 
 pub merge_use-r-requires : goal.merge_use-r-requires
 merge_use-r-requires c =
-    let l = c.loop-h in (c.pre.0, c.pre.1, omega (arith, c.count-n.ensures, c.pre.3), l.invariant.2.stands.ordered)
+    let l = c.loop-h in (c.requires.0, c.requires.1, omega (arith, c.count-n.ensures, c.requires.3), l.invariant.2.stands.ordered)
 
 pub returns-in-Refused : goal.returns-in-Refused
 returns-in-Refused c =
@@ -27,7 +27,7 @@ returns-in-Refused c =
     let a = c.args in
     let u = c.merge_use-r in
     merging-stop (answersIn a.job.now a.index.now a.c) (facesIn a.job.now a.index.now a.c) (usesIn a.uses.now) a.twins.now l.labels
-    u.last.1.1.1.1.1.0 l.joins l.h l.invariant.2 (omega (arith, c.count-n.ensures)) u.result _ _ c.in-Refused.is u.ensures
+    u.new.labels l.joins l.h l.invariant.2 (omega (arith, c.count-n.ensures)) u.result _ _ c.in-Refused.is u.ensures
 
 pub overflow_add-joins : goal.overflow_add-joins
 overflow_add-joins c =
@@ -37,9 +37,9 @@ overflow_add-joins c =
     omega (
       arith,
       merging-few (answersIn a.job.now a.index.now a.c) (facesIn a.job.now a.index.now a.c) (usesIn a.uses.now) a.twins.now
-          l.labels u.last.1.1.1.1.1.0 l.joins l.h l.invariant.2 u.result _ c.in-Done.is u.ensures,
+          l.labels u.new.labels l.joins l.h l.invariant.2 u.result _ c.in-Done.is u.ensures,
       c.count-n.ensures,
-      c.pre.3,
+      c.requires.3,
     )
 
 pub loop-h-preserved : goal.loop-h-preserved
@@ -50,7 +50,7 @@ loop-h-preserved c =
       omega arith,
       c.labels-in-loop-h-1.given ∙ l.invariant.1,
       merging-step (answersIn a.job.now a.index.now a.c) (facesIn a.job.now a.index.now a.c) (usesIn a.uses.now) a.twins.now l.labels
-          u.last.1.1.1.1.1.0 l.joins l.h l.invariant.2 (omega (arith, c.count-n.ensures)) u.result _ c.in-Done.is u.ensures,
+          u.new.labels l.joins l.h l.invariant.2 (omega (arith, c.count-n.ensures)) u.result _ c.in-Done.is u.ensures,
     )
 
 pub returns : goal.returns

@@ -36,7 +36,7 @@ returns-in_default c =
     let fs = facesIn a.job.now a.index.now a.c in
     let us = usesIn a.uses.now in
     λ g st. use-missing ans fs us a.twins.now a.h c.get-t.result c.get-t.ensures.0 c.use_face-a.result c.use_face-b.result
-    c.use_face-a.ensures.0 c.use_face-b.ensures.0 c.if-t-h.left c.if-a-b.left g c.ask_surface.result c.ask_surface.ensures
+    c.use_face-a.ensures.0 c.use_face-b.ensures.0 c.if-t-h.false c.if-a-b.false g c.ask_surface.result c.ask_surface.ensures
     c.in_default.is
 
 pub returns : goal.returns
@@ -46,8 +46,8 @@ returns c =
     let fs = facesIn a.job.now a.index.now a.c in
     let us = usesIn a.uses.now in
     λ g st.
-    subst (MergedTo c.join_by.result c.join_by.last.1.1.1.0 g)
+    subst (MergedTo c.join_by.result c.join_by.new.labels g)
     (sym (use-answered ans fs us a.twins.now a.h c.get-t.result c.get-t.ensures.0 c.use_face-a.result c.use_face-b.result
-    c.use_face-a.ensures.0 c.use_face-b.ensures.0 c.if-t-h.left c.if-a-b.left g c.ask_surface.result c.in-Says.given.0.0
+    c.use_face-a.ensures.0 c.use_face-b.ensures.0 c.if-t-h.false c.if-a-b.false g c.ask_surface.result c.in-Says.given.0.0
     c.ask_surface.ensures c.in-Says.is))
     (c.join_by.ensures g st)

@@ -23,14 +23,14 @@ returns-in-Refused c =
     let a = c.args in
     let l = c.loop-e in
     let pair-edge-call = c.pair_edge-r in
-    pairing-stop (answersIn a.job.now a.index.now a.c) (usesIn a.uses.now) a.c.edges l.e l.twins l.invariant.1 pair-edge-call.new.1.1.1.1.1.1.0 pair-edge-call.result c.loop-e-test.true pair-edge-call.ensures _ _ c.in-Refused.is
+    pairing-stop (answersIn a.job.now a.index.now a.c) (usesIn a.uses.now) a.c.edges l.e l.twins l.invariant.1 pair-edge-call.new.twins pair-edge-call.result c.loop-e-test.true pair-edge-call.ensures _ _ c.in-Refused.is
 
 pub loop-e-preserved : goal.loop-e-preserved
 loop-e-preserved c =
     let a = c.args in
     let l = c.loop-e in
     let pair-edge-call = c.pair_edge-r in
-    (c.twins-1.given ∙ l.invariant.0, pairing-more (answersIn a.job.now a.index.now a.c) (usesIn a.uses.now) a.c.edges l.e l.twins l.invariant.1 pair-edge-call.new.1.1.1.1.1.1.0 pair-edge-call.result c.loop-e-test.true pair-edge-call.ensures c.in-Done.is)
+    (c.twins-1.given ∙ l.invariant.0, pairing-more (answersIn a.job.now a.index.now a.c) (usesIn a.uses.now) a.c.edges l.e l.twins l.invariant.1 pair-edge-call.new.twins pair-edge-call.result c.loop-e-test.true pair-edge-call.ensures c.in-Done.is)
 
 pub returns-then-h-twins : goal.returns-then-h-twins
 returns-then-h-twins c =

@@ -11,20 +11,20 @@ returns-then-stage-eq-EDGES c =
     let a = c.args in
     let written = c.write_joining in
     let state = stateIn a.rows.now a.count a.items.now a.stretches.now a.faces.now 0 0 in
-    λ f H. edges-written a.job.now a.index.now H a.stage a.out.now state written.last.1.1.1.1.1.1.1.0 written.result c.if-stage-eq-EDGES.true written.ensures
+    λ f H. edges-written a.job.now a.index.now H a.stage a.out.now state written.new.out written.result c.if-stage-eq-EDGES.true written.ensures
 
 pub maximal_edges-r-requires : goal.maximal_edges-r-requires
 maximal_edges-r-requires c =
-    (c.pre.0.indexed, c.pre.3, c.pre.2, c.pre.1.laid, c.pre.0.nodup, names-low c.pre.0, c.pre.5)
+    (c.requires.0.indexed, c.requires.3, c.requires.2, c.requires.1.laid, c.requires.0.nodup, names-low c.requires.0, c.requires.5)
 
 pub on_joined-requires : goal.on_joined-requires
 on_joined-requires c =
     let a = c.args in
-    let pre = c.pre in
+    let pre = c.requires in
     let run = c.maximal_edges-r in
-    let rows = run.new.items in
-    let items = run.last.1.1.1.1.1.1.1.0 in
-    let stretches = run.last.1.1.1.1.1.1.1.1.0 in
+    let rows = run.new.rows in
+    let items = run.new.items in
+    let stretches = run.new.stretches in
     let tables =
     joined-tables a.job.now a.index.now a.c a.starts.now a.names.now a.rows.now rows a.count a.items.now items a.stretches.now stretches a.faces.now run.result
     c.in-Done.given.0.0 (names-low pre.0) pre.1 run.kept.1.1.1.1.1.1.1.0 run.kept.1.1.1.1.1.1.1.1.0
@@ -36,11 +36,11 @@ returns-in-Refused c =
     let a = c.args in
     let run = c.maximal_edges-r in
     let state = stateIn a.rows.now a.count a.items.now a.stretches.now a.faces.now 0 0 in
-    let rows = run.new.items in
-    let items = run.last.1.1.1.1.1.1.1.0 in
-    let stretches = run.last.1.1.1.1.1.1.1.1.0 in
-    let ran = run.ensures.0 a.faces.now c.pre.1.loops in
-    λ f H. edges-refused a.job.now a.index.now H a.stage a.out.now state rows items stretches a.faces.now run.result ran c.if-stage-eq-EDGES.left
+    let rows = run.new.rows in
+    let items = run.new.items in
+    let stretches = run.new.stretches in
+    let ran = run.ensures.0 a.faces.now c.requires.1.loops in
+    λ f H. edges-refused a.job.now a.index.now H a.stage a.out.now state rows items stretches a.faces.now run.result ran c.if-stage-eq-EDGES.false
     c.in-Refused.given.0.0 c.in-Refused.given.0.1.0 c.in-Refused.is
 
 pub returns-in-Done : goal.returns-in-Done
@@ -49,9 +49,9 @@ returns-in-Done c =
     let run = c.maximal_edges-r in
     let next = c.on_joined in
     let state = stateIn a.rows.now a.count a.items.now a.stretches.now a.faces.now 0 0 in
-    let rows = run.new.items in
-    let items = run.last.1.1.1.1.1.1.1.0 in
-    let stretches = run.last.1.1.1.1.1.1.1.1.0 in
-    let ran = run.ensures.0 a.faces.now c.pre.1.loops in
-    λ f H. edges-joined a.job.now a.index.now H a.stage a.out.now state rows items stretches a.faces.now run.result ran c.if-stage-eq-EDGES.left
-    c.in-Done.given.0.0 next.last.1.1.1.1.1.1.1.1.1.1.1.1.1.1.1.1.1.1.0 next.result c.in-Done.is (next.ensures f H)
+    let rows = run.new.rows in
+    let items = run.new.items in
+    let stretches = run.new.stretches in
+    let ran = run.ensures.0 a.faces.now c.requires.1.loops in
+    λ f H. edges-joined a.job.now a.index.now H a.stage a.out.now state rows items stretches a.faces.now run.result ran c.if-stage-eq-EDGES.false
+    c.in-Done.given.0.0 next.new.out next.result c.in-Done.is (next.ensures f H)

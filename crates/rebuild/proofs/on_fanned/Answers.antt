@@ -7,7 +7,7 @@ pub write_fans-requires : goal.write_fans-requires
 write_fans-requires c = ((settled-limited c.requires.0.settled).vertices, (settled-limited c.requires.0.settled).edges, settled-few c.requires.0.settled)
 
 pub returns-then-stage-eq-FANS : goal.returns-then-stage-eq-FANS
-returns-then-stage-eq-FANS c = fans-written c.requires.0 c.args.stage c.args.out.now c.write_fans.new.1.1.1.1.1.1.0 c.write_fans.result c.if-stage-eq-FANS.true c.write_fans.ensures
+returns-then-stage-eq-FANS c = fans-written c.requires.0 c.args.stage c.args.out.now c.write_fans.new.out c.write_fans.result c.if-stage-eq-FANS.true c.write_fans.ensures
 
 -- no goal for array-share-prefix-boundaries
 -- -- old need: array-share-prefix-boundaries
@@ -26,4 +26,4 @@ pub returns-in-Refused : goal.returns-in-Refused
 returns-in-Refused c = fans-refused c.requires.0 c.args.stage c.args.out.now c.points_clear-t.result c.in-Refused.given.0.0 c.in-Refused.given.0.1.0 c.if-stage-eq-FANS.false c.points_clear-t.ensures c.in-Refused.is
 
 pub returns-in-Done : goal.returns-in-Done
-returns-in-Done c = fans-on c.requires.0 c.args.stage c.args.out.now c.on_apart.new.1.1.1.1.1.1.1.1.1.1.1.1.1.1.1.1.1.1.1.1.0 c.on_apart.result c.points_clear-t.result c.if-stage-eq-FANS.false c.points_clear-t.ensures c.in-Done.is c.on_apart.ensures
+returns-in-Done c = fans-on c.requires.0 c.args.stage c.args.out.now c.on_apart.new.out c.on_apart.result c.points_clear-t.result c.if-stage-eq-FANS.false c.points_clear-t.ensures c.in-Done.is c.on_apart.ensures

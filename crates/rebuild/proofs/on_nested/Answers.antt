@@ -21,7 +21,7 @@ pub returns-then-stage-eq-LUMPS : goal.returns-then-stage-eq-LUMPS
 returns-then-stage-eq-LUMPS c =
     let a = c.args in
     let pre = c.requires in
-    λ f H. lumps-written a.job.now a.index.now H a.stage a.out.now a.rows.now a.k a.items.now a.stretches.now a.faces.now a.n a.table.now c.write_lumps.new.1.1.1.1.0 c.write_lumps.result c.if-stage-eq-LUMPS.true c.write_lumps.ensures
+    λ f H. lumps-written a.job.now a.index.now H a.stage a.out.now a.rows.now a.k a.items.now a.stretches.now a.faces.now a.n a.table.now c.write_lumps.new.out c.write_lumps.result c.if-stage-eq-LUMPS.true c.write_lumps.ensures
 
 pub lumps_clear-t-requires : goal.lumps_clear-t-requires
 lumps_clear-t-requires c =
@@ -68,4 +68,4 @@ pub returns : goal.returns
 returns c =
     let a = c.args in
     let pre = c.requires in
-    λ f H. lumps-on a.job.now a.index.now H a.stage a.out.now a.rows.now a.k a.items.now a.stretches.now a.faces.now a.n a.table.now pre.2 c.lumps_clear-t.result c.lumps_clear-t.ensures c.if-stage-eq-LUMPS.false c.count.result c.count.ensures c.put_body.new.1.1.1.1.1.1.1.1.1.1.1.1.1.1.1.1.1.0 c.put_body.result c.in-Done.is c.put_body.ensures
+    λ f H. lumps-on a.job.now a.index.now H a.stage a.out.now a.rows.now a.k a.items.now a.stretches.now a.faces.now a.n a.table.now pre.2 c.lumps_clear-t.result c.lumps_clear-t.ensures c.if-stage-eq-LUMPS.false c.count.result c.count.ensures c.put_body.new.out c.put_body.result c.in-Done.is c.put_body.ensures

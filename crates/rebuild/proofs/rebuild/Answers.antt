@@ -20,7 +20,7 @@ pub returns-in-Refused : goal.returns-in-Refused
 returns-in-Refused c = loops-refused c.requires c.args.stage c.args.out.now c.clear_edges-t.result c.in-Refused.given.0.0 c.in-Refused.given.0.1.0 c.clear_edges-t.ensures c.in-Refused.is
 
 pub returns-then-twins-le64 : goal.returns-then-twins-le64
-returns-then-twins-le64 c = loops-on c.requires c.args.stage c.args.out.now c.in_small_tables.new.1.1.1.1.1.1.1.1.1.1.1.0 c.in_small_tables.result c.clear_edges-t.result c.clear_edges-t.ensures c.in-Done.is c.in_small_tables.ensures
+returns-then-twins-le64 c = loops-on c.requires c.args.stage c.args.out.now c.in_small_tables.new.out c.in_small_tables.result c.clear_edges-t.result c.clear_edges-t.ensures c.in-Done.is c.in_small_tables.ensures
 
 pub returns : goal.returns
-returns c = loops-on c.requires c.args.stage c.args.out.now c.in_large_tables.new.1.1.1.1.1.1.1.1.1.1.1.0 c.in_large_tables.result c.clear_edges-t.result c.clear_edges-t.ensures c.in-Done.is c.in_large_tables.ensures
+returns c = loops-on c.requires c.args.stage c.args.out.now c.in_large_tables.new.out c.in_large_tables.result c.clear_edges-t.result c.clear_edges-t.ensures c.in-Done.is c.in_large_tables.ensures

@@ -16,7 +16,7 @@ returns-then-n-eq0 c =
 
 pub item_ends-first-requires : goal.item_ends-first-requires
 item_ends-first-requires c =
-    (c.pre.0, omega arith)
+    (c.requires.0, omega arith)
 
 pub returns-then-first : goal.returns-then-first
 returns-then-first c =
@@ -39,7 +39,7 @@ overflow_add-q c = omega arith
 
 pub item_ends-next-requires : goal.item_ends-next-requires
 item_ends-next-requires c =
-    (c.pre.0, omega arith)
+    (c.requires.0, omega arith)
 
 pub returns-then-next : goal.returns-then-next
 returns-then-next c =
@@ -53,7 +53,7 @@ returns-then-next-end c =
     let a = c.args in
     let l = c.loop-left in
     sym (l.invariant.3 ∙ joints-apart (pointsIn a.job.now a.c) (edgesIn a.job.now a.c) a.job.now a.body l.p l.left l.end l.invariant.1 l.invariant.2
-    c.item_ends-next.result c.loop-left-test.true c.item_ends-next.ensures c.if-next.left c.if-next-end.true)
+    c.item_ends-next.result c.loop-left-test.true c.item_ends-next.ensures c.if-next.false c.if-next-end.true)
 
 pub overflow_sub-left-in-loop-left : goal.overflow_sub-left-in-loop-left
 overflow_sub-left-in-loop-left c = omega arith
@@ -67,10 +67,10 @@ loop-left-preserved c =
     let l = c.loop-left in
     let are = c.item_ends-next.ensures in (
       omega arith,
-      sym (ap (λ (x : Ends). x.ring) are) ∙ c.if-next.left,
+      sym (ap (λ (x : Ends). x.ring) are) ∙ c.if-next.false,
       ap (λ (x : Ends). x.end) are,
       l.invariant.3 ∙ joints-on (pointsIn a.job.now a.c) (edgesIn a.job.now a.c) a.job.now a.body l.p l.left l.end l.invariant.1 l.invariant.2
-          c.item_ends-next.result c.loop-left-test.true are c.if-next.left c.if-next-end.false,
+          c.item_ends-next.result c.loop-left-test.true are c.if-next.false c.if-next-end.false,
     )
 
 pub returns : goal.returns
@@ -78,4 +78,4 @@ returns c =
     let a = c.args in
     let l = c.loop-left in
     sym (l.invariant.3 ∙ joints-last (pointsIn a.job.now a.c) (edgesIn a.job.now a.c) a.job.now a.body l.p l.left l.end l.invariant.1 l.invariant.2
-    c.item_ends-first.result c.loop-left-test.left c.item_ends-first.ensures c.if-first.left)
+    c.item_ends-first.result c.loop-left-test.false c.item_ends-first.ensures c.if-first.false)

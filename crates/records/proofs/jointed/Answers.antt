@@ -14,11 +14,11 @@ pub returns-then-is_ring : goal.returns-then-is_ring
 returns-then-is_ring c =
     let a = c.args in
     sym (jointed-ring (pointsIn a.job.now a.c) (edgesIn a.job.now a.c) a.job.now a.body a.n c.is_ring.result
-    c.if-n-ne1.left c.is_ring.ensures c.if-is_ring.true)
+    c.if-n-ne1.false c.is_ring.ensures c.if-is_ring.true)
 
 pub returns : goal.returns
 returns c =
     let a = c.args in
     c.joined-2.ensures
     ∙ sym (jointed-plain (pointsIn a.job.now a.c) (edgesIn a.job.now a.c) a.job.now a.body a.n c.is_ring.result
-    c.if-n-ne1.left c.is_ring.ensures c.if-is_ring.left)
+    c.if-n-ne1.false c.is_ring.ensures c.if-is_ring.false)

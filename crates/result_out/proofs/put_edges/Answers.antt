@@ -21,7 +21,7 @@ pub loop-e-preserved : goal.loop-e-preserved
 loop-e-preserved c =
     let a = c.args in
     let l = c.loop-e in
-    (l.invariant.0, omega arith, rowed-step (edgeRow a.rows.now) 7 a.out.now a.at l.out c.put_edge-p.new.1.1.0 l.p l.e c.put_edge-p.result (edge-short a.rows.now l.e) l.invariant.2 c.put_edge-p.ensures)
+    (l.invariant.0, omega arith, rowed-step (edgeRow a.rows.now) 7 a.out.now a.at l.out c.put_edge-p.new.out l.p l.e c.put_edge-p.result (edge-short a.rows.now l.e) l.invariant.2 c.put_edge-p.ensures)
 
 pub returns : goal.returns
 returns c =

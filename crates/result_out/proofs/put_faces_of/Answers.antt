@@ -19,7 +19,7 @@ loop-f-preserved c =
     let a = c.args in
     let l = c.loop-f in (
       omega arith,
-      rowed-step (faceOr a.boundaries.now a.members.now a.b) 1 a.out.now a.at l.out c.put_face-p.new.1.1.1.1.0 l.p l.f c.put_face-p.result (face-short a.boundaries.now a.members.now a.b l.f) l.invariant.1 c.put_face-p.ensures,
+      rowed-step (faceOr a.boundaries.now a.members.now a.b) 1 a.out.now a.at l.out c.put_face-p.new.out l.p l.f c.put_face-p.result (face-short a.boundaries.now a.members.now a.b l.f) l.invariant.1 c.put_face-p.ensures,
     )
 
 pub returns : goal.returns

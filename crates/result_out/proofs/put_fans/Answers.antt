@@ -23,7 +23,7 @@ loop-h-preserved c =
     let l = c.loop-h in (
       l.invariant.0,
       omega arith,
-      rowed-step (fanOr (edgesIn a.job.now a.c) (usesIn a.uses.now) a.removed.now a.fans.now a.starts.now) 3 a.out.now 0 l.out c.put_fan-p.new.1.1.1.1.1.1.1.0 l.p l.h c.put_fan-p.result
+      rowed-step (fanOr (edgesIn a.job.now a.c) (usesIn a.uses.now) a.removed.now a.fans.now a.starts.now) 3 a.out.now 0 l.out c.put_fan-p.new.out l.p l.h c.put_fan-p.result
           (fan-short (edgesIn a.job.now a.c) (usesIn a.uses.now) a.removed.now a.fans.now a.starts.now l.h) l.invariant.2 c.put_fan-p.ensures,
     )
 

@@ -45,9 +45,9 @@ loop-k-preserved c =
     let a = c.args in
     let l = c.loop-k in (
       omega arith,
-      rowed-step (faceLoopRow a.items.now a.stretches.now a.faces.now) 4098 a.out.now a.at l.out c.put_loop-p.new.1.1.0 l.p l.k c.put_loop-p.result
+      rowed-step (faceLoopRow a.items.now a.stretches.now a.faces.now) 4098 a.out.now a.at l.out c.put_loop-p.new.out l.p l.k c.put_loop-p.result
           (loop-short a.items.now a.stretches.now a.faces.now l.k c.requires.2) l.invariant.1
-          (loop-wrote a.items.now a.stretches.now a.faces.now l.out c.put_loop-p.new.1.1.0 l.p c.put_loop-p.result l.k c.get-face.result c.get-a.result c.get-e.result c.get-face.ensures.0 c.get-a.ensures.0 c.get-e.ensures.0 c.put_loop-p.ensures),
+          (loop-wrote a.items.now a.stretches.now a.faces.now l.out c.put_loop-p.new.out l.p c.put_loop-p.result l.k c.get-face.result c.get-a.result c.get-e.result c.get-face.ensures.0 c.get-a.ensures.0 c.get-e.ensures.0 c.put_loop-p.ensures),
     )
 
 pub returns : goal.returns

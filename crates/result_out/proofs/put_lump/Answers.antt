@@ -21,7 +21,7 @@ put_voids-requires c =
       omega (
         arith,
         c.requires.3,
-        place-after (lumpShellFields a.number (shellFaces a.boundaries.now a.members.now c.shell_boundary-b.result)) a.out.now c.put_shell-p.new.1.1.1.1.0 a.at c.put_shell-p.result c.put_shell-p.ensures,
+        place-after (lumpShellFields a.number (shellFaces a.boundaries.now a.members.now c.shell_boundary-b.result)) a.out.now c.put_shell-p.new.out a.at c.put_shell-p.result c.put_shell-p.ensures,
         shell-short a.boundaries.now a.members.now a.number c.shell_boundary-b.result c.requires.0,
       ),
     )
@@ -29,7 +29,7 @@ put_voids-requires c =
 pub returns-then-shell_outer : goal.returns-then-shell_outer
 returns-then-shell_outer c =
     let a = c.args in
-    lump-there a.boundaries.now a.members.now a.table.now a.n a.out.now c.put_shell-p.new.1.1.1.1.0 c.put_voids.new.1.1.1.1.1.1.0 a.at c.put_shell-p.result c.put_voids.result a.number a.k c.shell_boundary-b.result c.shell_home-home.result
+    lump-there a.boundaries.now a.members.now a.table.now a.n a.out.now c.put_shell-p.new.out c.put_voids.new.out a.at c.put_shell-p.result c.put_voids.result a.number a.k c.shell_boundary-b.result c.shell_home-home.result
     (sym c.shell_outer.ensures ∙ c.if-shell_outer.true) c.shell_boundary-b.ensures.0 c.shell_home-home.ensures.0 c.put_shell-p.ensures c.put_voids.ensures
 
 pub returns : goal.returns

@@ -27,9 +27,9 @@ loop-k-preserved c =
     let l = c.loop-k in (
       omega arith,
       number-step a.table.now l.number l.k c.flag_number-number.result c.shell_outer.result l.invariant.1 c.shell_outer.ensures c.flag_number-number.ensures.0,
-      rowed-step (lumpAt a.boundaries.now a.members.now a.table.now a.n) 66306 a.out.now 0 l.out c.put_lump-p.new.1.1.1.1.1.1.0 l.p l.k c.put_lump-p.result
+      rowed-step (lumpAt a.boundaries.now a.members.now a.table.now a.n) 66306 a.out.now 0 l.out c.put_lump-p.new.out l.p l.k c.put_lump-p.result
           (lump-short a.boundaries.now a.members.now a.table.now a.n l.k c.requires.0 c.requires.1) l.invariant.2
-          (lump-wrote a.boundaries.now a.members.now a.table.now a.n l.out c.put_lump-p.new.1.1.1.1.1.1.0 l.p c.put_lump-p.result l.number l.k l.invariant.1 c.put_lump-p.ensures),
+          (lump-wrote a.boundaries.now a.members.now a.table.now a.n l.out c.put_lump-p.new.out l.p c.put_lump-p.result l.number l.k l.invariant.1 c.put_lump-p.ensures),
     )
 
 pub returns : goal.returns

@@ -11,4 +11,4 @@ put_faces_of-requires c = let a = c.args in (c.requires.0, omega (arith, c.requi
 pub returns : goal.returns
 returns c =
     let a = c.args in
-    shell-row a.boundaries.now a.members.now a.b a.number c.count_faces_of-n.result a.out.now c.put_two-p.new.out c.put_faces_of.new.1.1.1.0 a.at c.put_two-p.result c.put_faces_of.result c.count_faces_of-n.ensures c.put_two-p.ensures c.put_faces_of.ensures
+    shell-row a.boundaries.now a.members.now a.b a.number c.count_faces_of-n.result a.out.now c.put_two-p.new.out c.put_faces_of.new.out a.at c.put_two-p.result c.put_faces_of.result c.count_faces_of-n.ensures c.put_two-p.ensures c.put_faces_of.ensures

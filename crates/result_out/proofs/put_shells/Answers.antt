@@ -21,9 +21,9 @@ loop-k-preserved c =
     let a = c.args in
     let l = c.loop-k in (
       omega arith,
-      rowed-step (shellAt a.boundaries.now a.members.now a.table.now) 258 a.out.now 0 l.out c.put_shell-p.new.1.1.1.1.0 l.p l.k c.put_shell-p.result
+      rowed-step (shellAt a.boundaries.now a.members.now a.table.now) 258 a.out.now 0 l.out c.put_shell-p.new.out l.p l.k c.put_shell-p.result
           (shell-short a.boundaries.now a.members.now (bodyKind (isOuter a.table.now l.k)) (boundaryIn a.table.now l.k) c.requires.1) l.invariant.1
-          (shell-wrote a.boundaries.now a.members.now a.table.now l.out c.put_shell-p.new.1.1.1.1.0 l.p c.put_shell-p.result l.k c.shell_boundary-b.result c.flag_number-outer.result c.shell_outer.result c.shell_boundary-b.ensures.0 c.shell_outer.ensures c.flag_number-outer.ensures.0 c.put_shell-p.ensures),
+          (shell-wrote a.boundaries.now a.members.now a.table.now l.out c.put_shell-p.new.out l.p c.put_shell-p.result l.k c.shell_boundary-b.result c.flag_number-outer.result c.shell_outer.result c.shell_boundary-b.ensures.0 c.shell_outer.ensures c.flag_number-outer.ensures.0 c.put_shell-p.ensures),
     )
 
 pub returns : goal.returns

@@ -8,7 +8,7 @@ use Rattle.result_out.proofs.put_void.Goals as goal
 pub returns-then-is_void : goal.returns-then-is_void
 returns-then-is_void c =
     let a = c.args in
-    void-there a.boundaries.now a.members.now a.table.now a.out.now c.put_shell.new.1.1.1.1.0 a.at c.put_shell.result a.home a.number a.k c.shell_boundary-b.result (sym c.is_void.ensures ∙ c.if-is_void.true) c.shell_boundary-b.ensures.0 c.put_shell.ensures
+    void-there a.boundaries.now a.members.now a.table.now a.out.now c.put_shell.new.out a.at c.put_shell.result a.home a.number a.k c.shell_boundary-b.result (sym c.is_void.ensures ∙ c.if-is_void.true) c.shell_boundary-b.ensures.0 c.put_shell.ensures
 
 pub returns : goal.returns
 returns c =

@@ -17,7 +17,7 @@ loop-k-preserved c =
     let a = c.args in
     let l = c.loop-k in (
       omega arith,
-      rowed-step (voidOr a.boundaries.now a.members.now a.table.now a.home a.number) 258 a.out.now a.at l.out c.put_void-p.new.1.1.1.1.1.1.0 l.p l.k c.put_void-p.result
+      rowed-step (voidOr a.boundaries.now a.members.now a.table.now a.home a.number) 258 a.out.now a.at l.out c.put_void-p.new.out l.p l.k c.put_void-p.result
           (void-short a.boundaries.now a.members.now a.table.now a.home a.number l.k c.requires.0) l.invariant.1 c.put_void-p.ensures,
     )
 

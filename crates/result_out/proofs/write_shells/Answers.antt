@@ -9,4 +9,4 @@ pub returns-then-out-needed : goal.returns-then-out-needed
 returns-then-out-needed c = let a = c.args in staged-refused (flat_map shellFields (shellsIn a.boundaries.now a.members.now a.n a.table.now)) _ _ c.put_shells-needed.result c.put_shells-needed.ensures a.out.now c.if-out-needed.true
 
 pub returns : goal.returns
-returns c = let a = c.args in staged-fits (flat_map shellFields (shellsIn a.boundaries.now a.members.now a.n a.table.now)) _ _ c.put_shells-needed.result c.put_shells-needed.ensures a.out.now c.put_shells.new.1.1.1.1.0 c.put_shells.result c.if-out-needed.false c.put_shells.ensures
+returns c = let a = c.args in staged-fits (flat_map shellFields (shellsIn a.boundaries.now a.members.now a.n a.table.now)) _ _ c.put_shells-needed.result c.put_shells-needed.ensures a.out.now c.put_shells.new.out c.put_shells.result c.if-out-needed.false c.put_shells.ensures

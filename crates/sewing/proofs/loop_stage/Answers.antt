@@ -7,4 +7,4 @@ use borrow.Author.Rules.{rules}
 use Rattle.sewing.proofs.loop_stage.Goals as goal
 
 pub returns : goal.returns
-returns c = (ends-as _ _ c.args.out.now c.run.new.1.1.0 c.run.result (sym (stage-loops c.args.job.now (length c.args.out.now))) c.run.ensures, promised c.args.job.now)
+returns c = (ends-as _ _ c.args.out.now c.run.new.out c.run.result (sym (stage-loops c.args.job.now (length c.args.out.now))) c.run.ensures, promised c.args.job.now)

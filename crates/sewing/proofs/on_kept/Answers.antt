@@ -22,11 +22,11 @@ returns-then-stage-eq-VERTEX_LOOPS c = let a = c.args in
 
 pub returns-then-c-le64 : goal.returns-then-c-le64
 returns-then-c-le64 c = let a = c.args in
-    ends-as _ _ a.out.now c.walk_in_small_tables.new.1.1.1.1.1.1.1.1.1.0 c.walk_in_small_tables.result (sym (keeping-on a.stage (jobIn a.job.now a.index.now a.c) (length a.out.now) (walkedIn a.c a.m (usesIn a.uses.now) a.twins.now (removedUses (usesIn a.uses.now) a.twins.now (groupsIn a.c a.m)) a.k a.kept.now) c.if-stage-eq-VERTEX_LOOPS.false)) c.walk_in_small_tables.ensures
+    ends-as _ _ a.out.now c.walk_in_small_tables.new.out c.walk_in_small_tables.result (sym (keeping-on a.stage (jobIn a.job.now a.index.now a.c) (length a.out.now) (walkedIn a.c a.m (usesIn a.uses.now) a.twins.now (removedUses (usesIn a.uses.now) a.twins.now (groupsIn a.c a.m)) a.k a.kept.now) c.if-stage-eq-VERTEX_LOOPS.false)) c.walk_in_small_tables.ensures
 
 pub walk_in_large_tables-requires : goal.walk_in_large_tables-requires
 walk_in_large_tables-requires c = let a = c.args in (c.requires, (opened-limited a.job.now a.index.now a.c c.requires.grouped.paired.opened).uses)
 
 pub returns : goal.returns
 returns c = let a = c.args in
-    ends-as _ _ a.out.now c.walk_in_large_tables.new.1.1.1.1.1.1.1.1.1.0 c.walk_in_large_tables.result (sym (keeping-on a.stage (jobIn a.job.now a.index.now a.c) (length a.out.now) (walkedIn a.c a.m (usesIn a.uses.now) a.twins.now (removedUses (usesIn a.uses.now) a.twins.now (groupsIn a.c a.m)) a.k a.kept.now) c.if-stage-eq-VERTEX_LOOPS.false)) c.walk_in_large_tables.ensures
+    ends-as _ _ a.out.now c.walk_in_large_tables.new.out c.walk_in_large_tables.result (sym (keeping-on a.stage (jobIn a.job.now a.index.now a.c) (length a.out.now) (walkedIn a.c a.m (usesIn a.uses.now) a.twins.now (removedUses (usesIn a.uses.now) a.twins.now (groupsIn a.c a.m)) a.k a.kept.now) c.if-stage-eq-VERTEX_LOOPS.false)) c.walk_in_large_tables.ensures

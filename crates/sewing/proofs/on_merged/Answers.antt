@@ -54,13 +54,13 @@ vertex_loops-r-requires c = let L = opened-limited c.args.job.now c.args.index.n
 
 pub on_kept-requires : goal.on_kept-requires
 on_kept-requires c = let a = c.args in
-    (kept-from a.job.now a.index.now a.c (usesIn a.uses.now) a.twins.now a.m c.requires.0 a.stage (length a.out.now) c.if-stage-eq-MERGE.false c.vertex_loops-r.result c.vertex_loops-r.new.1.1.1.1.0 c.vertex_loops-r.ensures.0 _ c.vertex_loops-r.ensures.1 c.in-Done.is)
+    (kept-from a.job.now a.index.now a.c (usesIn a.uses.now) a.twins.now a.m c.requires.0 a.stage (length a.out.now) c.if-stage-eq-MERGE.false c.vertex_loops-r.result c.vertex_loops-r.new.kept c.vertex_loops-r.ensures.0 _ c.vertex_loops-r.ensures.1 c.in-Done.is)
 
 pub returns-in-Refused : goal.returns-in-Refused
 returns-in-Refused c = let a = c.args in
-    ends-refused _ a.out.now _ _ (keep-refused a.job.now a.index.now a.c (usesIn a.uses.now) a.twins.now a.m c.requires.0 a.stage (length a.out.now) c.if-stage-eq-MERGE.false c.vertex_loops-r.result c.vertex_loops-r.new.1.1.1.1.0 c.vertex_loops-r.ensures.0 _ _ c.in-Refused.is)
+    ends-refused _ a.out.now _ _ (keep-refused a.job.now a.index.now a.c (usesIn a.uses.now) a.twins.now a.m c.requires.0 a.stage (length a.out.now) c.if-stage-eq-MERGE.false c.vertex_loops-r.result c.vertex_loops-r.new.kept c.vertex_loops-r.ensures.0 _ _ c.in-Refused.is)
 
 pub returns-in-Done : goal.returns-in-Done
 returns-in-Done c = let a = c.args in
-    let K = kept-from a.job.now a.index.now a.c (usesIn a.uses.now) a.twins.now a.m c.requires.0 a.stage (length a.out.now) c.if-stage-eq-MERGE.false c.vertex_loops-r.result c.vertex_loops-r.new.1.1.1.1.0 c.vertex_loops-r.ensures.0 _ c.vertex_loops-r.ensures.1 c.in-Done.is in
-    ends-as _ _ a.out.now c.on_kept.new.1.1.1.1.1.1.1.1.1.0 c.on_kept.result (sym (keep-on a.job.now a.index.now a.c (usesIn a.uses.now) a.twins.now a.m c.requires.0 a.stage (length a.out.now) c.if-stage-eq-MERGE.false c.vertex_loops-r.new.1.1.1.1.0 _ K)) c.on_kept.ensures
+    let K = kept-from a.job.now a.index.now a.c (usesIn a.uses.now) a.twins.now a.m c.requires.0 a.stage (length a.out.now) c.if-stage-eq-MERGE.false c.vertex_loops-r.result c.vertex_loops-r.new.kept c.vertex_loops-r.ensures.0 _ c.vertex_loops-r.ensures.1 c.in-Done.is in
+    ends-as _ _ a.out.now c.on_kept.new.out c.on_kept.result (sym (keep-on a.job.now a.index.now a.c (usesIn a.uses.now) a.twins.now a.m c.requires.0 a.stage (length a.out.now) c.if-stage-eq-MERGE.false c.vertex_loops-r.new.kept _ K)) c.on_kept.ensures

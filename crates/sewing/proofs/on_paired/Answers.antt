@@ -13,7 +13,7 @@ use Rattle.sewing.proofs.on_paired.Goals as goal
 pub write_twins-requires : goal.write_twins-requires
 write_twins-requires c =
     let a = c.args in
-    let P = c.pre.0 in
+    let P = c.requires.0 in
     omega (arith, paired-size a.job.now a.index.now a.c (usesIn a.uses.now) a.twins.now P, (opened-limited a.job.now a.index.now a.c P.opened).uses)
 
 pub returns-then-stage-eq-PAIR : goal.returns-then-stage-eq-PAIR
@@ -28,7 +28,7 @@ returns-then-stage-eq-PAIR c =
 -- array-borrow-prefix-groups : goal.array-borrow-prefix-groups
 -- array-borrow-prefix-groups c =
 --     let a = c.args in
---     (opened-limited a.job.now a.index.now a.c c.pre.0.opened).faces
+--     (opened-limited a.job.now a.index.now a.c c.requires.0.opened).faces
 
 -- no goal for slice-aggregate-merge-faces
 -- -- old need: slice-aggregate-merge-faces
@@ -36,13 +36,13 @@ returns-then-stage-eq-PAIR c =
 -- unfolding zeros
 -- slice-aggregate-merge-faces c =
 --     let a = c.args in
---     part-size a.c.faces 256 (opened-limited a.job.now a.index.now a.c c.pre.0.opened).faces
+--     part-size a.c.faces 256 (opened-limited a.job.now a.index.now a.c c.requires.0.opened).faces
 
 pub merge_faces-r-requires : goal.merge_faces-r-requires
 unfolding zeros
 merge_faces-r-requires c =
     let a = c.args in
-    let P = c.pre.0 in
+    let P = c.requires.0 in
     let L = opened-limited a.job.now a.index.now a.c P.opened in
     (P.opened.indexed, L.faces, sym (part-size a.c.faces 256 L.faces), paired-few a.job.now a.index.now a.c (usesIn a.uses.now) a.twins.now P)
 
@@ -50,14 +50,14 @@ pub faces_of-m-requires : goal.faces_of-m-requires
 unfolding zeros
 faces_of-m-requires c =
     let a = c.args in
-    let P = c.pre.0 in
+    let P = c.requires.0 in
     let L = opened-limited a.job.now a.index.now a.c P.opened in
     let x = c.merge_faces-r in
-    let l = x.last.1.1.1.1.1.0 in
+    let l = x.new.labels in
     let e = x.kept.1.1.1.1.1.0 in (
       L.faces,
       lent-long 256 a.c.faces l e L.faces,
-      groups-lowest a.job.now a.index.now a.c (usesIn a.uses.now) a.twins.now P a.stage (length a.out.now) c.if-stage-eq-PAIR.left x.result l x.ensures
+      groups-lowest a.job.now a.index.now a.c (usesIn a.uses.now) a.twins.now P a.stage (length a.out.now) c.if-stage-eq-PAIR.false x.result l x.ensures
           _ (lent-part 256 a.c.faces l e L.faces) _ c.in-Done.is,
     )
 
@@ -65,15 +65,15 @@ pub on_merged-requires : goal.on_merged-requires
 unfolding zeros
 on_merged-requires c =
     let a = c.args in
-    let P = c.pre.0 in
+    let P = c.requires.0 in
     let L = opened-limited a.job.now a.index.now a.c P.opened in
     let x = c.merge_faces-r in
     let y = c.faces_of-m in
-    let l = x.last.1.1.1.1.1.0 in
+    let l = x.new.labels in
     let e = x.kept.1.1.1.1.1.0 in (
-      grouped-from a.job.now a.index.now a.c (usesIn a.uses.now) a.twins.now P a.stage (length a.out.now) c.if-stage-eq-PAIR.left x.result l x.ensures
+      grouped-from a.job.now a.index.now a.c (usesIn a.uses.now) a.twins.now P a.stage (length a.out.now) c.if-stage-eq-PAIR.false x.result l x.ensures
           _ (lent-part 256 a.c.faces l e L.faces) _ c.in-Done.is y.result (lent-long 256 a.c.faces l e L.faces) y.ensures,
-      c.pre.1,
+      c.requires.1,
     )
 
 pub returns-in-Refused : goal.returns-in-Refused
@@ -81,8 +81,8 @@ returns-in-Refused c =
     let a = c.args in
     let x = c.merge_faces-r in
     ends-refused _ a.out.now _ _
-    (merge-refused a.job.now a.index.now a.c (usesIn a.uses.now) a.twins.now c.pre.0 a.stage (length a.out.now) c.if-stage-eq-PAIR.left x.result
-    x.last.1.1.1.1.1.0 x.ensures _ _ c.in-Refused.is)
+    (merge-refused a.job.now a.index.now a.c (usesIn a.uses.now) a.twins.now c.requires.0 a.stage (length a.out.now) c.if-stage-eq-PAIR.false x.result
+    x.new.labels x.ensures _ _ c.in-Refused.is)
 
 pub returns-in-Done : goal.returns-in-Done
 unfolding zeros
@@ -93,10 +93,10 @@ returns-in-Done c =
     let x = c.merge_faces-r in
     let y = c.faces_of-m in
     let z = c.on_merged in
-    let l = x.new.1.1.1.1.1.0 in
+    let l = x.new.labels in
     let e = x.auto.1.1.1.1.1.0 in
     let G =
     grouped-from a.job.now a.index.now a.c (usesIn a.uses.now) a.twins.now P a.stage (length a.out.now) c.if-stage-eq-PAIR.false x.result l x.ensures
     _ (lent-part 256 a.c.faces l e L.faces) _ c.in-Done.is y.result (lent-long 256 a.c.faces l e L.faces) y.ensures in
-    ends-as _ _ a.out.now z.last.1.1.1.1.1.1.1.1.0 z.result
+    ends-as _ _ a.out.now z.new.out z.result
     (sym (merge-on a.job.now a.index.now a.c (usesIn a.uses.now) a.twins.now P a.stage (length a.out.now) c.if-stage-eq-PAIR.false y.result G)) z.ensures

@@ -100,5 +100,5 @@ returns c = let a = c.args in
     let long : 2 * n ≤ 4096 = omega (arith, c.requires.few) in
     let ew = lent-part 2048 n w c.loops.auto.1.1.0 c.requires.few in
     let es = lent-part 4096 (2 * n) s c.loops.auto.1.1.1.0 long in
-    ends-staged (roundRows (usesIn a.uses.now) (numbersIn a.c a.m) (loopsIn c.loops.result (take n (w ++ drop n (zeros 2048))) (take (2 * n) (s ++ drop (2 * n) (zeros 4096))))) (roundRows (usesIn a.uses.now) (numbersIn a.c a.m) (loopsOf (circuits a.removed.now a.succ.now))) a.out.now c.write_loops.new.1.1.1.1.1.0 c.write_loops.result
+    ends-staged (roundRows (usesIn a.uses.now) (numbersIn a.c a.m) (loopsIn c.loops.result (take n (w ++ drop n (zeros 2048))) (take (2 * n) (s ++ drop (2 * n) (zeros 4096))))) (roundRows (usesIn a.uses.now) (numbersIn a.c a.m) (loopsOf (circuits a.removed.now a.succ.now))) a.out.now c.write_loops.new.out c.write_loops.result
     (ap (roundRows (usesIn a.uses.now) (numbersIn a.c a.m)) (loops-back c.loops.result (take n (w ++ drop n (zeros 2048))) w (take (2 * n) (s ++ drop (2 * n) (zeros 4096))) s ew es ∙ c.loops.ensures.0)) refl c.write_loops.ensures

@@ -14,4 +14,4 @@ read-requires c = let a = c.args in
 
 pub returns : goal.returns
 returns c = let a = c.args in
-    ends-as _ _ a.out.now c.on_read.new.1.1.1.1.1.1.1.1.0 c.on_read.result (sym (ap (afterReading a.stage (jobIn a.job.now a.index.now a.c) (length a.out.now)) c.read.ensures)) c.on_read.ensures
+    ends-as _ _ a.out.now c.on_read.new.out c.on_read.result (sym (ap (afterReading a.stage (jobIn a.job.now a.index.now a.c) (length a.out.now)) c.read.ensures)) c.on_read.ensures

@@ -14,4 +14,4 @@ on_loaded-requires c = c.requires
 
 pub returns : goal.returns
 returns c = let a = c.args in
-    ends-as _ _ a.out.now c.on_loaded.new.1.1.1.1.0 c.on_loaded.result (sym (sew-solid a.job.now a.index.now a.c (length a.out.now) c.requires c.if-c-eq0.false)) c.on_loaded.ensures
+    ends-as _ _ a.out.now c.on_loaded.new.out c.on_loaded.result (sym (sew-solid a.job.now a.index.now a.c (length a.out.now) c.requires c.if-c-eq0.false)) c.on_loaded.ensures

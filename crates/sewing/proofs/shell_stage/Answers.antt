@@ -6,4 +6,4 @@ use borrow.Author.Rules.{rules}
 use Rattle.sewing.proofs.shell_stage.Goals as goal
 
 pub returns : goal.returns
-returns c = ends-as _ _ c.args.out.now c.run.new.1.1.0 c.run.result (sym (stage-shells c.args.job.now (length c.args.out.now))) c.run.ensures
+returns c = ends-as _ _ c.args.out.now c.run.new.out c.run.result (sym (stage-shells c.args.job.now (length c.args.out.now))) c.run.ensures

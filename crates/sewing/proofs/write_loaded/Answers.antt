@@ -15,37 +15,37 @@ use Rattle.sewing.proofs.write_loaded.Goals as goal
 
 pub overflow_mul-uses : goal.overflow_mul-uses
 overflow_mul-uses c =
-    omega (arith, (opened-limited c.args.job.now c.args.index.now c.args.c c.pre).uses)
+    omega (arith, (opened-limited c.args.job.now c.args.index.now c.args.c c.requires).uses)
 
 -- no goal for array-borrow-prefix-uses
 -- -- old need: array-borrow-prefix-uses
 -- array-borrow-prefix-uses : goal.array-borrow-prefix-uses
 -- array-borrow-prefix-uses c =
---     omega (arith, (opened-limited c.args.job.now c.args.index.now c.args.c c.pre).uses)
+--     omega (arith, (opened-limited c.args.job.now c.args.index.now c.args.c c.requires).uses)
 
 -- no goal for slice-aggregate-read
 -- -- old need: slice-aggregate-read
 -- slice-aggregate-read : goal.slice-aggregate-read
 -- unfolding zeros
 -- slice-aggregate-read c =
---     let limits = opened-limited c.args.job.now c.args.index.now c.args.c c.pre in
+--     let limits = opened-limited c.args.job.now c.args.index.now c.args.c c.requires in
 --     part-size (4 * c.args.c.uses) 8192 (omega (arith, limits.uses))
 
 pub read-requires : goal.read-requires
 unfolding zeros
 read-requires c =
     let a = c.args in
-    let limits = opened-limited a.job.now a.index.now a.c c.pre in (
+    let limits = opened-limited a.job.now a.index.now a.c c.requires in (
       limits.loops,
       limits.faces,
       limits.uses,
       sym (part-size (4 * a.c.uses) 8192 (omega (arith, limits.uses))),
-      (opened-counted a.job.now a.index.now a.c c.pre).uses,
+      (opened-counted a.job.now a.index.now a.c c.requires).uses,
     )
 
 pub overflow_mul-uses-2 : goal.overflow_mul-uses-2
 overflow_mul-uses-2 c =
-    omega (arith, (opened-limited c.args.job.now c.args.index.now c.args.c c.pre).uses)
+    omega (arith, (opened-limited c.args.job.now c.args.index.now c.args.c c.requires).uses)
 
 -- no goal for array-share-prefix-uses
 -- -- old need: array-share-prefix-uses
@@ -53,8 +53,8 @@ overflow_mul-uses-2 c =
 -- unfolding zeros
 -- array-share-prefix-uses c =
 --     let a = c.args in
---     let limits = opened-limited a.job.now a.index.now a.c c.pre in
---     lent-room 8192 (4 * a.c.uses) c.read.last.1.1.1.0 c.read.kept.1.1.1.0 (omega (arith, limits.uses))
+--     let limits = opened-limited a.job.now a.index.now a.c c.requires in
+--     lent-room 8192 (4 * a.c.uses) c.read.new.uses c.read.kept.1.1.1.0 (omega (arith, limits.uses))
 
 -- no goal for slice-aggregate-write-read
 -- -- old need: slice-aggregate-write-read
@@ -62,25 +62,25 @@ overflow_mul-uses-2 c =
 -- unfolding zeros
 -- slice-aggregate-write-read c =
 --     let a = c.args in
---     let limits = opened-limited a.job.now a.index.now a.c c.pre in
---     lent-cut 8192 (4 * a.c.uses) c.read.last.1.1.1.0 c.read.kept.1.1.1.0 (omega (arith, limits.uses))
+--     let limits = opened-limited a.job.now a.index.now a.c c.requires in
+--     lent-cut 8192 (4 * a.c.uses) c.read.new.uses c.read.kept.1.1.1.0 (omega (arith, limits.uses))
 
 pub write_read-requires : goal.write_read-requires
 unfolding zeros
 write_read-requires c =
     let a = c.args in
-    let limits = opened-limited a.job.now a.index.now a.c c.pre in
-    let part = lent-part 8192 (4 * a.c.uses) c.read.last.1.1.1.0 c.read.kept.1.1.1.0 (omega (arith, limits.uses)) in
-    omega (arith, ap (λ l. length (usesIn l)) part, ap length c.read.ensures, (opened-counted a.job.now a.index.now a.c c.pre).uses, limits.uses)
+    let limits = opened-limited a.job.now a.index.now a.c c.requires in
+    let part = lent-part 8192 (4 * a.c.uses) c.read.new.uses c.read.kept.1.1.1.0 (omega (arith, limits.uses)) in
+    omega (arith, ap (λ l. length (usesIn l)) part, ap length c.read.ensures, (opened-counted a.job.now a.index.now a.c c.requires).uses, limits.uses)
 
 pub returns : goal.returns
 unfolding zeros
 returns c =
     let a = c.args in
-    let limits = opened-limited a.job.now a.index.now a.c c.pre in
-    let part = lent-part 8192 (4 * a.c.uses) c.read.last.1.1.1.0 c.read.kept.1.1.1.0 (omega (arith, limits.uses)) in
+    let limits = opened-limited a.job.now a.index.now a.c c.requires in
+    let part = lent-part 8192 (4 * a.c.uses) c.read.new.uses c.read.kept.1.1.1.0 (omega (arith, limits.uses)) in
     let same = ap usesIn part ∙ c.read.ensures in
     ends-staged _ (flat_map useFields (usesOf (jobIn a.job.now a.index.now a.c))) a.out.now c.write_read.new.out c.write_read.result
     (ap (flat_map useFields) same)
-    (read-written a.job.now a.index.now a.c _ (length a.out.now) (record { opened = c.pre; uses = refl }))
+    (read-written a.job.now a.index.now a.c _ (length a.out.now) (record { opened = c.requires; uses = refl }))
     c.write_read.ensures

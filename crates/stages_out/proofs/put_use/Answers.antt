@@ -9,7 +9,7 @@ pub put_two-requires : goal.put_two-requires
 put_two-requires c =
     omega (
       arith,
-      c.pre,
+      c.requires,
       place-after (c.wide.result ∷ c.wide-2.result ∷ []) c.args.out.now c.put_two-p.new.out c.args.at
           c.put_two-p.result c.put_two-p.ensures,
     )

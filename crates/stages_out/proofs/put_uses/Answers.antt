@@ -6,5 +6,5 @@ use Rattle.stages_out.proofs.put_uses.Goals as goal
 pub returns : goal.returns
 returns c =
     let a = c.args in
-    record-rows (usesIn a.uses.now) c.records_of-records.result a.out.now c.put_records.last.1.1.0 c.put_records.result
+    record-rows (usesIn a.uses.now) c.records_of-records.result a.out.now c.put_records.new.out c.put_records.result
     c.count.result c.count.ensures c.records_of-records.ensures c.put_records.ensures

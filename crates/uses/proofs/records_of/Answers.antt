@@ -15,17 +15,17 @@ loop-h-init c =
 -- -- old need: overflow-mul-records
 -- mul-records : goal.overflow-mul-records
 -- mul-records c =
---     omega (arith, c.loop-h-test.true, c.loop-h.invariant.0, c.pre)
+--     omega (arith, c.loop-h-test.true, c.loop-h.invariant.0, c.requires)
 
 -- no goal for array-set-from-records
 -- -- old need: array-set-from-records
 -- array-set-from-records : goal.array-set-from-records
 -- array-set-from-records c =
---     omega (arith, c.loop-h-test.true, c.loop-h.invariant.0, c.pre)
+--     omega (arith, c.loop-h-test.true, c.loop-h.invariant.0, c.requires)
 
 pub overflow_add-h : goal.overflow_add-h
 overflow_add-h c =
-    omega (arith, c.loop-h-test.true, c.loop-h.invariant.0, c.pre)
+    omega (arith, c.loop-h-test.true, c.loop-h.invariant.0, c.requires)
 
 pub loop-h-smaller : goal.loop-h-smaller
 loop-h-smaller c =
@@ -38,12 +38,12 @@ loop-h-preserved c =
       l.invariant.0,
       omega (arith, c.loop-h-test.true),
       records-more us l.records _ l.h c.record_of.result l.invariant.2
-          (omega (arith, c.loop-h-test.true, l.invariant.0, c.pre)) c.record_of.ensures refl,
+          (omega (arith, c.loop-h-test.true, l.invariant.0, c.requires)) c.record_of.ensures refl,
     )
 
 pub returns : goal.returns
 returns c =
     let l = c.loop-h in
     let us = usesIn c.args.uses.now in
-    let e : l.h ≡ length us = omega (arith, c.loop-h-test.left, l.invariant.0, l.invariant.1) in
+    let e : l.h ≡ length us = omega (arith, c.loop-h-test.false, l.invariant.0, l.invariant.1) in
     subst (Records us l.records) e l.invariant.2

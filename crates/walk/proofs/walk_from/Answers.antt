@@ -26,10 +26,10 @@ pub overflow_add-so : goal.overflow_add-so
 overflow_add-so c = omega (arith, c.requires.3.0)
 
 pub put-requires-2 : goal.put-requires-2
-put-requires-2 c = omega (arith, walking-room c.args.removed.now c.args.succ.now c.requires.0 c.args.h c.args.visited.now c.args.ways.now c.args.stretches.now c.args.so.count c.args.so.at c.requires.2 c.requires.3 (sym c.if-is_set.false ∙ c.is_set.ensures) (sym c.if-is_set-2.false ∙ c.is_set-2.ensures) c.walk_loop-end.new.ways c.walk_loop-end.new.1.1.1.0 c.walk_loop-end.result c.walk_loop-end.ensures)
+put-requires-2 c = omega (arith, walking-room c.args.removed.now c.args.succ.now c.requires.0 c.args.h c.args.visited.now c.args.ways.now c.args.stretches.now c.args.so.count c.args.so.at c.requires.2 c.requires.3 (sym c.if-is_set.false ∙ c.is_set.ensures) (sym c.if-is_set-2.false ∙ c.is_set-2.ensures) c.walk_loop-end.new.visited c.walk_loop-end.new.ways c.walk_loop-end.result c.walk_loop-end.ensures)
 
 pub overflow_add-result : goal.overflow_add-result
 overflow_add-result c = omega (arith, c.requires.3.0)
 
 pub returns : goal.returns
-returns c = walking-starts c.args.removed.now c.args.succ.now c.requires.0 c.args.h c.args.visited.now c.args.ways.now c.args.stretches.now c.args.so.count c.args.so.at c.requires.2 c.requires.3 (sym c.if-is_set.false ∙ c.is_set.ensures) (sym c.if-is_set-2.false ∙ c.is_set-2.ensures) c.walk_loop-end.new.ways c.walk_loop-end.new.1.1.1.0 c.walk_loop-end.result c.walk_loop-end.ensures c.put.new.t c.put-2.new.t c.put.ensures c.put-2.ensures
+returns c = walking-starts c.args.removed.now c.args.succ.now c.requires.0 c.args.h c.args.visited.now c.args.ways.now c.args.stretches.now c.args.so.count c.args.so.at c.requires.2 c.requires.3 (sym c.if-is_set.false ∙ c.is_set.ensures) (sym c.if-is_set-2.false ∙ c.is_set-2.ensures) c.walk_loop-end.new.visited c.walk_loop-end.new.ways c.walk_loop-end.result c.walk_loop-end.ensures c.put.new.t c.put-2.new.t c.put.ensures c.put-2.ensures
