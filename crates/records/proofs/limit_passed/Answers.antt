@@ -25,7 +25,7 @@ returns-in-FaceRecord c = simp c.in-FaceRecord.is
 pub returns-in-LoopRecord : goal.returns-in-LoopRecord
 unfolding limitPassed
 returns-in-LoopRecord c = simp (
-  ← c.loops-passed.ensures,
+  ← c.loops_passed.ensures,
   c.in-LoopRecord.is,
 )
 
