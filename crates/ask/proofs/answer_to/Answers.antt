@@ -13,19 +13,19 @@ find-f-requires c =
 pub overflow_add-p : goal.overflow_add-p
 overflow_add-p c =
     let find = c.find-f in
-    omega (arith, place-fits find.result c.in-At.given.0.0 find.ensures.1 c.in-At.is)
+    omega (arith, place-fits find.result c.in-At.p find.ensures.1 c.in-At.is)
 
 pub overflow_add-p-in-At : goal.overflow_add-p-in-At
 overflow_add-p-in-At c =
     let find = c.find-f in
     let told = c.in-At in
-    omega (arith, place-fits find.result told.given.0.0 find.ensures.1 told.is, c.requires.1.padded.words)
+    omega (arith, place-fits find.result told.p find.ensures.1 told.is, c.requires.1.padded.words)
 
 pub word-requires : goal.word-requires
 word-requires c =
     let find = c.find-f in
     let told = c.in-At in
-    omega (arith, place-fits find.result told.given.0.0 find.ensures.1 told.is, c.requires.1.padded.words)
+    omega (arith, place-fits find.result told.p find.ensures.1 told.is, c.requires.1.padded.words)
 
 pub returns-in-At : goal.returns-in-At
 returns-in-At c =
@@ -33,7 +33,7 @@ returns-in-At c =
     let pre = c.requires in
     let find = c.find-f in
     let told = c.in-At in
-    value-found a.job.now a.index.now a.c a.q find.result pre.0 pre.1 find.ensures.0 told.given.0.0 c.word.result pre.2 told.is c.word.ensures.0
+    value-found a.job.now a.index.now a.c a.q find.result pre.0 pre.1 find.ensures.0 told.p c.word.result pre.2 told.is c.word.ensures.0
 
 pub returns-in-Missing : goal.returns-in-Missing
 returns-in-Missing c =

@@ -23,7 +23,7 @@ returns-in_default c =
 pub word-n-requires : goal.word-n-requires
 word-n-requires c =
     let find = c.find-f in
-    omega (arith, place-fits find.result c.in-At.given.0.0 find.ensures.1 c.in-At.is)
+    omega (arith, place-fits find.result c.in-At.p find.ensures.1 c.in-At.is)
 
 pub returns-then-n-le1 : goal.returns-then-n-le1
 returns-then-n-le1 c =
@@ -32,13 +32,13 @@ returns-then-n-le1 c =
     let about-one = c.about_one in
     let find = c.find-f in
     let told = c.in-At in
-    (radial-none a.job.now a.index.now a.c a.e about-one.result find.result pre.0 (shaped-as about-one.result (aboutOne 7 a.e) about-one.ensures (shaped-one 7 a.e (omega arith) pre.1)) about-one.ensures find.ensures.0 told.given.0.0 c.word-n.result told.is c.word-n.ensures.0 c.if-n-le1.true, tt)
+    (radial-none a.job.now a.index.now a.c a.e about-one.result find.result pre.0 (shaped-as about-one.result (aboutOne 7 a.e) about-one.ensures (shaped-one 7 a.e (omega arith) pre.1)) about-one.ensures find.ensures.0 told.p c.word-n.result told.is c.word-n.ensures.0 c.if-n-le1.true, tt)
 
 pub overflow_add-result : goal.overflow_add-result
 overflow_add-result c =
     let find = c.find-f in
     let told = c.in-At in
-    omega (arith, place-fits find.result told.given.0.0 find.ensures.1 told.is)
+    omega (arith, place-fits find.result told.p find.ensures.1 told.is)
 
 pub returns : goal.returns
 returns c =
@@ -47,4 +47,4 @@ returns c =
     let about-one = c.about_one in
     let find = c.find-f in
     let told = c.in-At in
-    (radial-uses a.job.now a.index.now a.c a.e about-one.result find.result pre.0 (shaped-as about-one.result (aboutOne 7 a.e) about-one.ensures (shaped-one 7 a.e (omega arith) pre.1)) about-one.ensures find.ensures.0 told.given.0.0 c.word-n.result told.is c.word-n.ensures.0 c.if-n-le1.false, (omega (arith, place-fits find.result told.given.0.0 find.ensures.1 told.is), omega (arith, c.word-n.ensures.1)))
+    (radial-uses a.job.now a.index.now a.c a.e about-one.result find.result pre.0 (shaped-as about-one.result (aboutOne 7 a.e) about-one.ensures (shaped-one 7 a.e (omega arith) pre.1)) about-one.ensures find.ensures.0 told.p c.word-n.result told.is c.word-n.ensures.0 c.if-n-le1.false, (omega (arith, place-fits find.result told.p find.ensures.1 told.is), omega (arith, c.word-n.ensures.1)))

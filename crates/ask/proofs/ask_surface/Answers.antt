@@ -20,7 +20,7 @@ returns-in-Value c =
     let answer-to = c.answer_to-a in
     let told = c.in-Value in
     let l = answersIn a.job.now a.index.now a.c in
-    surface-says (find l 8 (a.h ∷ [])) answer-to.result told.given.0.0 c.surface_answer.result
+    surface-says (find l 8 (a.h ∷ [])) answer-to.result told.v c.surface_answer.result
     (value-as l answer-to.result about-one.result (aboutOne 8 a.h) about-one.ensures answer-to.ensures) told.is c.surface_answer.ensures
 
 pub returns-in-Missing : goal.returns-in-Missing

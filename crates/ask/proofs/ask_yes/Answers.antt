@@ -16,21 +16,21 @@ returns-in-No c =
     let a = c.args in
     let recorded = c.recorded in
     let told = c.in-Says in
-    told-says a.q.kind (find (answersIn a.job.now a.index.now a.c) a.q.kind (keyOf a.q)) recorded.result recorded.ensures told.given.0.0 _ told.is
-    (told-no a.q.kind told.given.0.0 c.in-No.is)
+    told-says a.q.kind (find (answersIn a.job.now a.index.now a.c) a.q.kind (keyOf a.q)) recorded.result recorded.ensures told.v _ told.is
+    (told-no a.q.kind told.v c.in-No.is)
 
 pub returns-in-Yes : goal.returns-in-Yes
 returns-in-Yes c =
     let a = c.args in
     let recorded = c.recorded in
     let told = c.in-Says in
-    told-says a.q.kind (find (answersIn a.job.now a.index.now a.c) a.q.kind (keyOf a.q)) recorded.result recorded.ensures told.given.0.0 _ told.is
-    (told-yes a.q.kind told.given.0.0 c.in-Yes.is)
+    told-says a.q.kind (find (answersIn a.job.now a.index.now a.c) a.q.kind (keyOf a.q)) recorded.result recorded.ensures told.v _ told.is
+    (told-yes a.q.kind told.v c.in-Yes.is)
 
 pub returns-in-Undecided : goal.returns-in-Undecided
 returns-in-Undecided c =
     let a = c.args in
     let recorded = c.recorded in
     let told = c.in-Says in
-    told-says a.q.kind (find (answersIn a.job.now a.index.now a.c) a.q.kind (keyOf a.q)) recorded.result recorded.ensures told.given.0.0 _ told.is
-    (told-undecided a.q.kind told.given.0.0 c.in-Undecided.is)
+    told-says a.q.kind (find (answersIn a.job.now a.index.now a.c) a.q.kind (keyOf a.q)) recorded.result recorded.ensures told.v _ told.is
+    (told-undecided a.q.kind told.v c.in-Undecided.is)

@@ -10,7 +10,7 @@ returns-in-Value c =
     let a = c.args in
     let answer-to = c.answer_to-a in
     let told = c.in-Value in
-    answered-says (find (answersIn a.job.now a.index.now a.c) a.q.kind (keyOf a.q)) answer-to.result told.given.0.0 c.verdict.result answer-to.ensures
+    answered-says (find (answersIn a.job.now a.index.now a.c) a.q.kind (keyOf a.q)) answer-to.result told.v c.verdict.result answer-to.ensures
     told.is c.verdict.ensures
 
 pub returns-in-Missing : goal.returns-in-Missing

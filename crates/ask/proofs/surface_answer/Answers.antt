@@ -1,3 +1,4 @@
+use Rattle.std.proofs.Common.{arith}
 use Rattle.ask.specs.ToldLaws.{surface-0, surface-1, surface-2, surface-3, surface-other}
 use Rattle.ask.proofs.surface_answer.Goals as goal
 
@@ -14,4 +15,4 @@ pub returns-in-3 : goal.returns-in-3
 returns-in-3 c = surface-3 c.args.v c.in-3.is
 
 pub returns-in_default : goal.returns-in_default
-returns-in_default c = let r = c.match.rest in surface-other c.args.v r.0.0.0.1 r.0.0.1 r.0.1 r.1
+returns-in_default c = surface-other c.args.v (omega arith) (omega arith) (omega arith) (omega arith)

@@ -1,3 +1,4 @@
+use Rattle.std.proofs.Common.{arith}
 use Rattle.ask.specs.ToldLaws.{verdict-0, verdict-1, verdict-other}
 use Rattle.ask.proofs.verdict.Goals as goal
 
@@ -8,4 +9,4 @@ pub returns-in-1 : goal.returns-in-1
 returns-in-1 c = verdict-1 c.args.v c.in-1.is
 
 pub returns-in_default : goal.returns-in_default
-returns-in_default c = let r = c.match.rest in verdict-other c.args.v r.0.1 r.1
+returns-in_default c = verdict-other c.args.v (omega arith) (omega arith)

@@ -28,7 +28,7 @@ returns-then-edge_active c = let a = c.args in
       λ before M.
           subst (λ l. Meeting a.starts.now before a.at l y.new.vertices y.new.out y.result) (sym (met-active es a.e pre.3 (sym c.edge_active.ensures ∙ c.if-edge_active.true)))
           (subst (λ k. Meeting a.starts.now before a.at (meet (meet (metBelow es a.e) (edgeDataAt es a.e).start) k) y.new.vertices y.new.out y.result) w.ensures.0
-          (y.ensures.1 before (meet (metBelow es a.e) (edgeDataAt es a.e).start) (subst (λ s. EndOk s w.result) (sym x.auto.1.0) (subst (EndOk room) (sym w.ensures.0) ok'.1))
+          (y.ensures.1 before (meet (metBelow es a.e) (edgeDataAt es a.e).start) (subst (λ s. EndOk s w.result) (sym x.auto.vertices) (subst (EndOk room) (sym w.ensures.0) ok'.1))
           (subst (λ k. Meeting a.starts.now before a.at (meet (metBelow es a.e) k) x.new.vertices x.new.out x.result) v.ensures.0
           (x.ensures.1 before (metBelow es a.e) (subst (EndOk room) (sym v.ensures.0) ok'.0) M)))),
     )

@@ -19,7 +19,7 @@ number_edge-count-requires c = let a = c.args in
     (l.invariant.2, omega (arith, length-rows a.rows.now, l.invariant.1, c.loop-e-test.true), omega (arith, l.invariant.1, c.loop-e-test.true, c.requires.0), omega (arith, l.invariant.1, l.invariant.3, c.loop-e-test.true, c.requires.1))
 
 pub loop-e-preserved : goal.loop-e-preserved
-loop-e-preserved c = let l = c.loop-e in (omega (arith, l.invariant.1, c.loop-e-test.true), l.invariant.1, c.number_edge-count.ensures, c.number_edge-count.auto.1.0 ∙ l.invariant.3)
+loop-e-preserved c = let l = c.loop-e in (omega (arith, l.invariant.1, c.loop-e-test.true), l.invariant.1, c.number_edge-count.ensures, c.number_edge-count.auto.numbers ∙ l.invariant.3)
 
 pub returns : goal.returns
 returns c = let a = c.args in

@@ -17,7 +17,7 @@ use borrow.Author.Rules.{rules}
 use Rattle.body.proofs.put_faces.Goals as goal
 
 pub number_edges-count-requires : goal.number_edges-count-requires
-number_edges-count-requires c = (c.requires.2, omega (arith, c.requires.3, c.blank.auto.0), c.blank.ensures)
+number_edges-count-requires c = (c.requires.2, omega (arith, c.requires.3, c.blank.auto.table), c.blank.ensures)
 
 pub loop-f-init : goal.loop-f-init
 loop-f-init c = (omega arith, rowed-start (faceRow (facesIn c.args.job.now c.args.index.now c.args.c) c.args.items.now c.args.stretches.now c.args.faces.now c.args.members.now c.args.kept.now c.args.k c.number_edges-count.new.numbers c.number_edges-count.result) 33576974 c.args.out.now c.args.at)

@@ -23,7 +23,7 @@ loop-e-preserved c = let a = c.args in
     let l = c.loop-e in
     let x = c.meet_ends-count in
     let M = x.ensures.1 a.out.now l.invariant.4 in
-    (omega (arith, l.invariant.1, c.loop-e-test.true), l.invariant.1, omega (arith, l.invariant.2, x.ensures.0), x.auto.1.1.0 ∙ l.invariant.3, M)
+    (omega (arith, l.invariant.1, c.loop-e-test.true), l.invariant.1, omega (arith, l.invariant.2, x.ensures.0), x.auto.vertices ∙ l.invariant.3, M)
 
 pub returns : goal.returns
 returns c = let a = c.args in

@@ -8,7 +8,7 @@ use Rattle.uses.specs.Table.{usesIn}
 use Rattle.contact.proofs.one_stands.Given as goal
 
 abbrev pub invariant-loop-i : goal.invariant-loop-i
-invariant-loop-i l = some (λ k. standsWith (usesIn l.l.uses) l.l.starts l.l.labels l.l.p l.l (get_or l.l.names k 0)) (chain (nextFan l.l.nexts) l.i) ≡ some (λ k. standsWith (usesIn l.l.uses) l.l.starts l.l.labels l.l.p l.l (get_or l.l.names k 0)) (chain (nextFan l.l.nexts) l.l.entry)
+invariant-loop-i l = some (λ k. standsWith (usesIn l.uses) l.starts l.labels l.p l.l (get_or l.names k 0)) (chain (nextFan l.nexts) l.i) ≡ some (λ k. standsWith (usesIn l.uses) l.starts l.labels l.p l.l (get_or l.names k 0)) (chain (nextFan l.nexts) l.entry)
 
 abbrev pub decreases-loop-i : goal.decreases-loop-i
 decreases-loop-i l = l.i

@@ -13,7 +13,7 @@ pub loop-k-init : goal.loop-k-init
 loop-k-init c = filled-none _ _
 
 pub first_use-h-requires : goal.first_use-h-requires
-first_use-h-requires c = omega (arith, c.loop-k.invariant.size, c.loop-k-test.true, c.well-formed)
+first_use-h-requires c = omega (arith, c.loop-k.invariant.size, c.loop-k-test.true, c.well_formed)
 
 pub overflow_add-k : goal.overflow_add-k
 overflow_add-k c = omega arith

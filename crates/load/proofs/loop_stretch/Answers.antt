@@ -16,4 +16,4 @@ pub returns-in-Refused : goal.returns-in-Refused
 returns-in-Refused c = let w = rw c.in-Refused.is at c.load-r.ensures in (request-refused c.args.job.now c.args.n _ _ w, tt)
 
 pub returns-else-c-n : goal.returns-else-c-n
-returns-else-c-n c = let w = rw c.in-Done.is at c.load-r.ensures in request-at c.args.job.now _ _ c.args.n w.0 c.loop.result _ c.loop.result c.if-c-n.false c.loop.ensures.0 c.loop.ensures.0 refl
+returns-else-c-n c = let w = rw c.in-Done.is at c.load-r.ensures in request-at c.args.job.now _ _ c.args.n w.0 c.loop_start-start.result _ c.loop_size.result c.if-c-n.false c.loop_start-start.ensures.0 c.loop_size.ensures.0 refl

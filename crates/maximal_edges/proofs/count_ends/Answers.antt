@@ -22,7 +22,7 @@ pub loop-e-preserved : goal.loop-e-preserved
 loop-e-preserved c =
     let l = c.loop-e in
     let counted = c.count_edge in
-    (l.invariant.0, omega arith, counted.auto.1.0 ∙ l.invariant.2, counted.auto.1.1.0 ∙ l.invariant.3, counted.auto.1.1.1.0 ∙ l.invariant.4, counted.ensures)
+    (l.invariant.0, omega arith, counted.auto.ends ∙ l.invariant.2, counted.auto.lows ∙ l.invariant.3, counted.auto.highs ∙ l.invariant.4, counted.ensures)
 
 pub returns : goal.returns
 returns c =

@@ -126,13 +126,13 @@ sweeps-preserved c =
     let names = a.names.now in
     let whole = wholeRun answers a.starts.now names a.rows.now a.count a.items.now a.stretches.now in
     let ring = c.ring_at in (
-      ring.auto.1.1.0 ∙ l.invariant.0,
+      ring.auto.ends ∙ l.invariant.0,
       l.invariant.1,
       l.invariant.2,
-      ring.auto.0 ∙ l.invariant.3,
+      ring.auto.rows ∙ l.invariant.3,
       l.invariant.4,
       l.invariant.5,
-      going-ring answers a.starts.now names whole (length a.stretches.now) l.rows l.n laid l.stretches l.ends l.lows l.highs l.joins l.rings l.low l.high l.top l.invariant.6 pre.5 (λ x m. omega (arith, pre.6 x m, pre.4.size)) a.ranks.now pre.7 c.sweep-change.result c.sweep-change.ensures _ _ c.in-Ring.is ring.new.rows ring.new.ends ring.ensures.0 c.next_after-top.result ring.auto.0 ring.ensures.1 (c.next_after-top.ensures ∙ ap (nextAfter l.high l.top) c.get.ensures.0),
+      going-ring answers a.starts.now names whole (length a.stretches.now) l.rows l.n laid l.stretches l.ends l.lows l.highs l.joins l.rings l.low l.high l.top l.invariant.6 pre.5 (λ x m. omega (arith, pre.6 x m, pre.4.size)) a.ranks.now pre.7 c.sweep-change.result c.sweep-change.ensures _ _ c.in-Ring.is ring.new.rows ring.new.ends ring.ensures.0 c.next_after-top.result ring.auto.rows ring.ensures.1 (c.next_after-top.ensures ∙ ap (nextAfter l.high l.top) c.get.ensures.0),
       l.invariant.7,
       l.invariant.8,
       l.invariant.9,
@@ -194,17 +194,17 @@ overflow_add-joins c =
 --     let whole = wholeRun answers a.starts.now names a.rows.now a.count a.items.now a.stretches.now in
 --     let join = c.join_at-e in
 --     let ranks = a.ranks.now in (
---       join.auto.1.1.1.1.1.1.1.1.0 ∙ l.invariant.0,
---       join.auto.1.1.1.1.1.1.1.1.1.0 ∙ l.invariant.1,
---       join.auto.1.1.1.1.1.1.1.1.1.1.0 ∙ l.invariant.2,
---       join.auto.0 ∙ l.invariant.3,
+--       join.auto.ends ∙ l.invariant.0,
+--       join.auto.lows ∙ l.invariant.1,
+--       join.auto.highs ∙ l.invariant.2,
+--       join.auto.rows ∙ l.invariant.3,
 --       l.invariant.4,
---       join.auto.1.1.1.1.1.1.1.0 ∙ l.invariant.5,
---       going-join answers a.starts.now names whole (length a.stretches.now) l.rows l.n laid l.stretches l.ends l.lows l.highs l.joins l.rings l.low l.high l.top l.invariant.6 pre.5 (λ x m. omega (arith, pre.6 x m, pre.4.size)) a.ranks.now pre.7 c.sweep-change.result c.sweep-change.ensures _ _ _ c.in-Join.is join.new.rows (laidOut join.new.list join.new.nexts join.new.heads join.new.stretches l.items) join.new.stretches join.new.ends join.new.lows join.new.highs join.result (join.ensures.lists l.items (laid-base links l.items l.invariant.6.laid)) c.next_after-top-in-Join.result c.get-p.result c.get-q.result c.lower-low.result c.lower-high.result join.auto.0 join.auto.1.1.1.1.1.1.1.0 (c.next_after-top-in-Join.ensures ∙ ap (nextAfter l.high l.top) c.get-in-Join.ensures.0) (c.get-p.ensures.0 ∙ ap (λ x. get_or ranks x 0) c.wide.ensures.0) (c.get-q.ensures.0 ∙ ap (λ x. get_or ranks x 0) c.wide-in-Join.ensures.0) (c.lower-low.ensures ∙ ap (lowerOf c.next_after-top-in-Join.result) c.lower.ensures) (c.lower-high.ensures ∙ ap (lowerOf c.next_after-top-in-Join.result) c.higher.ensures),
---       join.auto.1.1.0 ∙ l.invariant.7,
---       join.auto.1.1.1.0 ∙ l.invariant.8,
---       join.auto.1.1.1.1.0 ∙ l.invariant.9,
---       join.auto.1.1.1.1.1.1.0 ∙ l.invariant.10,
+--       join.auto.stretches ∙ l.invariant.5,
+--       going-join answers a.starts.now names whole (length a.stretches.now) l.rows l.n laid l.stretches l.ends l.lows l.highs l.joins l.rings l.low l.high l.top l.invariant.6 pre.5 (λ x m. omega (arith, pre.6 x m, pre.4.size)) a.ranks.now pre.7 c.sweep-change.result c.sweep-change.ensures _ _ _ c.in-Join.is join.new.rows (laidOut join.new.list join.new.nexts join.new.heads join.new.stretches l.items) join.new.stretches join.new.ends join.new.lows join.new.highs join.result (join.ensures.lists l.items (laid-base links l.items l.invariant.6.laid)) c.next_after-top-in-Join.result c.get-p.result c.get-q.result c.lower-low.result c.lower-high.result join.auto.rows join.auto.stretches (c.next_after-top-in-Join.ensures ∙ ap (nextAfter l.high l.top) c.get-in-Join.ensures.0) (c.get-p.ensures.0 ∙ ap (λ x. get_or ranks x 0) c.wide.ensures.0) (c.get-q.ensures.0 ∙ ap (λ x. get_or ranks x 0) c.wide-in-Join.ensures.0) (c.lower-low.ensures ∙ ap (lowerOf c.next_after-top-in-Join.result) c.lower.ensures) (c.lower-high.ensures ∙ ap (lowerOf c.next_after-top-in-Join.result) c.higher.ensures),
+--       join.auto.list ∙ l.invariant.7,
+--       join.auto.nexts ∙ l.invariant.8,
+--       join.auto.heads ∙ l.invariant.9,
+--       join.auto.spots ∙ l.invariant.10,
 --       l.invariant.11,
 --       hung-joined names (edgesIn l.rows l.n) links l.invariant.12 c.sweep-change.result c.sweep-change.ensures.real _ _ _ c.in-Join.is (linksOf join.new.list join.new.nexts join.new.heads a.owners.now join.new.spots join.new.stretches) (edgesIn join.new.rows (l.n + 1)) join.ensures.links join.ensures.edges,
 --     )

@@ -26,8 +26,8 @@ returns-in-Refused c =
     let counted = c.count-n in
     let paired = c.pair_edges-r in
     let us = usesIn a.uses.now in (
-      paired-refused 2048 us counted.result counted.ensures c.requires.2 paired.new.twins paired.auto.1.1.1.1.1.1.0 (answersIn a.job.now a.index.now a.c) a.c.edges paired.result paired.ensures _ _ c.in-Refused.is,
-      part-long 2048 us counted.result counted.ensures c.requires.2 paired.new.twins paired.auto.1.1.1.1.1.1.0,
+      paired-refused 2048 us counted.result counted.ensures c.requires.2 paired.new.twins paired.auto.twins (answersIn a.job.now a.index.now a.c) a.c.edges paired.result paired.ensures _ _ c.in-Refused.is,
+      part-long 2048 us counted.result counted.ensures c.requires.2 paired.new.twins paired.auto.twins,
     )
 
 pub returns-in-Done : goal.returns-in-Done
@@ -37,6 +37,6 @@ returns-in-Done c =
     let counted = c.count-n in
     let paired = c.pair_edges-r in
     let us = usesIn a.uses.now in (
-      paired-done 2048 us counted.result counted.ensures c.requires.2 paired.new.twins paired.auto.1.1.1.1.1.1.0 (answersIn a.job.now a.index.now a.c) a.c.edges paired.result paired.ensures c.in-Done.is,
-      part-long 2048 us counted.result counted.ensures c.requires.2 paired.new.twins paired.auto.1.1.1.1.1.1.0,
+      paired-done 2048 us counted.result counted.ensures c.requires.2 paired.new.twins paired.auto.twins (answersIn a.job.now a.index.now a.c) a.c.edges paired.result paired.ensures c.in-Done.is,
+      part-long 2048 us counted.result counted.ensures c.requires.2 paired.new.twins paired.auto.twins,
     )

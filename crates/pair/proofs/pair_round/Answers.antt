@@ -31,7 +31,7 @@ returns-then-has_all c =
     let a = c.args in
     let pre = c.requires in
     let ask-radial-call = c.ask_radial-o in
-    let has-all-call = c.Has-All in
+    let has-all-call = c.has_all in
     c.take_predecessors.ensures ∙ round-on a.job.now (answersIn a.job.now a.index.now a.c) (usesIn a.uses.now) a.e a.twins.now ask-radial-call.result ask-radial-call.ensures.0 _ _ c.in-Uses.is a.firsts.now a.nexts.now pre.1 pre.2 has-all-call.result has-all-call.ensures c.if-has_all.true a.k pre.4 c.if-n-k.false
 
 pub returns-in-Refused : goal.returns-in-Refused
@@ -45,5 +45,5 @@ returns-else-has_all c =
     let a = c.args in
     let pre = c.requires in
     let ask-radial-call = c.ask_radial-o in
-    let has-all-call = c.Has-All in
+    let has-all-call = c.has_all in
     round-lacks a.job.now (answersIn a.job.now a.index.now a.c) (usesIn a.uses.now) a.e a.twins.now ask-radial-call.result ask-radial-call.ensures.0 _ _ c.in-Uses.is a.firsts.now a.nexts.now pre.1 pre.2 has-all-call.result has-all-call.ensures c.if-has_all.false

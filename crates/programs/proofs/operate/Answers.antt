@@ -38,7 +38,7 @@ returns-in-5 c =
 pub returns-in-6 : goal.returns-in-6
 returns-in-6 c =
     let a = c.args in
-    let s = c.loop in
+    let s = c.loop-stage in
     ends-by a.number (loopStage ordinary) a.job.now a.out.now s.new.out s.result (is-6 a.number c.in-6.is) s.ensures.0
 
 pub returns-in-7 : goal.returns-in-7

@@ -16,7 +16,7 @@ read_loop-requires c =
     let pre = c.requires in
     let a = c.args in
     let l = c.loop-l in
-    let room = reading-room a.job.now a.index.now a.c (usesIn l.uses) l.h l.l l.invariant.1 c.item_count-n.result c.loop-l-face.result c.loop-l-start.result c.face_selected-s.result c.loop-l-test.true c.item_count-n.ensures c.loop-l-face.ensures.0 c.face_selected-s.ensures c.loop-l-start.ensures.0 in
+    let room = reading-room a.job.now a.index.now a.c (usesIn l.uses) l.h l.l l.invariant.1 c.item_count-n.result c.loop_face-f.result c.loop_start-at.result c.face_selected-s.result c.loop-l-test.true c.item_count-n.ensures c.loop_face-f.ensures.0 c.face_selected-s.ensures c.loop_start-at.ensures.0 in
     let size = count-uses l.uses a.c.uses (l.invariant.0 ∙ pre.3) in
     (omega arith, omega (arith, pre), omega arith, omega arith)
 
@@ -24,7 +24,7 @@ pub overflow_add-h : goal.overflow_add-h
 overflow_add-h c =
     let a = c.args in
     let l = c.loop-l in
-    let room = reading-room a.job.now a.index.now a.c (usesIn l.uses) l.h l.l l.invariant.1 c.item_count-n.result c.loop-l-face.result c.loop-l-start.result c.face_selected-s.result c.loop-l-test.true c.item_count-n.ensures c.loop-l-face.ensures.0 c.face_selected-s.ensures c.loop-l-start.ensures.0 in
+    let room = reading-room a.job.now a.index.now a.c (usesIn l.uses) l.h l.l l.invariant.1 c.item_count-n.result c.loop_face-f.result c.loop_start-at.result c.face_selected-s.result c.loop-l-test.true c.item_count-n.ensures c.loop_face-f.ensures.0 c.face_selected-s.ensures c.loop_start-at.ensures.0 in
     omega (arith, c.requires)
 
 pub loop-l-preserved : goal.loop-l-preserved
@@ -36,7 +36,7 @@ loop-l-preserved c =
     let same : length read-loop-call.new.uses ≡ length a.uses.now = c.uses-1.given ∙ l.invariant.0 in
     let size = count-uses l.uses a.c.uses (l.invariant.0 ∙ pre.3) in
     let size' = count-uses read-loop-call.new.uses a.c.uses (same ∙ pre.3) in
-    (same, reading-more a.job.now a.index.now a.c (usesIn l.uses) l.h l.l l.invariant.1 c.item_count-n.result c.loop-l-face.result c.loop-l-start.result c.face_selected-s.result c.loop-l-test.true c.item_count-n.ensures c.loop-l-face.ensures.0 c.face_selected-s.ensures c.loop-l-start.ensures.0 (usesIn read-loop-call.new.uses) (size' ∙ sym size) (size ∙ pre.4) read-loop-call.ensures)
+    (same, reading-more a.job.now a.index.now a.c (usesIn l.uses) l.h l.l l.invariant.1 c.item_count-n.result c.loop_face-f.result c.loop_start-at.result c.face_selected-s.result c.loop-l-test.true c.item_count-n.ensures c.loop_face-f.ensures.0 c.face_selected-s.ensures c.loop_start-at.ensures.0 (usesIn read-loop-call.new.uses) (size' ∙ sym size) (size ∙ pre.4) read-loop-call.ensures)
 
 pub returns : goal.returns
 returns c =

@@ -6,7 +6,7 @@ use Prim.Native.Nat.{◌-◌}
 use Rattle.read.proofs.read.Given as goal
 
 abbrev pub invariant-loop-l : goal.invariant-loop-l
-invariant-loop-l l = (length l.l.uses ≡ length l.l.initial.uses) × Reading l.l.job l.l.index l.l.c (usesIn l.l.uses) l.l.h l.l
+invariant-loop-l l = (length l.uses ≡ length l.initial.uses) × Reading l.job l.index l.c (usesIn l.uses) l.h l.l
 
 abbrev pub decreases-loop-l : goal.decreases-loop-l
-decreases-loop-l l = l.l.c.loops - l.l
+decreases-loop-l l = l.c.loops - l.l

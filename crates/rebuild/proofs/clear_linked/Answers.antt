@@ -6,4 +6,4 @@ use borrow.Author.Rules.{rules}
 use Rattle.rebuild.proofs.clear_linked.Goals as goal
 
 pub returns : goal.returns
-returns c = c.edges_clear.ensures ∙ ap (edgesClear c.args.number (usesIn c.args.uses.now) c.args.twins.now c.args.labels.now) c.link.auto.1.0
+returns c = c.edges_clear.ensures ∙ ap (edgesClear c.args.number (usesIn c.args.uses.now) c.args.twins.now c.args.labels.now) c.link.auto.firsts

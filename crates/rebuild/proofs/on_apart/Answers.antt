@@ -16,25 +16,25 @@ overflow_mul-k c = omega (arith, c.make_edges-k.ensures.few-loops, settled-succ 
 -- no goal for slice-relend-prefix-on-edged
 -- -- old need: slice-relend-prefix-on-edged
 -- slice-relend-prefix-on-edged : goal.slice-relend-prefix-on-edged
--- slice-relend-prefix-on-edged c = stretches-room c.requires.0 c.args.stage c.args.out.now c.make_edges-k.new.rows c.make_edges-k.new.items c.make_edges-k.new.stretches c.make_edges-k.new.faces c.make_edges-k.result.edges c.make_edges-k.result.loops c.make_edges-k.ensures c.args.rows.now c.args.owns.now c.args.items.now c.args.stretches.now c.args.faces.now c.args.vertices.now c.requires.1 c.make_edges-k.auto.1.1.1.1.1.1.1.1.0 c.make_edges-k.auto.1.1.1.1.1.1.1.1.1.1.0 c.make_edges-k.auto.1.1.1.1.1.1.1.1.1.1.1.0 c.make_edges-k.auto.1.1.1.1.1.1.1.1.1.1.1.1.0
+-- slice-relend-prefix-on-edged c = stretches-room c.requires.0 c.args.stage c.args.out.now c.make_edges-k.new.rows c.make_edges-k.new.items c.make_edges-k.new.stretches c.make_edges-k.new.faces c.make_edges-k.result.edges c.make_edges-k.result.loops c.make_edges-k.ensures c.args.rows.now c.args.owns.now c.args.items.now c.args.stretches.now c.args.faces.now c.args.vertices.now c.requires.1 c.make_edges-k.auto.rows c.make_edges-k.auto.items c.make_edges-k.auto.stretches c.make_edges-k.auto.faces
 
 -- no goal for slice-aggregate-on-edged
 -- -- old need: slice-aggregate-on-edged
 -- slice-aggregate-on-edged : goal.slice-aggregate-on-edged
--- slice-aggregate-on-edged c = sym (length-take-le (2 * c.make_edges-k.result.loops) c.make_edges-k.new.stretches (stretches-room c.requires.0 c.args.stage c.args.out.now c.make_edges-k.new.rows c.make_edges-k.new.items c.make_edges-k.new.stretches c.make_edges-k.new.faces c.make_edges-k.result.edges c.make_edges-k.result.loops c.make_edges-k.ensures c.args.rows.now c.args.owns.now c.args.items.now c.args.stretches.now c.args.faces.now c.args.vertices.now c.requires.1 c.make_edges-k.auto.1.1.1.1.1.1.1.1.0 c.make_edges-k.auto.1.1.1.1.1.1.1.1.1.1.0 c.make_edges-k.auto.1.1.1.1.1.1.1.1.1.1.1.0 c.make_edges-k.auto.1.1.1.1.1.1.1.1.1.1.1.1.0))
+-- slice-aggregate-on-edged c = sym (length-take-le (2 * c.make_edges-k.result.loops) c.make_edges-k.new.stretches (stretches-room c.requires.0 c.args.stage c.args.out.now c.make_edges-k.new.rows c.make_edges-k.new.items c.make_edges-k.new.stretches c.make_edges-k.new.faces c.make_edges-k.result.edges c.make_edges-k.result.loops c.make_edges-k.ensures c.args.rows.now c.args.owns.now c.args.items.now c.args.stretches.now c.args.faces.now c.args.vertices.now c.requires.1 c.make_edges-k.auto.rows c.make_edges-k.auto.items c.make_edges-k.auto.stretches c.make_edges-k.auto.faces))
 
 -- no goal for slice-reshare-prefix-on-edged
 -- -- old need: slice-reshare-prefix-on-edged
 -- slice-reshare-prefix-on-edged : goal.slice-reshare-prefix-on-edged
--- slice-reshare-prefix-on-edged c = loops-room c.requires.0 c.args.stage c.args.out.now c.make_edges-k.new.rows c.make_edges-k.new.items c.make_edges-k.new.stretches c.make_edges-k.new.faces c.make_edges-k.result.edges c.make_edges-k.result.loops c.make_edges-k.ensures c.args.rows.now c.args.owns.now c.args.items.now c.args.stretches.now c.args.faces.now c.args.vertices.now c.requires.1 c.make_edges-k.auto.1.1.1.1.1.1.1.1.0 c.make_edges-k.auto.1.1.1.1.1.1.1.1.1.1.0 c.make_edges-k.auto.1.1.1.1.1.1.1.1.1.1.1.0 c.make_edges-k.auto.1.1.1.1.1.1.1.1.1.1.1.1.0
+-- slice-reshare-prefix-on-edged c = loops-room c.requires.0 c.args.stage c.args.out.now c.make_edges-k.new.rows c.make_edges-k.new.items c.make_edges-k.new.stretches c.make_edges-k.new.faces c.make_edges-k.result.edges c.make_edges-k.result.loops c.make_edges-k.ensures c.args.rows.now c.args.owns.now c.args.items.now c.args.stretches.now c.args.faces.now c.args.vertices.now c.requires.1 c.make_edges-k.auto.rows c.make_edges-k.auto.items c.make_edges-k.auto.stretches c.make_edges-k.auto.faces
 
 -- no goal for slice-aggregate-on-edged-2
 -- -- old need: slice-aggregate-on-edged-2
 -- slice-aggregate-on-edged-2 : goal.slice-aggregate-on-edged-2
--- slice-aggregate-on-edged-2 c = sym (length-take-le c.make_edges-k.result.loops c.make_edges-k.new.faces (loops-room c.requires.0 c.args.stage c.args.out.now c.make_edges-k.new.rows c.make_edges-k.new.items c.make_edges-k.new.stretches c.make_edges-k.new.faces c.make_edges-k.result.edges c.make_edges-k.result.loops c.make_edges-k.ensures c.args.rows.now c.args.owns.now c.args.items.now c.args.stretches.now c.args.faces.now c.args.vertices.now c.requires.1 c.make_edges-k.auto.1.1.1.1.1.1.1.1.0 c.make_edges-k.auto.1.1.1.1.1.1.1.1.1.1.0 c.make_edges-k.auto.1.1.1.1.1.1.1.1.1.1.1.0 c.make_edges-k.auto.1.1.1.1.1.1.1.1.1.1.1.1.0))
+-- slice-aggregate-on-edged-2 c = sym (length-take-le c.make_edges-k.result.loops c.make_edges-k.new.faces (loops-room c.requires.0 c.args.stage c.args.out.now c.make_edges-k.new.rows c.make_edges-k.new.items c.make_edges-k.new.stretches c.make_edges-k.new.faces c.make_edges-k.result.edges c.make_edges-k.result.loops c.make_edges-k.ensures c.args.rows.now c.args.owns.now c.args.items.now c.args.stretches.now c.args.faces.now c.args.vertices.now c.requires.1 c.make_edges-k.auto.rows c.make_edges-k.auto.items c.make_edges-k.auto.stretches c.make_edges-k.auto.faces))
 
 pub on_edged-requires : goal.on_edged-requires
-on_edged-requires c = (fanned-sizes c.requires.0, drawn-tables c.requires.0 c.args.stage c.args.out.now c.make_edges-k.new.rows c.make_edges-k.new.items c.make_edges-k.new.stretches c.make_edges-k.new.faces c.make_edges-k.result.edges c.make_edges-k.result.loops c.make_edges-k.ensures c.args.rows.now c.args.owns.now c.args.items.now c.args.stretches.now c.args.faces.now c.args.vertices.now c.requires.1 c.make_edges-k.auto.1.1.1.1.1.1.1.1.0 c.make_edges-k.auto.1.1.1.1.1.1.1.1.1.1.0 c.make_edges-k.auto.1.1.1.1.1.1.1.1.1.1.1.0 c.make_edges-k.auto.1.1.1.1.1.1.1.1.1.1.1.1.0, edges-few c.requires.0 c.args.stage c.args.out.now c.make_edges-k.new.rows c.make_edges-k.new.items c.make_edges-k.new.stretches c.make_edges-k.new.faces c.make_edges-k.result.edges c.make_edges-k.result.loops c.make_edges-k.ensures c.args.rows.now c.args.owns.now c.args.items.now c.args.stretches.now c.args.faces.now c.args.vertices.now c.requires.1 c.make_edges-k.auto.1.1.1.1.1.1.1.1.0 c.make_edges-k.auto.1.1.1.1.1.1.1.1.1.1.0 c.make_edges-k.auto.1.1.1.1.1.1.1.1.1.1.1.0 c.make_edges-k.auto.1.1.1.1.1.1.1.1.1.1.1.1.0, twice-room c.requires.0 c.args.stage c.args.out.now c.make_edges-k.new.rows c.make_edges-k.new.items c.make_edges-k.new.stretches c.make_edges-k.new.faces c.make_edges-k.result.edges c.make_edges-k.result.loops c.make_edges-k.ensures c.args.rows.now c.args.owns.now c.args.items.now c.args.stretches.now c.args.faces.now c.args.vertices.now c.requires.1 c.make_edges-k.auto.1.1.1.1.1.1.1.1.0 c.make_edges-k.auto.1.1.1.1.1.1.1.1.1.1.0 c.make_edges-k.auto.1.1.1.1.1.1.1.1.1.1.1.0 c.make_edges-k.auto.1.1.1.1.1.1.1.1.1.1.1.1.0, drawn-spare c.requires.0 c.args.stage c.args.out.now c.make_edges-k.new.rows c.make_edges-k.new.items c.make_edges-k.new.stretches c.make_edges-k.new.faces c.make_edges-k.result.edges c.make_edges-k.result.loops c.make_edges-k.ensures c.args.rows.now c.args.owns.now c.args.items.now c.args.stretches.now c.args.faces.now c.args.vertices.now c.requires.1 c.make_edges-k.auto.1.1.1.1.1.1.1.1.0 c.make_edges-k.auto.1.1.1.1.1.1.1.1.1.1.0 c.make_edges-k.auto.1.1.1.1.1.1.1.1.1.1.1.0 c.make_edges-k.auto.1.1.1.1.1.1.1.1.1.1.1.1.0 c.make_edges-k.new.owns c.make_edges-k.auto.1.1.1.1.1.1.1.1.1.0, drawn-sound c.requires.0 c.args.stage c.args.out.now c.make_edges-k.new.rows c.make_edges-k.new.items c.make_edges-k.new.stretches c.make_edges-k.new.faces c.make_edges-k.result.edges c.make_edges-k.result.loops c.make_edges-k.ensures c.args.rows.now c.args.owns.now c.args.items.now c.args.stretches.now c.args.faces.now c.args.vertices.now c.requires.1 c.make_edges-k.auto.1.1.1.1.1.1.1.1.0 c.make_edges-k.auto.1.1.1.1.1.1.1.1.1.1.0 c.make_edges-k.auto.1.1.1.1.1.1.1.1.1.1.1.0 c.make_edges-k.auto.1.1.1.1.1.1.1.1.1.1.1.1.0)
+on_edged-requires c = (fanned-sizes c.requires.0, drawn-tables c.requires.0 c.args.stage c.args.out.now c.make_edges-k.new.rows c.make_edges-k.new.items c.make_edges-k.new.stretches c.make_edges-k.new.faces c.make_edges-k.result.edges c.make_edges-k.result.loops c.make_edges-k.ensures c.args.rows.now c.args.owns.now c.args.items.now c.args.stretches.now c.args.faces.now c.args.vertices.now c.requires.1 c.make_edges-k.auto.rows c.make_edges-k.auto.items c.make_edges-k.auto.stretches c.make_edges-k.auto.faces, edges-few c.requires.0 c.args.stage c.args.out.now c.make_edges-k.new.rows c.make_edges-k.new.items c.make_edges-k.new.stretches c.make_edges-k.new.faces c.make_edges-k.result.edges c.make_edges-k.result.loops c.make_edges-k.ensures c.args.rows.now c.args.owns.now c.args.items.now c.args.stretches.now c.args.faces.now c.args.vertices.now c.requires.1 c.make_edges-k.auto.rows c.make_edges-k.auto.items c.make_edges-k.auto.stretches c.make_edges-k.auto.faces, twice-room c.requires.0 c.args.stage c.args.out.now c.make_edges-k.new.rows c.make_edges-k.new.items c.make_edges-k.new.stretches c.make_edges-k.new.faces c.make_edges-k.result.edges c.make_edges-k.result.loops c.make_edges-k.ensures c.args.rows.now c.args.owns.now c.args.items.now c.args.stretches.now c.args.faces.now c.args.vertices.now c.requires.1 c.make_edges-k.auto.rows c.make_edges-k.auto.items c.make_edges-k.auto.stretches c.make_edges-k.auto.faces, drawn-spare c.requires.0 c.args.stage c.args.out.now c.make_edges-k.new.rows c.make_edges-k.new.items c.make_edges-k.new.stretches c.make_edges-k.new.faces c.make_edges-k.result.edges c.make_edges-k.result.loops c.make_edges-k.ensures c.args.rows.now c.args.owns.now c.args.items.now c.args.stretches.now c.args.faces.now c.args.vertices.now c.requires.1 c.make_edges-k.auto.rows c.make_edges-k.auto.items c.make_edges-k.auto.stretches c.make_edges-k.auto.faces c.make_edges-k.new.owns c.make_edges-k.auto.owns, drawn-sound c.requires.0 c.args.stage c.args.out.now c.make_edges-k.new.rows c.make_edges-k.new.items c.make_edges-k.new.stretches c.make_edges-k.new.faces c.make_edges-k.result.edges c.make_edges-k.result.loops c.make_edges-k.ensures c.args.rows.now c.args.owns.now c.args.items.now c.args.stretches.now c.args.faces.now c.args.vertices.now c.requires.1 c.make_edges-k.auto.rows c.make_edges-k.auto.items c.make_edges-k.auto.stretches c.make_edges-k.auto.faces)
 
 pub returns : goal.returns
 returns c = edges-on c.requires.0 c.args.stage c.args.out.now c.make_edges-k.new.rows c.make_edges-k.new.items c.make_edges-k.new.stretches c.make_edges-k.new.faces c.make_edges-k.result.edges c.make_edges-k.result.loops c.make_edges-k.ensures c.on_edged.new.out c.on_edged.result c.on_edged.ensures

@@ -27,9 +27,9 @@ on_joined-requires c =
     let stretches = run.new.stretches in
     let tables =
     joined-tables a.job.now a.index.now a.c a.starts.now a.names.now a.rows.now rows a.count a.items.now items a.stretches.now stretches a.faces.now run.result
-    c.in-Done.given.0.0 (names-low pre.0) pre.1 run.kept.1.1.1.1.1.1.1.0 run.kept.1.1.1.1.1.1.1.1.0
+    c.in-Done.given.0.0 (names-low pre.0) pre.1 run.auto.items run.auto.stretches
     (run.ensures.0 a.faces.now pre.1.loops) run.ensures.1 c.in-Done.is in
-    (pre.0, tables, spare-same (length (usesIn a.uses.now)) a.rows.now rows a.numbers.now a.vertices.now pre.4 run.kept.1.1.1.1.1.0)
+    (pre.0, tables, spare-same (length (usesIn a.uses.now)) a.rows.now rows a.numbers.now a.vertices.now pre.4 run.auto.rows)
 
 pub returns-in-Refused : goal.returns-in-Refused
 returns-in-Refused c =

@@ -75,5 +75,5 @@ returns c =
     let a = c.args in
     faces-from a.n (usesIn a.uses.now) a.twins.now a.t4 c.boundaries.new.labels c.number-merged.last.1.1.0
     c.number-merged.last.1.0 c.number-merged.result a.joins c.requires.0 c.requires.1
-    c.boundaries.kept.1.1.0 c.number-merged.kept.1.1.0 c.number-merged.kept.1.0 c.boundaries.ensures
+    c.boundaries.auto.labels c.number-merged.kept.1.1.0 c.number-merged.kept.1.0 c.boundaries.ensures
     c.number-merged.ensures.0 c.number-merged.ensures.1 c.number-merged.ensures.2

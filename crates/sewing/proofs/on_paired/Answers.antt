@@ -54,7 +54,7 @@ faces_of-m-requires c =
     let L = opened-limited a.job.now a.index.now a.c P.opened in
     let x = c.merge_faces-r in
     let l = x.new.labels in
-    let e = x.kept.1.1.1.1.1.0 in (
+    let e = x.auto.labels in (
       L.faces,
       lent-long 256 a.c.faces l e L.faces,
       groups-lowest a.job.now a.index.now a.c (usesIn a.uses.now) a.twins.now P a.stage (length a.out.now) c.if-stage-eq-PAIR.false x.result l x.ensures
@@ -70,7 +70,7 @@ on_merged-requires c =
     let x = c.merge_faces-r in
     let y = c.faces_of-m in
     let l = x.new.labels in
-    let e = x.kept.1.1.1.1.1.0 in (
+    let e = x.auto.labels in (
       grouped-from a.job.now a.index.now a.c (usesIn a.uses.now) a.twins.now P a.stage (length a.out.now) c.if-stage-eq-PAIR.false x.result l x.ensures
           _ (lent-part 256 a.c.faces l e L.faces) _ c.in-Done.is y.result (lent-long 256 a.c.faces l e L.faces) y.ensures,
       c.requires.1,
@@ -94,7 +94,7 @@ returns-in-Done c =
     let y = c.faces_of-m in
     let z = c.on_merged in
     let l = x.new.labels in
-    let e = x.auto.1.1.1.1.1.0 in
+    let e = x.auto.labels in
     let G =
     grouped-from a.job.now a.index.now a.c (usesIn a.uses.now) a.twins.now P a.stage (length a.out.now) c.if-stage-eq-PAIR.false x.result l x.ensures
     _ (lent-part 256 a.c.faces l e L.faces) _ c.in-Done.is y.result (lent-long 256 a.c.faces l e L.faces) y.ensures in

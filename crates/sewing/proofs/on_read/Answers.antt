@@ -13,7 +13,7 @@ pub pair_in_small_table-requires : goal.pair_in_small_table-requires
 pair_in_small_table-requires c =
     let a = c.args in (
       chained a.job.now a.index.now a.c (usesIn a.uses.now) c.requires.0 a.firsts.now a.nexts.now a.kept.now c.requires.1
-          c.link.new.firsts c.link.new.nexts c.link.kept.1.0 c.link.ensures,
+          c.link.new.firsts c.link.new.nexts c.link.auto.firsts c.link.ensures,
       c.if-c-le64.true,
     )
 
@@ -21,6 +21,6 @@ pub pair_in_large_table-requires : goal.pair_in_large_table-requires
 pair_in_large_table-requires c =
     let a = c.args in (
       chained a.job.now a.index.now a.c (usesIn a.uses.now) c.requires.0 a.firsts.now a.nexts.now a.kept.now c.requires.1
-          c.link.new.firsts c.link.new.nexts c.link.kept.1.0 c.link.ensures,
+          c.link.new.firsts c.link.new.nexts c.link.auto.firsts c.link.ensures,
       (opened-limited a.job.now a.index.now a.c c.requires.0.opened).uses,
     )

@@ -58,13 +58,13 @@ loops-k-requires c = (c.requires.permuted, c.requires.few, sym (part-size (lengt
 -- -- old need: array-share-prefix-ways
 -- array-share-prefix-ways : goal.array-share-prefix-ways
 -- unfolding zeros
--- array-share-prefix-ways c = lent-room 2048 (length c.args.succ.now) c.loops.new.ways c.loops.auto.1.1.0 c.requires.few
+-- array-share-prefix-ways c = lent-room 2048 (length c.args.succ.now) c.loops.new.ways c.loops.auto.ways c.requires.few
 
 -- no goal for slice-aggregate-write-loops-2
 -- -- old need: slice-aggregate-write-loops-2
 -- slice-aggregate-write-loops-2 : goal.slice-aggregate-write-loops-2
 -- unfolding zeros
--- slice-aggregate-write-loops-2 c = lent-cut 2048 (length c.args.succ.now) c.loops.new.ways c.loops.auto.1.1.0 c.requires.few
+-- slice-aggregate-write-loops-2 c = lent-cut 2048 (length c.args.succ.now) c.loops.new.ways c.loops.auto.ways c.requires.few
 
 pub overflow_mul-stretches-2 : goal.overflow_mul-stretches-2
 overflow_mul-stretches-2 c = omega (arith, c.requires.few)
@@ -73,13 +73,13 @@ overflow_mul-stretches-2 c = omega (arith, c.requires.few)
 -- -- old need: array-share-prefix-stretches
 -- array-share-prefix-stretches : goal.array-share-prefix-stretches
 -- unfolding zeros
--- array-share-prefix-stretches c = lent-room 4096 (2 * length c.args.succ.now) c.loops.new.stretches c.loops.auto.1.1.1.0 (omega (arith, c.requires.few))
+-- array-share-prefix-stretches c = lent-room 4096 (2 * length c.args.succ.now) c.loops.new.stretches c.loops.auto.stretches (omega (arith, c.requires.few))
 
 -- no goal for slice-aggregate-write-loops-3
 -- -- old need: slice-aggregate-write-loops-3
 -- slice-aggregate-write-loops-3 : goal.slice-aggregate-write-loops-3
 -- unfolding zeros
--- slice-aggregate-write-loops-3 c = lent-cut 4096 (2 * length c.args.succ.now) c.loops.new.stretches c.loops.auto.1.1.1.0 (omega (arith, c.requires.few))
+-- slice-aggregate-write-loops-3 c = lent-cut 4096 (2 * length c.args.succ.now) c.loops.new.stretches c.loops.auto.stretches (omega (arith, c.requires.few))
 
 pub write_loops-requires : goal.write_loops-requires
 unfolding zeros
@@ -87,9 +87,9 @@ write_loops-requires c = let n = length c.args.succ.now in
     let w = c.loops.new.ways in
     let s = c.loops.new.stretches in
     let long : 2 * n ≤ 4096 = omega (arith, c.requires.few) in
-    let ew = lent-part 2048 n w c.loops.auto.1.1.0 c.requires.few in
-    let es = lent-part 4096 (2 * n) s c.loops.auto.1.1.1.0 long in
-    (following-back c.loops.result (take n (w ++ drop n (zeros 2048))) w (take (2 * n) (s ++ drop (2 * n) (zeros 4096))) s ew es c.loops.ensures.2, omega (arith, c.loops.ensures.1, c.requires.few), omega (arith, sym (lent-cut 2048 n w c.loops.auto.1.1.0 c.requires.few), c.requires.few))
+    let ew = lent-part 2048 n w c.loops.auto.ways c.requires.few in
+    let es = lent-part 4096 (2 * n) s c.loops.auto.stretches long in
+    (following-back c.loops.result (take n (w ++ drop n (zeros 2048))) w (take (2 * n) (s ++ drop (2 * n) (zeros 4096))) s ew es c.loops.ensures.2, omega (arith, c.loops.ensures.1, c.requires.few), omega (arith, sym (lent-cut 2048 n w c.loops.auto.ways c.requires.few), c.requires.few))
 
 pub returns : goal.returns
 unfolding zeros
@@ -98,7 +98,7 @@ returns c = let a = c.args in
     let w = c.loops.new.ways in
     let s = c.loops.new.stretches in
     let long : 2 * n ≤ 4096 = omega (arith, c.requires.few) in
-    let ew = lent-part 2048 n w c.loops.auto.1.1.0 c.requires.few in
-    let es = lent-part 4096 (2 * n) s c.loops.auto.1.1.1.0 long in
+    let ew = lent-part 2048 n w c.loops.auto.ways c.requires.few in
+    let es = lent-part 4096 (2 * n) s c.loops.auto.stretches long in
     ends-staged (roundRows (usesIn a.uses.now) (numbersIn a.c a.m) (loopsIn c.loops.result (take n (w ++ drop n (zeros 2048))) (take (2 * n) (s ++ drop (2 * n) (zeros 4096))))) (roundRows (usesIn a.uses.now) (numbersIn a.c a.m) (loopsOf (circuits a.removed.now a.succ.now))) a.out.now c.write_loops.new.out c.write_loops.result
     (ap (roundRows (usesIn a.uses.now) (numbersIn a.c a.m)) (loops-back c.loops.result (take n (w ++ drop n (zeros 2048))) w (take (2 * n) (s ++ drop (2 * n) (zeros 4096))) s ew es ∙ c.loops.ensures.0)) refl c.write_loops.ensures

@@ -14,16 +14,16 @@ sew_loaded-requires c =
 
 pub returns-in-Refused : goal.returns-in-Refused
 returns-in-Refused c =
-    let at_load : tie.After-load = search in (
+    (
       ends-refused _ c.args.out.now _ _ (sym (stage-body c.args.job.now (length c.args.out.now)) ∙ sew-refused c.args.job.now
-          at_load.load.new.index at_load.load.result _ _ _ at_load.load.ensures c.in-Refused.is),
+          c.load-r.new.index c.load-r.result _ _ _ c.load-r.ensures c.in-Refused.is),
       promises fullTable c.args.job.now,
     )
 
 pub returns-in-Done : goal.returns-in-Done
 returns-in-Done c =
-    let at-sew-loaded : tie.After-sew-loaded = search in (
-      ends-as _ _ c.args.out.now at-sew-loaded.sew-loaded.last.1.1.1.0 at-sew-loaded.sew-loaded.result
-          (sym (stage-body c.args.job.now (length c.args.out.now))) at-sew-loaded.sew-loaded.ensures,
+    (
+      ends-as _ _ c.args.out.now c.sew_loaded.new.out c.sew_loaded.result
+          (sym (stage-body c.args.job.now (length c.args.out.now))) c.sew_loaded.ensures,
       promises fullTable c.args.job.now,
     )

@@ -12,7 +12,7 @@ walks-g-requires c = let a = c.args in
 
 pub write_walk-requires : goal.write_walk-requires
 write_walk-requires c = let a = c.args in
-    omega (arith, c.walks-g.auto.1.1.1.1.1.0, c.requires.1.removed, (opened-limited a.job.now a.index.now a.c c.requires.0.grouped.paired.opened).uses)
+    omega (arith, c.walks-g.auto.removed, c.requires.1.removed, (opened-limited a.job.now a.index.now a.c c.requires.0.grouped.paired.opened).uses)
 
 pub returns-then-stage-eq-WALK : goal.returns-then-stage-eq-WALK
 returns-then-stage-eq-WALK c = let a = c.args in

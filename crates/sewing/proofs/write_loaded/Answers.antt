@@ -54,7 +54,7 @@ overflow_mul-uses-2 c =
 -- array-share-prefix-uses c =
 --     let a = c.args in
 --     let limits = opened-limited a.job.now a.index.now a.c c.requires in
---     lent-room 8192 (4 * a.c.uses) c.read.new.uses c.read.kept.1.1.1.0 (omega (arith, limits.uses))
+--     lent-room 8192 (4 * a.c.uses) c.read.new.uses c.read.auto.uses (omega (arith, limits.uses))
 
 -- no goal for slice-aggregate-write-read
 -- -- old need: slice-aggregate-write-read
@@ -63,14 +63,14 @@ overflow_mul-uses-2 c =
 -- slice-aggregate-write-read c =
 --     let a = c.args in
 --     let limits = opened-limited a.job.now a.index.now a.c c.requires in
---     lent-cut 8192 (4 * a.c.uses) c.read.new.uses c.read.kept.1.1.1.0 (omega (arith, limits.uses))
+--     lent-cut 8192 (4 * a.c.uses) c.read.new.uses c.read.auto.uses (omega (arith, limits.uses))
 
 pub write_read-requires : goal.write_read-requires
 unfolding zeros
 write_read-requires c =
     let a = c.args in
     let limits = opened-limited a.job.now a.index.now a.c c.requires in
-    let part = lent-part 8192 (4 * a.c.uses) c.read.new.uses c.read.kept.1.1.1.0 (omega (arith, limits.uses)) in
+    let part = lent-part 8192 (4 * a.c.uses) c.read.new.uses c.read.auto.uses (omega (arith, limits.uses)) in
     omega (arith, ap (λ l. length (usesIn l)) part, ap length c.read.ensures, (opened-counted a.job.now a.index.now a.c c.requires).uses, limits.uses)
 
 pub returns : goal.returns
@@ -78,7 +78,7 @@ unfolding zeros
 returns c =
     let a = c.args in
     let limits = opened-limited a.job.now a.index.now a.c c.requires in
-    let part = lent-part 8192 (4 * a.c.uses) c.read.new.uses c.read.kept.1.1.1.0 (omega (arith, limits.uses)) in
+    let part = lent-part 8192 (4 * a.c.uses) c.read.new.uses c.read.auto.uses (omega (arith, limits.uses)) in
     let same = ap usesIn part ∙ c.read.ensures in
     ends-staged _ (flat_map useFields (usesOf (jobIn a.job.now a.index.now a.c))) a.out.now c.write_read.new.out c.write_read.result
     (ap (flat_map useFields) same)
