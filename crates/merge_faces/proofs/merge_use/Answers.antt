@@ -48,6 +48,6 @@ returns c =
     λ g st.
     subst (MergedTo c.join_by.result c.join_by.new.labels g)
     (sym (use-answered ans fs us a.twins.now a.h c.get-t.result c.get-t.ensures.0 c.use_face-a.result c.use_face-b.result
-    c.use_face-a.ensures.0 c.use_face-b.ensures.0 c.if-t-h.false c.if-a-b.false g c.ask_surface.result c.in-Says.given.0.0
+    c.use_face-a.ensures.0 c.use_face-b.ensures.0 c.if-t-h.false c.if-a-b.false g c.ask_surface.result c.in-Says.v
     c.ask_surface.ensures c.in-Says.is))
     (c.join_by.ensures g st)
