@@ -7,4 +7,4 @@ pub returns-then-v-eq-UNSET : goal.returns-then-v-eq-UNSET
 returns-then-v-eq-UNSET c = let a = c.args in vertex-none a.vertices.now a.count a.v c.if-v-eq-UNSET.true
 
 pub returns : goal.returns
-returns c = let a = c.args in c.number_of_lem.ensures ∙ vertex-some a.vertices.now a.count a.v c.if-v-eq-UNSET.false
+returns c = let a = c.args in c.number_of.ensures ∙ vertex-some a.vertices.now a.count a.v c.if-v-eq-UNSET.false
