@@ -3,12 +3,8 @@ use Rattle.links.specs.Fuse.{lent-order, lent-codes, lent-nexts, lent-head, slot
 use borrow.Author.Rules.{rules}
 use Rattle.links.proofs.fuse.Goals as goal
 
-abbrev start-of : tie.After-turn-and-replace → tie.Start
-start-of c = search
-
--- was overflow-sub-turn-and-replace: check which goal
-pub overflow_sub-end : goal.overflow_sub-end
-overflow_sub-end c =
+pub slice_bounds-turn_and_replace-start : goal.slice_bounds-turn_and_replace-start
+slice_bounds-turn_and_replace-start c =
     let a = c.args in
     let g = c.get-p in
     let o = c.get-k in
@@ -17,77 +13,45 @@ overflow_sub-end c =
     lent-order (linksOf a.list.now a.nexts.now a.heads.now a.owners.now a.spots.now a.stretches.now) a.y a.x g.result o.result s.result b.result
     c.requires.0 g.ensures.0 o.ensures.0 s.ensures.0 b.ensures
 
--- no goal for slice-bounds-turn-and-replace-start
--- -- old need: slice-bounds-turn-and-replace-start
--- part-turn-and-replace-start : goal.slice-bounds-turn-and-replace-start
--- part-turn-and-replace-start c =
---     let a = c.args in
---     let g = c.get-p in
---     let o = c.get-k in
---     let s = c.get-start in
---     let b = c.own_end-bound in
---     lent-order (linksOf a.list.now a.nexts.now a.heads.now a.owners.now a.spots.now a.stretches.now) a.y a.x g.result o.result s.result b.result
---     c.requires.0 g.ensures.0 o.ensures.0 s.ensures.0 b.ensures
+pub slice_bounds-turn_and_replace-end : goal.slice_bounds-turn_and_replace-end
+slice_bounds-turn_and_replace-end c =
+    let a = c.args in
+    let g = c.get-p in
+    let o = c.get-k in
+    let s = c.get-start in
+    let b = c.own_end-bound in
+    lent-codes (linksOf a.list.now a.nexts.now a.heads.now a.owners.now a.spots.now a.stretches.now) a.y a.x g.result o.result s.result b.result
+    c.requires.0 g.ensures.0 o.ensures.0 s.ensures.0 b.ensures
 
--- no goal for slice-bounds-turn-and-replace-end
--- -- old need: slice-bounds-turn-and-replace-end
--- part-turn-and-replace-end : goal.slice-bounds-turn-and-replace-end
--- part-turn-and-replace-end c =
---     let a = c.args in
---     let g = c.get-p in
---     let o = c.get-k in
---     let s = c.get-start in
---     let b = c.own_end-bound in
---     lent-codes (linksOf a.list.now a.nexts.now a.heads.now a.owners.now a.spots.now a.stretches.now) a.y a.x g.result o.result s.result b.result
---     c.requires.0 g.ensures.0 o.ensures.0 s.ensures.0 b.ensures
+pub slice_bounds-turn_and_replace-start-2 : goal.slice_bounds-turn_and_replace-start-2
+slice_bounds-turn_and_replace-start-2 c =
+    let a = c.args in
+    let g = c.get-p in
+    let o = c.get-k in
+    let s = c.get-start in
+    let b = c.own_end-bound in
+    lent-order (linksOf a.list.now a.nexts.now a.heads.now a.owners.now a.spots.now a.stretches.now) a.y a.x g.result o.result s.result b.result
+    c.requires.0 g.ensures.0 o.ensures.0 s.ensures.0 b.ensures
 
--- no goal for overflow-sub-turn-and-replace-2
--- -- old need: overflow-sub-turn-and-replace-2
--- sub-turn-and-replace-2 : goal.overflow-sub-turn-and-replace-2
--- sub-turn-and-replace-2 c =
---     let a = c.args in
---     let g = c.get-p in
---     let o = c.get-k in
---     let s = c.get-start in
---     let b = c.own_end-bound in
---     lent-order (linksOf a.list.now a.nexts.now a.heads.now a.owners.now a.spots.now a.stretches.now) a.y a.x g.result o.result s.result b.result
---     c.requires.0 g.ensures.0 o.ensures.0 s.ensures.0 b.ensures
+pub slice_bounds-turn_and_replace-end-2 : goal.slice_bounds-turn_and_replace-end-2
+slice_bounds-turn_and_replace-end-2 c =
+    let a = c.args in
+    let g = c.get-p in
+    let o = c.get-k in
+    let s = c.get-start in
+    let b = c.own_end-bound in
+    lent-nexts (linksOf a.list.now a.nexts.now a.heads.now a.owners.now a.spots.now a.stretches.now) a.y a.x g.result o.result s.result b.result
+    c.requires.0 g.ensures.0 o.ensures.0 s.ensures.0 b.ensures
 
--- no goal for slice-bounds-turn-and-replace-start-2
--- -- old need: slice-bounds-turn-and-replace-start-2
--- part-turn-and-replace-start-2 : goal.slice-bounds-turn-and-replace-start-2
--- part-turn-and-replace-start-2 c =
---     let a = c.args in
---     let g = c.get-p in
---     let o = c.get-k in
---     let s = c.get-start in
---     let b = c.own_end-bound in
---     lent-order (linksOf a.list.now a.nexts.now a.heads.now a.owners.now a.spots.now a.stretches.now) a.y a.x g.result o.result s.result b.result
---     c.requires.0 g.ensures.0 o.ensures.0 s.ensures.0 b.ensures
-
--- no goal for slice-bounds-turn-and-replace-end-2
--- -- old need: slice-bounds-turn-and-replace-end-2
--- part-turn-and-replace-end-2 : goal.slice-bounds-turn-and-replace-end-2
--- part-turn-and-replace-end-2 c =
---     let a = c.args in
---     let g = c.get-p in
---     let o = c.get-k in
---     let s = c.get-start in
---     let b = c.own_end-bound in
---     lent-nexts (linksOf a.list.now a.nexts.now a.heads.now a.owners.now a.spots.now a.stretches.now) a.y a.x g.result o.result s.result b.result
---     c.requires.0 g.ensures.0 o.ensures.0 s.ensures.0 b.ensures
-
--- no goal for slice-bounds-turn-and-replace-end-3
--- -- old need: slice-bounds-turn-and-replace-end-3
--- part-turn-and-replace-end-3 : goal.slice-bounds-turn-and-replace-end-3
--- part-turn-and-replace-end-3 c =
---     let a = c.args in
---     let g = c.get-p in
---     let o = c.get-k in
---     let s = c.get-start in
---     let b = c.own_end-bound in
---     lent-head (linksOf a.list.now a.nexts.now a.heads.now a.owners.now a.spots.now a.stretches.now) a.y a.x g.result o.result s.result b.result
---     c.requires.0 g.ensures.0 o.ensures.0 s.ensures.0 b.ensures
+pub slice_bounds-turn_and_replace-end-3 : goal.slice_bounds-turn_and_replace-end-3
+slice_bounds-turn_and_replace-end-3 c =
+    let a = c.args in
+    let g = c.get-p in
+    let o = c.get-k in
+    let s = c.get-start in
+    let b = c.own_end-bound in
+    lent-head (linksOf a.list.now a.nexts.now a.heads.now a.owners.now a.spots.now a.stretches.now) a.y a.x g.result o.result s.result b.result
+    c.requires.0 g.ensures.0 o.ensures.0 s.ensures.0 b.ensures
 
 pub turn_and_replace-requires : goal.turn_and_replace-requires
 turn_and_replace-requires c =
@@ -104,18 +68,6 @@ turn_and_replace-requires c =
       g.ensures.1,
       c.requires.1,
     )
-
--- no goal for overflow-sub-put
--- -- old need: overflow-sub-put
--- sub-put : goal.overflow-sub-put
--- sub-put c =
---     let a = c.args in
---     let g = c.get-p in
---     let o = c.get-k in
---     let s = c.get-start in
---     let b = c.own_end-bound in
---     end-there (linksOf a.list.now a.nexts.now a.heads.now a.owners.now a.spots.now a.stretches.now) a.y a.x g.result o.result s.result b.result
---     c.requires.0 g.ensures.0 o.ensures.0 s.ensures.0 b.ensures c.get-end.result c.get-end.ensures.0
 
 pub returns : goal.returns
 returns c =

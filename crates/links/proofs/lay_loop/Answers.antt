@@ -21,7 +21,7 @@ loop-i-preserved c =
     let n = length a.part.now in (
       l.invariant.0,
       lay-step a.list.now a.nexts.now l.part c.put.new.t (sets a.part.now 0 (codesAt a.list.now (follow a.nexts.now a.head (n - 0)))) l.i n l.p c.get-p.result c.get-x.result l.invariant.1 c.loop-i-test.true c.get-x.ensures.0 c.get-p.ensures.0 c.put.ensures,
-      c.put.auto.0 ∙ l.invariant.2,
+      c.put.auto.t ∙ l.invariant.2,
     )
 
 pub returns : goal.returns

@@ -40,10 +40,10 @@ pub loop-s-preserved : goal.loop-s-preserved
 loop-s-preserved c = (
   linking-more c.args.items.now c.args.stretches.now c.loop-s.list c.loop-s.nexts c.loop-s.owners c.loop-s.spots c.args.k c.loop-s.s c.get-start.result c.get-end.result c.get-x.result c.next_slot-q.result c.put.new.t c.put-in-loop-s.new.t c.put-in-loop-s-2.new.t c.put-in-loop-s-3.new.t c.loop-s.invariant.0 c.requires.1 c.get-start.ensures.0 c.get-end.ensures.0 c.loop-s.invariant.1 c.loop-s-test.true c.get-x.ensures.0 c.next_slot-q.ensures.0 c.put.ensures c.put-in-loop-s.ensures c.put-in-loop-s-2.ensures c.put-in-loop-s-3.ensures,
   omega (arith, c.loop-s.invariant.1),
-  c.put.auto.0 ∙ c.loop-s.invariant.2,
-  c.put-in-loop-s.auto.0 ∙ c.loop-s.invariant.3,
-  c.put-in-loop-s-2.auto.0 ∙ c.loop-s.invariant.4,
-  c.put-in-loop-s-3.auto.0 ∙ c.loop-s.invariant.5,
+  c.put.auto.t ∙ c.loop-s.invariant.2,
+  c.put-in-loop-s.auto.t ∙ c.loop-s.invariant.3,
+  c.put-in-loop-s-2.auto.t ∙ c.loop-s.invariant.4,
+  c.put-in-loop-s-3.auto.t ∙ c.loop-s.invariant.5,
 )
 
 pub returns : goal.returns

@@ -30,10 +30,10 @@ loop-k-preserved c = (
   c.link_loop.ensures,
   headed-more c.args.stretches.now c.args.heads.now c.loop-k.heads c.put.new.t c.loop-k.k c.get-start.result c.requires.1 c.loop-k.invariant.2 c.get-start.ensures.0 c.put.ensures,
   omega (arith, c.loop-k-test.true),
-  c.link_loop.auto.1.1.0 ∙ c.loop-k.invariant.4,
-  c.link_loop.auto.1.1.1.0 ∙ c.loop-k.invariant.5,
-  c.link_loop.auto.1.1.1.1.0 ∙ c.loop-k.invariant.6,
-  c.link_loop.auto.1.1.1.1.1.0 ∙ c.loop-k.invariant.7,
+  c.link_loop.auto.list ∙ c.loop-k.invariant.4,
+  c.link_loop.auto.nexts ∙ c.loop-k.invariant.5,
+  c.link_loop.auto.owners ∙ c.loop-k.invariant.6,
+  c.link_loop.auto.spots ∙ c.loop-k.invariant.7,
 )
 
 pub returns : goal.returns
