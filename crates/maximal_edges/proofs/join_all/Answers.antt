@@ -30,18 +30,6 @@ sweeps-init c =
 pub overflow_mul-part : goal.overflow_mul-part
 overflow_mul-part c = omega (arith, c.sweeps.invariant.6.few)
 
--- no goal for slice-reshare-prefix-part
--- -- old need: slice-reshare-prefix-part
--- slice-reshare-prefix-part : goal.slice-reshare-prefix-part
--- slice-reshare-prefix-part c = omega (arith, c.sweeps.invariant.6.size)
-
--- no goal for slice-aggregate-part
--- -- old need: slice-aggregate-part
--- slice-aggregate-part : goal.slice-aggregate-part
--- slice-aggregate-part c =
---     let l = c.sweeps in
---     sym (length-take-le (7 * l.n) l.rows (omega (arith, l.invariant.6.size)))
-
 pub sweep-change-requires : goal.sweep-change-requires
 sweep-change-requires c =
     let l = c.sweeps in
@@ -100,9 +88,8 @@ overflow_add-rings c =
     let pre = c.requires in
     omega (arith, c.sweeps.invariant.6.budget, pigeon-below 2048 c.args.names.now pre.5 (λ x m. omega (arith, pre.6 x m, pre.4.size)))
 
--- was sweeps-smaller: check which goal
-pub sweeps-smaller : goal.sweeps-smaller
-sweeps-smaller c =
+pub sweeps-smaller-in-Ring : goal.sweeps-smaller-in-Ring
+sweeps-smaller-in-Ring c =
     let a = c.args in
     let l = c.sweeps in
     let laid = laidOut l.list l.nexts l.heads l.stretches l.items in
@@ -114,9 +101,8 @@ sweeps-smaller c =
     let ring = c.ring_at in
     ring-less answers a.starts.now names whole (length a.stretches.now) l.rows l.n laid l.stretches l.ends l.lows l.highs l.joins l.rings l.low l.high l.top l.invariant.6 pre.5 (λ x m. omega (arith, pre.6 x m, pre.4.size)) a.ranks.now pre.7 c.sweep-change.result c.sweep-change.ensures _ _ c.in-Ring.is ring.new.rows ring.new.ends ring.ensures.0
 
--- was sweeps-preserved: check which goal
-pub sweeps-preserved : goal.sweeps-preserved
-sweeps-preserved c =
+pub sweeps-preserved-in-Ring : goal.sweeps-preserved-in-Ring
+sweeps-preserved-in-Ring c =
     let a = c.args in
     let l = c.sweeps in
     let laid = laidOut l.list l.nexts l.heads l.stretches l.items in
@@ -165,47 +151,42 @@ overflow_add-joins c =
     let pre = c.requires in
     omega (arith, c.sweeps.invariant.6.budget, pigeon-below 2048 c.args.names.now pre.5 (λ x m. omega (arith, pre.6 x m, pre.4.size)))
 
--- no goal for sweeps-smaller-2
--- -- old need: sweeps-smaller-2
--- sweeps-less-2 : goal.sweeps-smaller-2
--- sweeps-less-2 c =
---     let a = c.args in
---     let l = c.sweeps in
---     let laid = laidOut l.list l.nexts l.heads l.stretches l.items in
---     let links = linksOf l.list l.nexts l.heads a.owners.now l.spots l.stretches in
---     let pre = c.requires in
---     let answers = answersIn a.job.now a.index.now a.c in
---     let names = a.names.now in
---     let whole = wholeRun answers a.starts.now names a.rows.now a.count a.items.now a.stretches.now in
---     let join = c.join_at-e in
---     join-less answers a.starts.now names whole (length a.stretches.now) l.rows l.n laid l.stretches l.ends l.lows l.highs l.joins l.rings l.low l.high l.top l.invariant.6 pre.5 (λ x m. omega (arith, pre.6 x m, pre.4.size)) a.ranks.now pre.7 c.sweep-change.result c.sweep-change.ensures _ _ _ c.in-Join.is join.new.rows (laidOut join.new.list join.new.nexts join.new.heads join.new.stretches l.items) join.new.stretches join.new.ends join.new.lows join.new.highs join.result (join.ensures.lists l.items (laid-base links l.items l.invariant.6.laid))
+pub sweeps-smaller : goal.sweeps-smaller
+sweeps-smaller c =
+    let a = c.args in
+    let l = c.sweeps in
+    let laid = laidOut l.list l.nexts l.heads l.stretches l.items in
+    let links = linksOf l.list l.nexts l.heads a.owners.now l.spots l.stretches in
+    let pre = c.requires in
+    let answers = answersIn a.job.now a.index.now a.c in
+    let names = a.names.now in
+    let whole = wholeRun answers a.starts.now names a.rows.now a.count a.items.now a.stretches.now in
+    let join = c.join_at-e in
+    join-less answers a.starts.now names whole (length a.stretches.now) l.rows l.n laid l.stretches l.ends l.lows l.highs l.joins l.rings l.low l.high l.top l.invariant.6 pre.5 (λ x m. omega (arith, pre.6 x m, pre.4.size)) a.ranks.now pre.7 c.sweep-change.result c.sweep-change.ensures _ _ _ c.in-Join.is join.new.rows (laidOut join.new.list join.new.nexts join.new.heads join.new.stretches l.items) join.new.stretches join.new.ends join.new.lows join.new.highs join.result (join.ensures.lists l.items (laid-base links l.items l.invariant.6.laid))
 
--- no goal for sweeps-preserved-2
--- -- old need: sweeps-preserved-2
--- sweeps-again-2 : goal.sweeps-preserved-2
--- sweeps-again-2 c =
---     let a = c.args in
---     let l = c.sweeps in
---     let laid = laidOut l.list l.nexts l.heads l.stretches l.items in
---     let links = linksOf l.list l.nexts l.heads a.owners.now l.spots l.stretches in
---     let pre = c.requires in
---     let answers = answersIn a.job.now a.index.now a.c in
---     let names = a.names.now in
---     let whole = wholeRun answers a.starts.now names a.rows.now a.count a.items.now a.stretches.now in
---     let join = c.join_at-e in
---     let ranks = a.ranks.now in (
---       join.auto.ends ∙ l.invariant.0,
---       join.auto.lows ∙ l.invariant.1,
---       join.auto.highs ∙ l.invariant.2,
---       join.auto.rows ∙ l.invariant.3,
---       l.invariant.4,
---       join.auto.stretches ∙ l.invariant.5,
---       going-join answers a.starts.now names whole (length a.stretches.now) l.rows l.n laid l.stretches l.ends l.lows l.highs l.joins l.rings l.low l.high l.top l.invariant.6 pre.5 (λ x m. omega (arith, pre.6 x m, pre.4.size)) a.ranks.now pre.7 c.sweep-change.result c.sweep-change.ensures _ _ _ c.in-Join.is join.new.rows (laidOut join.new.list join.new.nexts join.new.heads join.new.stretches l.items) join.new.stretches join.new.ends join.new.lows join.new.highs join.result (join.ensures.lists l.items (laid-base links l.items l.invariant.6.laid)) c.next_after-top-in-Join.result c.get-p.result c.get-q.result c.lower-low.result c.lower-high.result join.auto.rows join.auto.stretches (c.next_after-top-in-Join.ensures ∙ ap (nextAfter l.high l.top) c.get-in-Join.ensures.0) (c.get-p.ensures.0 ∙ ap (λ x. get_or ranks x 0) c.wide.ensures.0) (c.get-q.ensures.0 ∙ ap (λ x. get_or ranks x 0) c.wide-in-Join.ensures.0) (c.lower-low.ensures ∙ ap (lowerOf c.next_after-top-in-Join.result) c.lower.ensures) (c.lower-high.ensures ∙ ap (lowerOf c.next_after-top-in-Join.result) c.higher.ensures),
---       join.auto.list ∙ l.invariant.7,
---       join.auto.nexts ∙ l.invariant.8,
---       join.auto.heads ∙ l.invariant.9,
---       join.auto.spots ∙ l.invariant.10,
---       l.invariant.11,
---       hung-joined names (edgesIn l.rows l.n) links l.invariant.12 c.sweep-change.result c.sweep-change.ensures.real _ _ _ c.in-Join.is (linksOf join.new.list join.new.nexts join.new.heads a.owners.now join.new.spots join.new.stretches) (edgesIn join.new.rows (l.n + 1)) join.ensures.links join.ensures.edges,
---     )
-
+pub sweeps-preserved : goal.sweeps-preserved
+sweeps-preserved c =
+    let a = c.args in
+    let l = c.sweeps in
+    let laid = laidOut l.list l.nexts l.heads l.stretches l.items in
+    let links = linksOf l.list l.nexts l.heads a.owners.now l.spots l.stretches in
+    let pre = c.requires in
+    let answers = answersIn a.job.now a.index.now a.c in
+    let names = a.names.now in
+    let whole = wholeRun answers a.starts.now names a.rows.now a.count a.items.now a.stretches.now in
+    let join = c.join_at-e in
+    let ranks = a.ranks.now in (
+      join.auto.ends ∙ l.invariant.0,
+      join.auto.lows ∙ l.invariant.1,
+      join.auto.highs ∙ l.invariant.2,
+      join.auto.rows ∙ l.invariant.3,
+      l.invariant.4,
+      join.auto.stretches ∙ l.invariant.5,
+      going-join answers a.starts.now names whole (length a.stretches.now) l.rows l.n laid l.stretches l.ends l.lows l.highs l.joins l.rings l.low l.high l.top l.invariant.6 pre.5 (λ x m. omega (arith, pre.6 x m, pre.4.size)) a.ranks.now pre.7 c.sweep-change.result c.sweep-change.ensures _ _ _ c.in-Join.is join.new.rows (laidOut join.new.list join.new.nexts join.new.heads join.new.stretches l.items) join.new.stretches join.new.ends join.new.lows join.new.highs join.result (join.ensures.lists l.items (laid-base links l.items l.invariant.6.laid)) c.next_after-top-in-Join.result c.get-p.result c.get-q.result c.lower-low.result c.lower-high.result join.auto.rows join.auto.stretches (c.next_after-top-in-Join.ensures ∙ ap (nextAfter l.high l.top) c.get-in-Join.ensures.0) (c.get-p.ensures.0 ∙ ap (λ x. get_or ranks x 0) c.wide.ensures.0) (c.get-q.ensures.0 ∙ ap (λ x. get_or ranks x 0) c.wide-in-Join.ensures.0) (c.lower-low.ensures ∙ ap (lowerOf c.next_after-top-in-Join.result) c.lower.ensures) (c.lower-high.ensures ∙ ap (lowerOf c.next_after-top-in-Join.result) c.higher.ensures),
+      join.auto.list ∙ l.invariant.7,
+      join.auto.nexts ∙ l.invariant.8,
+      join.auto.heads ∙ l.invariant.9,
+      join.auto.spots ∙ l.invariant.10,
+      l.invariant.11,
+      hung-joined names (edgesIn l.rows l.n) links l.invariant.12 c.sweep-change.result c.sweep-change.ensures.real _ _ _ c.in-Join.is (linksOf join.new.list join.new.nexts join.new.heads a.owners.now join.new.spots join.new.stretches) (edgesIn join.new.rows (l.n + 1)) join.ensures.links join.ensures.edges,
+    )

@@ -21,21 +21,17 @@ loop-k-init c = let a = c.args in (omega arith, rowed-start (faceLoopRow a.items
 --     let b : 2 * k + 1 < length c.args.stretches.now = omega (arith, c.requires.1, c.loop-k-test.true) in
 --     omega (arith, c.get-a.ensures.0, c.get-e.ensures.0, c.requires.0.order k b)
 
--- no goal for slice-bounds-put-loop-start
--- -- old need: slice-bounds-put-loop-start
--- part-put-loop-start : goal.slice-bounds-put-loop-start
--- part-put-loop-start c =
---     let k = c.loop-k.k in
---     let b : 2 * k + 1 < length c.args.stretches.now = omega (arith, c.requires.1, c.loop-k-test.true) in
---     omega (arith, c.get-a.ensures.0, c.get-e.ensures.0, c.requires.0.order k b, c.requires.0.inside k b)
+pub slice_bounds-put_loop-start : goal.slice_bounds-put_loop-start
+slice_bounds-put_loop-start c =
+    let k = c.loop-k.k in
+    let b : 2 * k + 1 < length c.args.stretches.now = omega (arith, c.requires.1, c.loop-k-test.true) in
+    omega (arith, c.get-a.ensures.0, c.get-e.ensures.0, c.requires.0.order k b, c.requires.0.inside k b)
 
--- no goal for slice-bounds-put-loop-end
--- -- old need: slice-bounds-put-loop-end
--- part-put-loop-end : goal.slice-bounds-put-loop-end
--- part-put-loop-end c =
---     let k = c.loop-k.k in
---     let b : 2 * k + 1 < length c.args.stretches.now = omega (arith, c.requires.1, c.loop-k-test.true) in
---     omega (arith, c.get-a.ensures.0, c.get-e.ensures.0, c.requires.0.order k b, c.requires.0.inside k b)
+pub slice_bounds-put_loop-end : goal.slice_bounds-put_loop-end
+slice_bounds-put_loop-end c =
+    let k = c.loop-k.k in
+    let b : 2 * k + 1 < length c.args.stretches.now = omega (arith, c.requires.1, c.loop-k-test.true) in
+    omega (arith, c.get-a.ensures.0, c.get-e.ensures.0, c.requires.0.order k b, c.requires.0.inside k b)
 
 pub put_loop-p-requires : goal.put_loop-p-requires
 put_loop-p-requires c = (part-short c.args.items.now (c.get-e.result - c.get-a.result) c.get-a.result c.requires.2, omega (arith, c.requires.3, c.requires.4, c.loop-k.invariant.0, c.loop-k.invariant.1.small))
