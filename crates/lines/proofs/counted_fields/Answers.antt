@@ -1,3 +1,4 @@
+use Rattle.std.proofs.Common.{arith}
 use Rattle.lines.specs.Text.{countedOf}
 use borrow.Author.Tests.{ne_eqb}
 use borrow.Author.Rules.{rules}
@@ -28,9 +29,9 @@ pub returns-in_default : goal.returns-in_default
 unfolding countedOf
 returns-in_default c = (
   simp (
-    ne_eqb _ _ c.in_default.not-11,
-    ne_eqb _ _ c.in_default.not-10,
-    ne_eqb _ _ c.in_default.not-6,
+    ne_eqb c.args.stage 11 (omega arith),
+    ne_eqb c.args.stage 10 (omega arith),
+    ne_eqb c.args.stage 6 (omega arith),
   ),
   search rules,
 )

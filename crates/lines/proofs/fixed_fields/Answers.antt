@@ -1,3 +1,4 @@
+use Rattle.std.proofs.Common.{arith}
 use Rattle.lines.specs.Text.{fixedOf}
 use borrow.Author.Tests.{ne_eqb}
 use borrow.Author.Rules.{rules}
@@ -39,10 +40,10 @@ pub returns-in_default : goal.returns-in_default
 unfolding fixedOf
 returns-in_default c = (
   simp (
-    ne_eqb _ _ c.in_default.not-7,
-    ne_eqb _ _ c.in_default.not-5,
-    ne_eqb _ _ c.in_default.not-2,
-    ne_eqb _ _ c.in_default.not-1,
+    ne_eqb c.args.stage 7 (omega arith),
+    ne_eqb c.args.stage 5 (omega arith),
+    ne_eqb c.args.stage 2 (omega arith),
+    ne_eqb c.args.stage 1 (omega arith),
   ),
   search rules,
   search rules,

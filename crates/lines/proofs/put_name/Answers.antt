@@ -1,3 +1,4 @@
+use Rattle.std.proofs.Common.{arith}
 use mathlib.Core.List.{[]}
 use Rattle.fields.specs.Wrote.{wrote-none}
 use Rattle.rules.specs.Listing.{wordOf}
@@ -40,4 +41,4 @@ unfolding wordOf
 returns-in-28 c = wrote-same c.args.page.now c.put_text-in-28.new.page (wordOf 28) (wordOf c.args.kind) c.args.at c.put_text-in-28.result (ap wordOf (sym c.in-28.is)) c.put_text-in-28.ensures
 
 pub returns-in_default : goal.returns-in_default
-returns-in_default c = wrote-same c.args.page.now c.args.page.now [] (wordOf c.args.kind) c.args.at c.args.at (name-none c.args.kind c.if-kind-le21.false c.in_default.not-22 c.in_default.not-23 c.in_default.not-24 c.in_default.not-25 c.in_default.not-26 c.in_default.not-27 c.in_default.not-28) (wrote-none c.args.page.now c.args.at)
+returns-in_default c = wrote-same c.args.page.now c.args.page.now [] (wordOf c.args.kind) c.args.at c.args.at (name-none c.args.kind c.if-kind-le21.false (omega arith) (omega arith) (omega arith) (omega arith) (omega arith) (omega arith) (omega arith)) (wrote-none c.args.page.now c.args.at)
