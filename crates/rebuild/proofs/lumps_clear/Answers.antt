@@ -49,7 +49,7 @@ clear_edges-requires c = (c.requires.edges, c.requires.uses, lumped-low c.requir
 
 pub returns-in-Refused : goal.returns-in-Refused
 unfolding zeros
-returns-in-Refused c = lumped-refused c.requires c.lump_labels.new.labels c.lump_labels.auto.labels c.lump_labels.ensures c.args.twins.now c.args.starts.now c.points_clear-t.result c.in-Refused.given.0.0 c.in-Refused.given.0.1.0 c.points_clear-t.ensures c.in-Refused.is
+returns-in-Refused c = lumped-refused c.requires c.lump_labels.new.labels c.lump_labels.auto.labels c.lump_labels.ensures c.args.twins.now c.args.starts.now c.points_clear-t.result c.in-Refused.number c.in-Refused.place c.points_clear-t.ensures c.in-Refused.is
 
 pub returns-in-Done : goal.returns-in-Done
 unfolding zeros

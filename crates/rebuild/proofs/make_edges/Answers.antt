@@ -22,7 +22,7 @@ use Rattle.rebuild.proofs.make_edges.Goals as goal
 -- no goal for slice-aggregate-loop-faces-2
 -- -- old need: slice-aggregate-loop-faces-2
 -- slice-aggregate-loop-faces-2 : goal.slice-aggregate-loop-faces-2
--- slice-aggregate-loop-faces-2 c = sym (length-take-le c.loops.result c.args.faces.now (omega (arith, c.loops.ensures.1, c.requires.3.faces-size)))
+-- slice-aggregate-loop-faces-2 c = sym (length-take-le c.loops-loops.result c.args.faces.now (omega (arith, c.loops-loops.ensures.1, c.requires.3.faces-size)))
 
 -- no goal for slice-aggregate-edges
 -- -- old need: slice-aggregate-edges
@@ -37,10 +37,10 @@ items-requires c = few-owners (edgesIn c.args.job.now c.args.c) (usesIn c.args.u
 
 pub returns : goal.returns
 returns c =
-    let cut : c.loops.result ≤ length c.args.faces.now = omega (arith, c.loops.ensures.1, c.requires.3.faces-size) in
+    let cut : c.loops-loops.result ≤ length c.args.faces.now = omega (arith, c.loops-loops.ensures.1, c.requires.3.faces-size) in
     lined (edgesIn c.args.job.now c.args.c) (usesIn c.args.uses.now) c.args.twins.now c.args.removed.now (numbersIn c.args.c c.args.m) c.args.succ.now c.args.fans.now c.args.rows.now c.args.owns.now c.args.items.now c.args.stretches.now c.args.faces.now c.requires.3
-    c.loops.new.ways c.loops.new.stretches c.loop-faces.last.1.1.1.1.0 _ c.edges-edges.new.owns c.edges-edges.new.rows c.items.new.ways
-    c.loops.result c.edges-edges.result c.loops.ensures.0 c.loops.ensures.1 c.loops.ensures.2
-    (c.loop-faces.ensures ∙ ap (λ k. map (loopFace (usesIn c.args.uses.now) (numbersIn c.args.c c.args.m) c.loops.new.ways c.loops.new.stretches) (below k)) (length-take-le c.loops.result c.args.faces.now cut))
-    (cut-back c.loops.result c.args.faces.now c.loop-faces.last.1.1.1.1.0 cut c.loop-faces.auto.1.1.1.1.0)
+    c.loops-loops.new.ways c.loops-loops.new.stretches c.loop_faces.new.faces _ c.edges-edges.new.owns c.edges-edges.new.rows c.items.new.ways
+    c.loops-loops.result c.edges-edges.result c.loops-loops.ensures.0 c.loops-loops.ensures.1 c.loops-loops.ensures.2
+    (c.loop_faces.ensures ∙ ap (λ k. map (loopFace (usesIn c.args.uses.now) (numbersIn c.args.c c.args.m) c.loops-loops.new.ways c.loops-loops.new.stretches) (below k)) (length-take-le c.loops-loops.result c.args.faces.now cut))
+    (cut-back c.loops-loops.result c.args.faces.now c.loop_faces.new.faces cut c.loop_faces.auto.faces)
     c.edges-edges.ensures c.items.ensures

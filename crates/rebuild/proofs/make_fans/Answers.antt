@@ -14,15 +14,11 @@ fan_names-k-requires c = ((settled-limited c.requires.0).vertices, (settled-limi
 pub start_points-requires : goal.start_points-requires
 start_points-requires c = ((settled-limited c.requires.0).vertices, (settled-limited c.requires.0).edges, c.requires.3 ∙ settled-twins c.requires.0)
 
--- no goal for slice-reshare-prefix-on-fanned
--- -- old need: slice-reshare-prefix-on-fanned
--- slice-reshare-prefix-on-fanned : goal.slice-reshare-prefix-on-fanned
--- slice-reshare-prefix-on-fanned c = omega (arith, c.fan_names-k.ensures.1, c.fan_names-k.auto.names, c.requires.2, settled-twins c.requires.0)
+pub slice_bounds-on_fanned-end : goal.slice_bounds-on_fanned-end
+slice_bounds-on_fanned-end c = omega (arith, c.fan_names-k.ensures.1, c.fan_names-k.auto.names, c.requires.2, settled-twins c.requires.0)
 
--- no goal for slice-aggregate-on-fanned
--- -- old need: slice-aggregate-on-fanned
--- slice-aggregate-on-fanned : goal.slice-aggregate-on-fanned
--- slice-aggregate-on-fanned c = sym (length-take-le c.fan_names-k.result c.fan_names-k.new.names (omega (arith, c.fan_names-k.ensures.1, c.fan_names-k.auto.names, c.requires.2, settled-twins c.requires.0)))
+pub slice_bounds-on_fanned-end-2 : goal.slice_bounds-on_fanned-end-2
+slice_bounds-on_fanned-end-2 c = sym (length-take-le c.fan_names-k.result c.fan_names-k.new.names (omega (arith, c.fan_names-k.ensures.1, c.fan_names-k.auto.names, c.requires.2, settled-twins c.requires.0)))
 
 pub on_fanned-requires : goal.on_fanned-requires
 on_fanned-requires c = (record { settled = c.requires.0; fans-are = c.fans.ensures; names-are = c.fan_names-k.ensures.0; starts-are = c.start_points.ensures }, c.requires.4)

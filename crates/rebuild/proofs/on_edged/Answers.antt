@@ -27,7 +27,7 @@ on_joined-requires c =
     let stretches = run.new.stretches in
     let tables =
     joined-tables a.job.now a.index.now a.c a.starts.now a.names.now a.rows.now rows a.count a.items.now items a.stretches.now stretches a.faces.now run.result
-    c.in-Done.given.0.0 (names-low pre.0) pre.1 run.auto.items run.auto.stretches
+    c.in-Done.k (names-low pre.0) pre.1 run.auto.items run.auto.stretches
     (run.ensures.0 a.faces.now pre.1.loops) run.ensures.1 c.in-Done.is in
     (pre.0, tables, spare-same (length (usesIn a.uses.now)) a.rows.now rows a.numbers.now a.vertices.now pre.4 run.auto.rows)
 
@@ -41,7 +41,7 @@ returns-in-Refused c =
     let stretches = run.new.stretches in
     let ran = run.ensures.0 a.faces.now c.requires.1.loops in
     λ f H. edges-refused a.job.now a.index.now H a.stage a.out.now state rows items stretches a.faces.now run.result ran c.if-stage-eq-EDGES.false
-    c.in-Refused.given.0.0 c.in-Refused.given.0.1.0 c.in-Refused.is
+    c.in-Refused.number c.in-Refused.place c.in-Refused.is
 
 pub returns-in-Done : goal.returns-in-Done
 returns-in-Done c =
@@ -54,4 +54,4 @@ returns-in-Done c =
     let stretches = run.new.stretches in
     let ran = run.ensures.0 a.faces.now c.requires.1.loops in
     λ f H. edges-joined a.job.now a.index.now H a.stage a.out.now state rows items stretches a.faces.now run.result ran c.if-stage-eq-EDGES.false
-    c.in-Done.given.0.0 next.new.out next.result c.in-Done.is (next.ensures f H)
+    c.in-Done.k next.new.out next.result c.in-Done.is (next.ensures f H)

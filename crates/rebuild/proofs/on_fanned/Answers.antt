@@ -9,21 +9,17 @@ write_fans-requires c = ((settled-limited c.requires.0.settled).vertices, (settl
 pub returns-then-stage-eq-FANS : goal.returns-then-stage-eq-FANS
 returns-then-stage-eq-FANS c = fans-written c.requires.0 c.args.stage c.args.out.now c.write_fans.new.out c.write_fans.result c.if-stage-eq-FANS.true c.write_fans.ensures
 
--- no goal for array-share-prefix-boundaries
--- -- old need: array-share-prefix-boundaries
--- array-share-prefix-boundaries : goal.array-share-prefix-boundaries
--- array-share-prefix-boundaries c = settled-faces c.requires.0.settled
+pub slice_bounds-boundaries-end : goal.slice_bounds-boundaries-end
+slice_bounds-boundaries-end c = settled-faces c.requires.0.settled
 
--- no goal for slice-aggregate-points-clear
--- -- old need: slice-aggregate-points-clear
--- slice-aggregate-points-clear : goal.slice-aggregate-points-clear
--- slice-aggregate-points-clear c = settled-cut c.requires.0.settled
+pub slice_bounds-points_clear-end : goal.slice_bounds-points_clear-end
+slice_bounds-points_clear-end c = settled-cut c.requires.0.settled
 
 pub points_clear-t-requires : goal.points_clear-t-requires
 points_clear-t-requires c = names-few (fanned-sizes c.requires.0)
 
 pub returns-in-Refused : goal.returns-in-Refused
-returns-in-Refused c = fans-refused c.requires.0 c.args.stage c.args.out.now c.points_clear-t.result c.in-Refused.given.0.0 c.in-Refused.given.0.1.0 c.if-stage-eq-FANS.false c.points_clear-t.ensures c.in-Refused.is
+returns-in-Refused c = fans-refused c.requires.0 c.args.stage c.args.out.now c.points_clear-t.result c.in-Refused.number c.in-Refused.place c.if-stage-eq-FANS.false c.points_clear-t.ensures c.in-Refused.is
 
 pub returns-in-Done : goal.returns-in-Done
 returns-in-Done c = fans-on c.requires.0 c.args.stage c.args.out.now c.on_apart.new.out c.on_apart.result c.points_clear-t.result c.if-stage-eq-FANS.false c.points_clear-t.ensures c.in-Done.is c.on_apart.ensures

@@ -33,7 +33,7 @@ pub returns-in-Refused : goal.returns-in-Refused
 returns-in-Refused c =
     let a = c.args in
     let pre = c.requires in
-    λ f H. lumps-refused a.job.now a.index.now H a.stage a.out.now a.rows.now a.k a.items.now a.stretches.now a.faces.now a.n a.table.now pre.2 c.lumps_clear-t.result c.lumps_clear-t.ensures c.if-stage-eq-LUMPS.false c.in-Refused.given.0.0 c.in-Refused.given.0.1.0 c.in-Refused.is
+    λ f H. lumps-refused a.job.now a.index.now H a.stage a.out.now a.rows.now a.k a.items.now a.stretches.now a.faces.now a.n a.table.now pre.2 c.lumps_clear-t.result c.lumps_clear-t.ensures c.if-stage-eq-LUMPS.false c.in-Refused.number c.in-Refused.place c.in-Refused.is
 
 -- no goal for slice-aggregate-put-body
 -- -- old need: slice-aggregate-put-body

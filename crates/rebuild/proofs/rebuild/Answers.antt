@@ -3,21 +3,17 @@ use Rattle.rebuild.specs.LoopExits.{loops-refused, loops-on}
 use borrow.Author.Rules.{rules}
 use Rattle.rebuild.proofs.rebuild.Goals as goal
 
--- no goal for array-share-prefix-boundaries
--- -- old need: array-share-prefix-boundaries
--- array-share-prefix-boundaries : goal.array-share-prefix-boundaries
--- array-share-prefix-boundaries c = settled-faces c.requires
+pub slice_bounds-boundaries-end : goal.slice_bounds-boundaries-end
+slice_bounds-boundaries-end c = settled-faces c.requires
 
--- no goal for slice-aggregate-clear-edges
--- -- old need: slice-aggregate-clear-edges
--- slice-aggregate-clear-edges : goal.slice-aggregate-clear-edges
--- slice-aggregate-clear-edges c = settled-cut c.requires
+pub slice_bounds-clear_edges-end : goal.slice_bounds-clear_edges-end
+slice_bounds-clear_edges-end c = settled-cut c.requires
 
 pub clear_edges-t-requires : goal.clear_edges-t-requires
 clear_edges-t-requires c = ((settled-limited c.requires).edges, settled-few c.requires, settled-low c.requires)
 
 pub returns-in-Refused : goal.returns-in-Refused
-returns-in-Refused c = loops-refused c.requires c.args.stage c.args.out.now c.clear_edges-t.result c.in-Refused.given.0.0 c.in-Refused.given.0.1.0 c.clear_edges-t.ensures c.in-Refused.is
+returns-in-Refused c = loops-refused c.requires c.args.stage c.args.out.now c.clear_edges-t.result c.in-Refused.number c.in-Refused.place c.clear_edges-t.ensures c.in-Refused.is
 
 pub returns-then-twins-le64 : goal.returns-then-twins-le64
 returns-then-twins-le64 c = loops-on c.requires c.args.stage c.args.out.now c.in_small_tables.new.out c.in_small_tables.result c.clear_edges-t.result c.clear_edges-t.ensures c.in-Done.is c.in_small_tables.ensures
