@@ -17,8 +17,8 @@ write_kept-requires c = let a = c.args in omega (arith, c.requires.few, (opened-
 
 pub returns-then-stage-eq-VERTEX_LOOPS : goal.returns-then-stage-eq-VERTEX_LOOPS
 returns-then-stage-eq-VERTEX_LOOPS c = let a = c.args in
-    ends-staged (keptRows a.kept.now a.k) (keptRows a.kept.now a.k) a.out.now c.write-Kept.new.1.1.0 c.write-Kept.result refl
-    (keeping-asked a.stage (jobIn a.job.now a.index.now a.c) (length a.out.now) a.c a.m (usesIn a.uses.now) a.twins.now (removedUses (usesIn a.uses.now) a.twins.now (groupsIn a.c a.m)) a.k a.kept.now c.if-stage-eq-VERTEX_LOOPS.true) c.write-Kept.ensures
+    ends-staged (keptRows a.kept.now a.k) (keptRows a.kept.now a.k) a.out.now c.write_kept.new.out c.write_kept.result refl
+    (keeping-asked a.stage (jobIn a.job.now a.index.now a.c) (length a.out.now) a.c a.m (usesIn a.uses.now) a.twins.now (removedUses (usesIn a.uses.now) a.twins.now (groupsIn a.c a.m)) a.k a.kept.now c.if-stage-eq-VERTEX_LOOPS.true) c.write_kept.ensures
 
 pub returns-then-c-le64 : goal.returns-then-c-le64
 returns-then-c-le64 c = let a = c.args in

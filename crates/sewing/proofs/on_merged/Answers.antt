@@ -10,25 +10,17 @@ use native.Mathlib.Omega.{arith}
 use borrow.Author.Rules.{rules}
 use Rattle.sewing.proofs.on_merged.Goals as goal
 
--- no goal for array-share-prefix-labels
--- -- old need: array-share-prefix-labels
--- array-share-prefix-labels : goal.array-share-prefix-labels
--- array-share-prefix-labels c = omega (arith, c.requires.0.boundaries-size, (opened-limited c.args.job.now c.args.index.now c.args.c c.requires.0.paired.opened).faces)
+pub slice_bounds-labels-end : goal.slice_bounds-labels-end
+slice_bounds-labels-end c = omega (arith, c.requires.0.boundaries-size, (opened-limited c.args.job.now c.args.index.now c.args.c c.requires.0.paired.opened).faces)
 
--- no goal for slice-aggregate-write-pairs
--- -- old need: slice-aggregate-write-pairs
--- slice-aggregate-write-pairs : goal.slice-aggregate-write-pairs
--- slice-aggregate-write-pairs c = sym (faces-cut c.args.job.now c.args.index.now c.args.c (usesIn c.args.uses.now) c.args.twins.now c.args.m c.requires.0 c.args.stage 0 c.args.m.boundaries c.requires.0.boundaries-size)
+pub slice_bounds-write_pairs-end : goal.slice_bounds-write_pairs-end
+slice_bounds-write_pairs-end c = sym (faces-cut c.args.job.now c.args.index.now c.args.c (usesIn c.args.uses.now) c.args.twins.now c.args.m c.requires.0 c.args.stage 0 c.args.m.boundaries c.requires.0.boundaries-size)
 
--- no goal for array-share-prefix-groups
--- -- old need: array-share-prefix-groups
--- array-share-prefix-groups : goal.array-share-prefix-groups
--- array-share-prefix-groups c = omega (arith, c.requires.0.groups-size, (opened-limited c.args.job.now c.args.index.now c.args.c c.requires.0.paired.opened).faces)
+pub slice_bounds-groups-end : goal.slice_bounds-groups-end
+slice_bounds-groups-end c = omega (arith, c.requires.0.groups-size, (opened-limited c.args.job.now c.args.index.now c.args.c c.requires.0.paired.opened).faces)
 
--- no goal for slice-aggregate-write-pairs-2
--- -- old need: slice-aggregate-write-pairs-2
--- slice-aggregate-write-pairs-2 : goal.slice-aggregate-write-pairs-2
--- slice-aggregate-write-pairs-2 c = sym (faces-cut c.args.job.now c.args.index.now c.args.c (usesIn c.args.uses.now) c.args.twins.now c.args.m c.requires.0 c.args.stage 0 c.args.m.groups c.requires.0.groups-size)
+pub slice_bounds-write_pairs-end-then-stage-eq-MERGE : goal.slice_bounds-write_pairs-end-then-stage-eq-MERGE
+slice_bounds-write_pairs-end-then-stage-eq-MERGE c = sym (faces-cut c.args.job.now c.args.index.now c.args.c (usesIn c.args.uses.now) c.args.twins.now c.args.m c.requires.0 c.args.stage 0 c.args.m.groups c.requires.0.groups-size)
 
 pub write_pairs-requires : goal.write_pairs-requires
 write_pairs-requires c = omega (arith, faces-cut c.args.job.now c.args.index.now c.args.c (usesIn c.args.uses.now) c.args.twins.now c.args.m c.requires.0 c.args.stage 0 c.args.m.boundaries c.requires.0.boundaries-size, (opened-limited c.args.job.now c.args.index.now c.args.c c.requires.0.paired.opened).faces)
@@ -38,15 +30,11 @@ returns-then-stage-eq-MERGE c = let a = c.args in
     ends-staged (pairRows (boundariesIn a.c a.m) (groupsIn a.c a.m)) (pairRows (boundariesIn a.c a.m) (groupsIn a.c a.m)) a.out.now c.write_pairs.new.out c.write_pairs.result refl
     (merging-asked a.job.now a.index.now a.c (usesIn a.uses.now) a.twins.now a.m c.requires.0 a.stage (length a.out.now) c.if-stage-eq-MERGE.true) c.write_pairs.ensures
 
--- no goal for array-share-prefix-numbers
--- -- old need: array-share-prefix-numbers
--- array-share-prefix-numbers : goal.array-share-prefix-numbers
--- array-share-prefix-numbers c = omega (arith, c.requires.0.numbers-size, (opened-limited c.args.job.now c.args.index.now c.args.c c.requires.0.paired.opened).faces)
+pub slice_bounds-numbers-end : goal.slice_bounds-numbers-end
+slice_bounds-numbers-end c = omega (arith, c.requires.0.numbers-size, (opened-limited c.args.job.now c.args.index.now c.args.c c.requires.0.paired.opened).faces)
 
--- no goal for slice-aggregate-vertex-loops
--- -- old need: slice-aggregate-vertex-loops
--- slice-aggregate-vertex-loops : goal.slice-aggregate-vertex-loops
--- slice-aggregate-vertex-loops c = sym (faces-cut c.args.job.now c.args.index.now c.args.c (usesIn c.args.uses.now) c.args.twins.now c.args.m c.requires.0 c.args.stage 0 c.args.m.numbers c.requires.0.numbers-size)
+pub slice_bounds-vertex_loops-end : goal.slice_bounds-vertex_loops-end
+slice_bounds-vertex_loops-end c = sym (faces-cut c.args.job.now c.args.index.now c.args.c (usesIn c.args.uses.now) c.args.twins.now c.args.m c.requires.0 c.args.stage 0 c.args.m.numbers c.requires.0.numbers-size)
 
 pub vertex_loops-r-requires : goal.vertex_loops-r-requires
 vertex_loops-r-requires c = let L = opened-limited c.args.job.now c.args.index.now c.args.c c.requires.0.paired.opened in

@@ -20,23 +20,19 @@ pub returns-then-stage-eq-PAIR : goal.returns-then-stage-eq-PAIR
 returns-then-stage-eq-PAIR c =
     let a = c.args in
     let x = c.write_twins in
-    ends-staged a.twins.now a.twins.now a.out.now x.new.index x.result refl
+    ends-staged a.twins.now a.twins.now a.out.now x.new.out x.result refl
     (pairing-asked a.stage (jobIn a.job.now a.index.now a.c) (usesIn a.uses.now) (length a.out.now) a.twins.now c.if-stage-eq-PAIR.true) x.ensures
 
--- no goal for array-borrow-prefix-groups
--- -- old need: array-borrow-prefix-groups
--- array-borrow-prefix-groups : goal.array-borrow-prefix-groups
--- array-borrow-prefix-groups c =
---     let a = c.args in
---     (opened-limited a.job.now a.index.now a.c c.requires.0.opened).faces
+pub slice_bounds-groups-end : goal.slice_bounds-groups-end
+slice_bounds-groups-end c =
+    let a = c.args in
+    (opened-limited a.job.now a.index.now a.c c.requires.0.opened).faces
 
--- no goal for slice-aggregate-merge-faces
--- -- old need: slice-aggregate-merge-faces
--- slice-aggregate-merge-faces : goal.slice-aggregate-merge-faces
--- unfolding zeros
--- slice-aggregate-merge-faces c =
---     let a = c.args in
---     part-size a.c.faces 256 (opened-limited a.job.now a.index.now a.c c.requires.0.opened).faces
+pub slice_bounds-merge_faces-end : goal.slice_bounds-merge_faces-end
+unfolding zeros
+slice_bounds-merge_faces-end c =
+    let a = c.args in
+    part-size a.c.faces 256 (opened-limited a.job.now a.index.now a.c c.requires.0.opened).faces
 
 pub merge_faces-r-requires : goal.merge_faces-r-requires
 unfolding zeros

@@ -18,17 +18,13 @@ returns-then-p-ne0 c =
     ends-refused _ a.out.now _ _ (pairs-refused a.job.now a.index.now a.c (usesIn a.uses.now) c.requires.0.read a.stage (length a.out.now)
     c.pair-p.result.refusal c.pair-p.result.place c.pair-p.result.twins c.pair-p.ensures.0 c.if-p-ne0.true)
 
--- no goal for array-share-prefix-twins
--- -- old need: array-share-prefix-twins
--- array-share-prefix-twins : goal.array-share-prefix-twins
--- array-share-prefix-twins c =
---     omega (arith, c.pair-p.ensures.1, c.requires.1)
+pub slice_bounds-twins-end : goal.slice_bounds-twins-end
+slice_bounds-twins-end c =
+    omega (arith, c.pair-p.ensures.1, c.requires.1)
 
--- no goal for slice-aggregate-on-paired
--- -- old need: slice-aggregate-on-paired
--- slice-aggregate-on-paired : goal.slice-aggregate-on-paired
--- slice-aggregate-on-paired c =
---     sym (length-take-le c.args.c.uses c.pair-p.result.twins (omega (arith, c.pair-p.ensures.1, c.requires.1)))
+pub slice_bounds-on_paired-end : goal.slice_bounds-on_paired-end
+slice_bounds-on_paired-end c =
+    sym (length-take-le c.args.c.uses c.pair-p.result.twins (omega (arith, c.pair-p.ensures.1, c.requires.1)))
 
 pub on_paired-requires : goal.on_paired-requires
 on_paired-requires c =

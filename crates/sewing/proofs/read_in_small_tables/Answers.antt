@@ -5,29 +5,21 @@ use native.Mathlib.Omega.{arith}
 use borrow.Author.Rules.{rules}
 use Rattle.sewing.proofs.read_in_small_tables.Goals as goal
 
--- no goal for slice-aggregate-read-in
--- -- old need: slice-aggregate-read-in
--- slice-aggregate-read-in : goal.slice-aggregate-read-in
--- unfolding zeros
--- slice-aggregate-read-in c = part-size (4 * c.args.c.uses) 256 (omega (arith, c.requires.1))
+pub slice_bounds-read_in-end : goal.slice_bounds-read_in-end
+unfolding zeros
+slice_bounds-read_in-end c = part-size (4 * c.args.c.uses) 256 (omega (arith, c.requires.1))
 
--- no goal for slice-aggregate-read-in-2
--- -- old need: slice-aggregate-read-in-2
--- slice-aggregate-read-in-2 : goal.slice-aggregate-read-in-2
--- unfolding zeros
--- slice-aggregate-read-in-2 c = part-size c.args.c.edges 64 c.requires.2
+pub slice_bounds-read_in-end-2 : goal.slice_bounds-read_in-end-2
+unfolding zeros
+slice_bounds-read_in-end-2 c = part-size c.args.c.edges 64 c.requires.2
 
--- no goal for slice-aggregate-read-in-3
--- -- old need: slice-aggregate-read-in-3
--- slice-aggregate-read-in-3 : goal.slice-aggregate-read-in-3
--- unfolding zeros
--- slice-aggregate-read-in-3 c = part-size c.args.c.uses 64 c.requires.1
+pub slice_bounds-read_in-end-3 : goal.slice_bounds-read_in-end-3
+unfolding zeros
+slice_bounds-read_in-end-3 c = part-size c.args.c.uses 64 c.requires.1
 
--- no goal for slice-aggregate-read-in-4
--- -- old need: slice-aggregate-read-in-4
--- slice-aggregate-read-in-4 : goal.slice-aggregate-read-in-4
--- unfolding zeros
--- slice-aggregate-read-in-4 c = part-size (2 * c.args.c.loops) 128 (omega (arith, c.requires.3))
+pub slice_bounds-read_in-end-4 : goal.slice_bounds-read_in-end-4
+unfolding zeros
+slice_bounds-read_in-end-4 c = part-size (2 * c.args.c.loops) 128 (omega (arith, c.requires.3))
 
 pub read_in-requires : goal.read_in-requires
 unfolding zeros

@@ -4,10 +4,8 @@ use lib.Seq.{length-take-le}
 use borrow.Author.Rules.{rules}
 use Rattle.sewing.proofs.walks.Goals as goal
 
--- no goal for slice-aggregate-remove
--- -- old need: slice-aggregate-remove
--- slice-aggregate-remove : goal.slice-aggregate-remove
--- slice-aggregate-remove c = let a = c.args in sym (length-take-le a.c.faces a.m.groups c.requires.0)
+pub slice_bounds-remove-end : goal.slice_bounds-remove-end
+slice_bounds-remove-end c = let a = c.args in sym (length-take-le a.c.faces a.m.groups c.requires.0)
 
 pub returns : goal.returns
 returns c = let removing = c.remove-gone.ensures in

@@ -17,19 +17,15 @@ pub overflow_mul-uses : goal.overflow_mul-uses
 overflow_mul-uses c =
     omega (arith, (opened-limited c.args.job.now c.args.index.now c.args.c c.requires).uses)
 
--- no goal for array-borrow-prefix-uses
--- -- old need: array-borrow-prefix-uses
--- array-borrow-prefix-uses : goal.array-borrow-prefix-uses
--- array-borrow-prefix-uses c =
---     omega (arith, (opened-limited c.args.job.now c.args.index.now c.args.c c.requires).uses)
+pub slice_bounds-uses-end : goal.slice_bounds-uses-end
+slice_bounds-uses-end c =
+    omega (arith, (opened-limited c.args.job.now c.args.index.now c.args.c c.requires).uses)
 
--- no goal for slice-aggregate-read
--- -- old need: slice-aggregate-read
--- slice-aggregate-read : goal.slice-aggregate-read
--- unfolding zeros
--- slice-aggregate-read c =
---     let limits = opened-limited c.args.job.now c.args.index.now c.args.c c.requires in
---     part-size (4 * c.args.c.uses) 8192 (omega (arith, limits.uses))
+pub slice_bounds-read-end : goal.slice_bounds-read-end
+unfolding zeros
+slice_bounds-read-end c =
+    let limits = opened-limited c.args.job.now c.args.index.now c.args.c c.requires in
+    part-size (4 * c.args.c.uses) 8192 (omega (arith, limits.uses))
 
 pub read-requires : goal.read-requires
 unfolding zeros
@@ -47,23 +43,19 @@ pub overflow_mul-uses-2 : goal.overflow_mul-uses-2
 overflow_mul-uses-2 c =
     omega (arith, (opened-limited c.args.job.now c.args.index.now c.args.c c.requires).uses)
 
--- no goal for array-share-prefix-uses
--- -- old need: array-share-prefix-uses
--- array-share-prefix-uses : goal.array-share-prefix-uses
--- unfolding zeros
--- array-share-prefix-uses c =
---     let a = c.args in
---     let limits = opened-limited a.job.now a.index.now a.c c.requires in
---     lent-room 8192 (4 * a.c.uses) c.read.new.uses c.read.auto.uses (omega (arith, limits.uses))
+pub slice_bounds-uses-end-2 : goal.slice_bounds-uses-end-2
+unfolding zeros
+slice_bounds-uses-end-2 c =
+    let a = c.args in
+    let limits = opened-limited a.job.now a.index.now a.c c.requires in
+    lent-room 8192 (4 * a.c.uses) c.read.new.uses c.read.auto.uses (omega (arith, limits.uses))
 
--- no goal for slice-aggregate-write-read
--- -- old need: slice-aggregate-write-read
--- slice-aggregate-write-read : goal.slice-aggregate-write-read
--- unfolding zeros
--- slice-aggregate-write-read c =
---     let a = c.args in
---     let limits = opened-limited a.job.now a.index.now a.c c.requires in
---     lent-cut 8192 (4 * a.c.uses) c.read.new.uses c.read.auto.uses (omega (arith, limits.uses))
+pub slice_bounds-write_read-end : goal.slice_bounds-write_read-end
+unfolding zeros
+slice_bounds-write_read-end c =
+    let a = c.args in
+    let limits = opened-limited a.job.now a.index.now a.c c.requires in
+    lent-cut 8192 (4 * a.c.uses) c.read.new.uses c.read.auto.uses (omega (arith, limits.uses))
 
 pub write_read-requires : goal.write_read-requires
 unfolding zeros
