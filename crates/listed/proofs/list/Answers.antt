@@ -1,5 +1,5 @@
+
 use Rattle.lines.specs.Listed.{bytes-below, sews, lists}
-use borrow.Author.Rules.{rules}
 use Rattle.listed.proofs.list.Goals as goal
 
 pub returns : goal.returns
@@ -7,8 +7,8 @@ returns c =
     let a = c.args in
     let sew = c.sew-ending in
     let put = c.put_listing in
-    let bytes = bytes-below a.job.now (λ i. (c.shared-slice-known.given i).fits) in
-    let size = c.sew-arg.given.0.1 in (
+    let bytes = bytes-below a.job.now (λ i. (c.type_inv.job i).fits) in
+    let size = c.told-out in (
       sews a.job.now a.out.now sew.new.out sew.result sew.ensures.0,
       lists a.job.now a.out.now sew.new.out a.page.now put.new.page put.result sew.result bytes size sew.ensures.0 put.ensures,
     )

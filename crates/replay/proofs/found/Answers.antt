@@ -6,10 +6,8 @@ use native.Mathlib.Omega.{arith}
 use borrow.Author.Rules.{rules}
 use Rattle.replay.proofs.found.Goals as goal
 
--- no goal for slice-aggregate-run
--- -- old need: slice-aggregate-run
--- slice-aggregate-run : goal.slice-aggregate-run
--- slice-aggregate-run c = sym (length-take-le c.least-room.result c.args.out.now c.least-room.ensures)
+pub slice_bounds-run-end-2 : goal.slice_bounds-run-end-2
+slice_bounds-run-end-2 c = sym (length-take-le c.least-room.result c.args.out.now c.least-room.ensures)
 
 pub run-ending-requires : goal.run-ending-requires
 run-ending-requires c = (c.requires.0, omega (arith, c.requires.1, length-take c.least-room.result c.args.out.now))

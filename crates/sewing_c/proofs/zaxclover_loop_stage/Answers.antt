@@ -7,4 +7,4 @@ use borrow.Author.Rules.{rules}
 use Rattle.sewing_c.proofs.zaxclover_loop_stage.Goals as goal
 
 pub returns : goal.returns
-returns c = (told (loopStage ordinary c.args.job.now (length c.args.out.now)) c.args.out.now c.loop-stage.last.1.0 c.loop-stage.result c.tell.result c.tell.new.value c.loop-stage.ensures.0 c.tell.ensures (loops-numbered ordinary c.args.job.now (length c.args.out.now)), c.loop-stage.ensures.1)
+returns c = (told (loopStage ordinary c.args.job.now (length c.args.out.now)) c.args.out.now c.loop_stage-ending.new.out c.loop_stage-ending.result c.tell.result c.tell.new.value c.loop_stage-ending.ensures.0 c.tell.ensures (loops-numbered ordinary c.args.job.now (length c.args.out.now)), c.loop_stage-ending.ensures.1)
