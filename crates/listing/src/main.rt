@@ -3,7 +3,7 @@
 
 #![tactic(auto)]
 
-use programs::Input;
+use programs::Program;
 
 // One byte more than a job may have: a longer job is refused by its length.
 const JOB: usize = 65537;
@@ -11,18 +11,20 @@ const JOB: usize = 65537;
 // A body of 65,536 bytes has at most three characters a byte.
 const PAGE: usize = 196608;
 
-fn main() {
-    let usage: &[u8] =
-        b"listing [FILE]: lists the body of a job; without FILE the job is read from standard input\n";
-    let mut job = [0u8; JOB];
-    let input = programs::read_job(b"listing", usage, 1, &mut job);
-    let Input::Bytes(n) = input else {
+fn main(rt: HostRuntime) {
+    let program = Program {
+        name: "listing",
+        usage: "listing [FILE]: lists the body of a job; without FILE the job is read from standard input",
+    };
+    let Some(words) = programs::words(&rt, program) else {
         return;
     };
-    let mut out = io::large_buffer();
+    let mut job = [0u8; JOB];
+    let Some(n) = programs::read_job(&rt, program, words.as_slice(), 1, &mut job) else {
+        return;
+    };
+    let mut out = [0u8; 65536];
     let mut page = [0u8; PAGE];
     let length = listed::list(lines::front(&job, n), &mut out, &mut page);
-    if !io::write_all(libc::STDOUT_FILENO, lines::front(&page, length)) {
-        programs::fail(b"listing", b"standard output");
-    }
+    programs::print(&rt, program, lines::front(&page, length));
 }

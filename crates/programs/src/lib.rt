@@ -3,35 +3,30 @@
 
 #![tactic(auto)]
 
-ghost use Rattle.std.specs.Prelude.{length};
+ghost use Rattle.std.specs.Prelude.{◌≤◌, length, IfOk};
 ghost use Rattle.rules.specs.Sew.{Ends};
 ghost use Rattle.rules.specs.Operation.{operation};
 ghost use Rattle.lines.specs.StageListed.{StagedInto, StageLists};
 
 use rules::Ending;
+use std::io::Read;
+use std::rt::{Env, Files};
+use std::{env, fs, io};
 
-// What became of a reading: a read that failed, or so many bytes at the buffer's start.
-#[derive(Clone, Copy)]
-pub enum Input {
-    Failed,
-    Bytes(usize),
-}
-
-// Reads until the buffer is full or the input ends. A read that fails is told from the end of the input.
-pub fn read_to_end(fd: i32, buffer: &mut [u8]) -> Input {
+// Reads until the buffer is full or the input ends, and says how many bytes were read. A read that fails is told from the
+// end of the input.
+pub fn read_to_end<R: Read>(input: &mut R, buffer: &mut [u8]) -> io::Result<usize>
+    ensures { IfOk result (λ n. n ≤ length buffer.old) }
+{
     let mut done: usize = 0;
     while done < buffer.len() {
-        let got = libc::read(fd, &mut buffer[done..]);
-        if got < 0 {
-            return Input::Failed;
-        }
-        let n = io::count(got, &buffer[done..]);
+        let n = input.read(&mut buffer[done..])?;
         if n == 0 {
-            return Input::Bytes(done);
+            return Ok(done);
         }
         done += n;
     }
-    Input::Bytes(done)
+    Ok(done)
 }
 
 // The stages by their numbers from 1 to 11, and sewing by any other.
@@ -71,88 +66,114 @@ pub fn list_stage(stage: usize, job: &[u8], out: &mut [u8; 131072], page: &mut [
 
 // WORDS OF THE COMMAND LINE
 
+// A program: its name, by which it begins what it says on standard error, and the line that says what words it takes.
+#[derive(Clone, Copy)]
+pub struct Program<'a> {
+    pub name: &'a str,
+    pub usage: &'a str,
+}
+
 // Says on standard error why a call failed, after the program's name.
-pub fn fail(program: &[u8], what: &[u8]) {
-    io::write_all(libc::STDERR_FILENO, program);
-    io::write_all(libc::STDERR_FILENO, b": ");
-    os::fail(what);
+pub fn fail(rt: &impl Eprint, program: Program<'_>, what: &str, why: &io::Error) {
+    let name = program.name;
+    let _told = eprintln!(rt; "{name}: {what}: {why}");
 }
 
 // Says on standard error what words a program takes.
-pub fn explain(usage: &[u8]) {
-    io::write_all(libc::STDERR_FILENO, usage);
+pub fn explain(rt: &impl Eprint, program: Program<'_>) {
+    let _told = rt.eprintln(program.usage);
 }
 
-// Reads the file that word i names, or standard input if there is no such word. What is wrong is told on standard error,
-// with the words that the program takes where it lies in these.
-pub fn read_job(program: &[u8], usage: &[u8], i: usize, buffer: &mut [u8]) -> Input {
-    if os::arg_count() <= i {
-        return read_told(program, libc::STDIN_FILENO, b"standard input", buffer);
+// Prints a text on standard output; where that does not take it, that is told.
+pub fn print(rt: &(impl Print + Eprint), program: Program<'_>, text: &[u8]) {
+    if let Err(why) = Print::write_all(rt, text) {
+        fail(rt, program, "standard output", &why);
     }
-    read_file(program, usage, i, buffer)
+}
+
+// The words that the program was called with, its own name first. Where they cannot be had, that is told.
+pub fn words<R: Env + AllocGlobal + Eprint>(rt: &R, program: Program<'_>) -> Option<Vec<String>> {
+    match all_words(rt) {
+        Ok(words) => Some(words),
+        Err(why) => {
+            fail(rt, program, "its words", &why);
+            None
+        }
+    }
+}
+
+fn all_words<R: Env + AllocGlobal>(rt: &R) -> io::Result<Vec<String>> {
+    let words = env::args(rt)?.collect(rt.alloc())?;
+    Ok(words)
+}
+
+// Reads the file that word i names, or standard input if there is no such word, and says how many bytes were read. What is
+// wrong is told on standard error, with the words that the program takes where it lies in these.
+pub fn read_job<R: Files + Input + Eprint>(
+    rt: &R,
+    program: Program<'_>,
+    words: &[String],
+    i: usize,
+    buffer: &mut [u8],
+) -> Option<usize> {
+    if words.len() <= i {
+        return told(
+            rt,
+            program,
+            "standard input",
+            read_to_end(&mut rt.reader(), buffer),
+        );
+    }
+    read_file(rt, program, words, i, buffer)
 }
 
 // Reads the file that word i names, which must be the last word. What is wrong is told as by `read_job`.
-pub fn read_file(program: &[u8], usage: &[u8], i: usize, buffer: &mut [u8]) -> Input {
-    if !is_last(i) {
-        explain(usage);
-        return Input::Failed;
+pub fn read_file<R: Files + Eprint>(
+    rt: &R,
+    program: Program<'_>,
+    words: &[String],
+    i: usize,
+    buffer: &mut [u8],
+) -> Option<usize> {
+    let Some(word) = words.get(i) else {
+        explain(rt, program);
+        return None;
+    };
+    let name = word.as_str();
+    if words.len() - i != 1 || !is_name(name) {
+        explain(rt, program);
+        return None;
     }
-    let mut path = io::buffer();
-    let length = os::arg(i, &mut path);
-    // A word that is longer than any path: its front, which is in the buffer, may name another file.
-    if os::errno() != 0 {
-        fail(program, b"FILE");
-        explain(usage);
-        return Input::Failed;
+    let read = told(rt, program, name, read_named(rt, name, buffer));
+    if read.is_none() {
+        explain(rt, program);
     }
-    if !is_name(&path[..length]) {
-        explain(usage);
-        return Input::Failed;
-    }
-    read_named(program, usage, &path[..length], buffer)
-}
-
-// Whether word i is there and none comes after it.
-fn is_last(i: usize) -> bool {
-    let count = os::arg_count();
-    if count <= i {
-        return false;
-    }
-    count - i == 1
+    read
 }
 
 // Whether a word can name a file: one that begins with `-` would be an option, and there are none.
-fn is_name(word: &[u8]) -> bool {
-    if word.len() == 0 {
-        return false;
-    }
-    word[0] != b'-'
+fn is_name(word: &str) -> bool {
+    !word.is_empty() && !word.starts_with('-')
 }
 
-// Opens and reads the file of a name; where it cannot, the words are told after the reason.
-fn read_named(program: &[u8], usage: &[u8], name: &[u8], buffer: &mut [u8]) -> Input {
-    let fd = os::open_read(name);
-    if fd < 0 {
-        fail(program, name);
-        explain(usage);
-        return Input::Failed;
-    }
-    let input = read_told(program, fd, name, buffer);
-    libc::close(fd);
-    let Input::Bytes(n) = input else {
-        explain(usage);
-        return Input::Failed;
-    };
-    Input::Bytes(n)
+// Reads the file of a name to its end.
+fn read_named<R: Files>(rt: &R, name: &str, buffer: &mut [u8]) -> io::Result<usize> {
+    let mut file = fs::open(rt, name)?;
+    read_to_end(&mut file, buffer)
 }
 
-// Reads an open file to its end. Where it cannot, the reason is told at once, before another call changes it.
-fn read_told(program: &[u8], fd: i32, name: &[u8], buffer: &mut [u8]) -> Input {
-    let input = read_to_end(fd, buffer);
-    let Input::Bytes(n) = input else {
-        fail(program, name);
-        return Input::Failed;
-    };
-    Input::Bytes(n)
+// How many bytes a reading gave; where it failed, that is told.
+fn told(
+    rt: &impl Eprint,
+    program: Program<'_>,
+    what: &str,
+    read: io::Result<usize>,
+) -> Option<usize> {
+    match read {
+        Ok(n) => Some(n),
+        Err(why) => {
+            fail(rt, program, what, &why);
+            None
+        }
+    }
 }

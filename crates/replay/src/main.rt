@@ -4,13 +4,16 @@
 
 #![tactic(auto)]
 
-ghost use Rattle.std.specs.Prelude.{◌≡◌, ◌+◌, ◌<◌, ◌≤◌, ◌^◌, length};
+ghost use Rattle.std.specs.Prelude.{◌≡◌, ◌+◌, ◌<◌, ◌≤◌, ◌^◌, length, IfOk, vec_len};
 ghost use Rattle.replay.specs.Counted.{Counted};
 
 use fields::{put_word, word};
 use load::Stretched;
-use programs::Input;
+use programs::Program;
 use rules::Ending;
+use std::alloc::Global;
+use std::io;
+use std::rt::Files;
 
 // One byte more than a packed file may have: a longer file is told by its length.
 const FILE: usize = 2000001;
@@ -286,75 +289,86 @@ fn is_same(a: Answer, b: Answer) -> bool {
 
 // REPORTING
 
-fn say(text: &[u8], n: usize) {
-    io::write_all(libc::STDOUT_FILENO, text);
-    io::print_decimal(libc::STDOUT_FILENO, n as u64);
+// Says on standard output what is found; where that does not take it, the last line tells.
+fn say(rt: &impl Print, text: &str) {
+    let _told = rt.print(text);
 }
 
-fn say_answer(text: &[u8], a: Answer) {
-    say(text, a.number);
-    say(b" ", a.place);
-    say(b" ", a.hash);
-    say(b" ", a.shown);
+fn say_answer(rt: &impl Print, text: &str, a: Answer) {
+    let number = a.number;
+    let place = a.place;
+    let hash = a.hash;
+    let shown = a.shown;
+    let _told = print!(rt; " {text} {number} {place} {hash} {shown}");
 }
 
 // The line of a difference.
-fn report(vector: usize, operation: usize, expected: Answer, answer: Answer) {
-    say(b"vector ", vector);
-    say(b" operation ", operation);
-    say_answer(b" expected ", expected);
-    say_answer(b" found ", answer);
-    io::write_all(libc::STDOUT_FILENO, b"\n");
+fn report(rt: &impl Print, vector: usize, operation: usize, expected: Answer, answer: Answer) {
+    let _told = print!(rt; "vector {vector} operation {operation}");
+    say_answer(rt, "expected", expected);
+    say_answer(rt, "found", answer);
+    say(rt, "\n");
 }
 
+const PROGRAM: Program<'static> = Program {
+    name: "replay",
+    usage: "replay FILE: holds the answers packed in FILE against the answers that its jobs have now",
+};
+
 // The end of the last line. Where standard output does not take it, that is told.
-fn say_last(text: &[u8]) {
-    if !io::write_all(libc::STDOUT_FILENO, text) {
-        programs::fail(b"replay", b"standard output");
-    }
+fn say_last(rt: &(impl Print + Eprint), text: &str) {
+    programs::print(rt, PROGRAM, text.as_bytes());
 }
 
 // Says why the file is not usable; gives false.
-fn unusable(why: &[u8]) -> bool {
-    io::write_all(libc::STDOUT_FILENO, b"not usable: ");
-    io::write_all(libc::STDOUT_FILENO, why);
-    say_last(b"\n");
+fn unusable(rt: &(impl Print + Eprint), why: &str) -> bool {
+    let _told = print!(rt; "not usable: {why}");
+    say_last(rt, "\n");
     false
 }
 
 // Whether the vectors fill the file and have answers. If not, that is told.
-fn is_usable(bytes: &[u8], t: Tally) -> bool {
+fn is_usable(rt: &(impl Print + Eprint), bytes: &[u8], t: Tally) -> bool {
     if !t.whole {
-        return unusable(b"a vector has fewer answers than it says");
+        return unusable(rt, "a vector has fewer answers than it says");
     }
     if t.jobs < word(bytes, 0) {
-        return unusable(b"the file has fewer vectors than its first field says");
+        return unusable(rt, "the file has fewer vectors than its first field says");
     }
     if t.answers == 0 {
-        return unusable(b"the file has no answers");
+        return unusable(rt, "the file has no answers");
     }
     if t.at != bytes.len() {
-        return unusable(b"the file does not end with its last vector");
+        return unusable(rt, "the file does not end with its last vector");
     }
     true
 }
 
 // The closing line.
-fn close(t: Tally) {
-    if t.differences == 0 {
-        say(b"no difference in ", t.answers);
+fn close(rt: &(impl Print + Eprint), t: Tally) {
+    let differences = t.differences;
+    let answers = t.answers;
+    let jobs = t.jobs;
+    if differences == 0 {
+        let _told = print!(rt; "no difference in {answers} answers of {jobs}");
     } else {
-        say(b"", t.differences);
-        say(b" differences in ", t.answers);
+        let _told = print!(rt; "{differences} differences in {answers} answers of {jobs}");
     }
-    say(b" answers of ", t.jobs);
-    say_last(b" jobs\n");
+    say_last(rt, " jobs\n");
 }
 
 // THE VECTORS
 
 // One answer of a job.
-fn run_answer(bytes: &[u8], job: &[u8], vector: usize, p: Packed, t: Tally, out: &mut [u8]) -> Tally
+fn run_answer(
+    rt: &impl Print,
+    bytes: &[u8],
+    job: &[u8],
+    vector: usize,
+    p: Packed,
+    t: Tally,
+    out: &mut [u8],
+) -> Tally
     requires { Counted t × (t.at < p.next) × (p.next < 4294967296) × (length job.now < 4294967296) × (length out.old < 4294967296) }
     ensures { Counted result × (result.at ≡ p.next) }
 {
@@ -369,7 +383,7 @@ fn run_answer(bytes: &[u8], job: &[u8], vector: usize, p: Packed, t: Tally, out:
             whole: t.whole,
         };
     }
-    report(vector, p.operation, expected, answer);
+    report(rt, vector, p.operation, expected, answer);
     Tally {
         at: p.next,
         jobs: t.jobs,
@@ -381,6 +395,7 @@ fn run_answer(bytes: &[u8], job: &[u8], vector: usize, p: Packed, t: Tally, out:
 
 // So many answers of a job, up to the first that is not in the file.
 fn run_answers(
+    rt: &impl Print,
     bytes: &[u8],
     job: &[u8],
     vector: usize,
@@ -404,7 +419,7 @@ fn run_answers(
                 whole: false,
             };
         }
-        t = run_answer(bytes, job, vector, p, t, out);
+        t = run_answer(rt, bytes, job, vector, p, t, out);
         i += 1;
     }
     t
@@ -419,7 +434,7 @@ fn answers_at(bytes: &[u8], at: usize) -> usize
 }
 
 // One vector: a job with its answers.
-fn run_vector(bytes: &[u8], t: Tally, start: usize, out: &mut [u8]) -> Tally
+fn run_vector(rt: &impl Print, bytes: &[u8], t: Tally, start: usize, out: &mut [u8]) -> Tally
     requires { Counted t × (t.at + 8 ≤ start) × (start ≤ length bytes.now) × (length bytes.now < 4294967296) × (length out.old < 4294967296) }
     ensures { Counted result × (result.at ≤ length bytes.now) }
 {
@@ -433,11 +448,11 @@ fn run_vector(bytes: &[u8], t: Tally, start: usize, out: &mut [u8]) -> Tally
         differences: t.differences,
         whole: t.whole,
     };
-    run_answers(bytes, job, t.jobs, count, first, out)
+    run_answers(rt, bytes, job, t.jobs, count, first, out)
 }
 
 // All vectors, up to the first that is not in the file.
-fn run_vectors(bytes: &[u8], out: &mut [u8]) -> Tally
+fn run_vectors(rt: &impl Print, bytes: &[u8], out: &mut [u8]) -> Tally
     requires { (length bytes.now < 4294967296) × (length out.old < 4294967296) }
 {
     let count = word(bytes, 0);
@@ -454,7 +469,7 @@ fn run_vectors(bytes: &[u8], out: &mut [u8]) -> Tally
         if bytes.len() < start {
             return t;
         }
-        t = run_vector(bytes, t, start, out);
+        t = run_vector(rt, bytes, t, start, out);
         if !t.whole {
             return t;
         }
@@ -463,37 +478,45 @@ fn run_vectors(bytes: &[u8], out: &mut [u8]) -> Tally
     t
 }
 
-fn blank() -> [u8; FILE]
-    ensures { 2000001 ≡ length result }
-{
-    [0; FILE]
-}
-
 // Replays the vectors of a file's bytes.
-fn replay(bytes: &[u8])
+fn replay(rt: &(impl Print + Eprint), bytes: &[u8])
     requires { length bytes.now < 4294967296 }
 {
     if bytes.len() == FILE {
-        let _told = unusable(b"the file has more than 2,000,000 bytes");
+        let _told = unusable(rt, "the file has more than 2,000,000 bytes");
         return;
     }
     let mut out = [0u8; OUT];
-    let t = run_vectors(bytes, &mut out);
-    if is_usable(bytes, t) {
-        close(t);
+    let t = run_vectors(rt, bytes, &mut out);
+    if is_usable(rt, bytes, t) {
+        close(rt, t);
     }
 }
 
-fn main() {
-    let mut file = blank();
-    let input = programs::read_file(
-        b"replay",
-        b"replay FILE: holds the answers packed in FILE against the answers that its jobs have now\n",
-        1,
-        &mut file,
-    );
-    let Input::Bytes(n) = input else {
+// Room for a file, all zeros.
+fn blank(alloc: Global) -> io::Result<Vec<u8>>
+    ensures { IfOk result (λ v. vec_len v ≡ FILE) }
+{
+    let file = vec![in alloc; 0u8; FILE]?;
+    Ok(file)
+}
+
+// Replays the file that the first word names.
+fn replay_file(rt: &(impl Files + Print + Eprint), words: &[String], file: &mut [u8])
+    requires { length file.old ≡ FILE }
+{
+    let Some(n) = programs::read_file(rt, PROGRAM, words, 1, file) else {
         return;
     };
-    replay(part(&file, 0, n));
+    replay(rt, part(file, 0, n));
+}
+
+fn main(rt: HostRuntime) {
+    let Some(words) = programs::words(&rt, PROGRAM) else {
+        return;
+    };
+    match blank(rt.alloc()) {
+        Ok(mut file) => replay_file(&rt, words.as_slice(), file.as_mut_slice()),
+        Err(why) => programs::fail(&rt, PROGRAM, "room for a file", &why),
+    }
 }

@@ -3,7 +3,7 @@
 
 #![tactic(auto)]
 
-use programs::Input;
+use programs::Program;
 
 // One byte more than a job may have: a longer job is refused by its length.
 const JOB: usize = 65537;
@@ -15,34 +15,37 @@ const OUT: usize = 131072;
 const PAGE: usize = 360448;
 
 // The number of the stage that the first word names; 0 if it names none.
-fn stage_named() -> usize {
-    let mut name = [0u8; 16];
-    let length = os::arg(1, &mut name);
-    lines::stage_number(&name[..length])
+fn stage_named(words: &[String]) -> usize {
+    match words.get(1) {
+        Some(name) => lines::stage_number(name.as_bytes()),
+        None => 0,
+    }
 }
 
 // Runs a stage on a job and prints its lines.
-fn print_stage(stage: usize, job: &[u8]) {
+fn print_stage(rt: &(impl Print + Eprint), program: Program<'_>, stage: usize, job: &[u8]) {
     let mut out = [0u8; OUT];
     let mut page = [0u8; PAGE];
     let length = programs::list_stage(stage, job, &mut out, &mut page);
-    if !io::write_all(libc::STDOUT_FILENO, lines::front(&page, length)) {
-        programs::fail(b"stage", b"standard output");
-    }
+    programs::print(rt, program, lines::front(&page, length));
 }
 
-fn main() {
-    let usage: &[u8] =
-        b"stage NAME [FILE]: NAME is read, pair, merge, vertex-loops, walk, loops, fans, edges, joining, shells or lumps; without FILE the job is read from standard input\n";
-    let stage = stage_named();
+fn main(rt: HostRuntime) {
+    let program = Program {
+        name: "stage",
+        usage: "stage NAME [FILE]: NAME is read, pair, merge, vertex-loops, walk, loops, fans, edges, joining, shells or lumps; without FILE the job is read from standard input",
+    };
+    let Some(words) = programs::words(&rt, program) else {
+        return;
+    };
+    let stage = stage_named(words.as_slice());
     if stage == 0 {
-        programs::explain(usage);
+        programs::explain(&rt, program);
         return;
     }
     let mut job = [0u8; JOB];
-    let input = programs::read_job(b"stage", usage, 2, &mut job);
-    let Input::Bytes(n) = input else {
+    let Some(n) = programs::read_job(&rt, program, words.as_slice(), 2, &mut job) else {
         return;
     };
-    print_stage(stage, lines::front(&job, n));
+    print_stage(&rt, program, stage, lines::front(&job, n));
 }

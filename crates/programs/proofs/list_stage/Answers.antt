@@ -18,13 +18,12 @@ returns-then-stage-gt11 c =
 
 pub returns : goal.returns
 returns c =
-    let size = c.operate-arg.given in
     let a = c.args in
     let some : 0 < a.stage = omega (arith, c.if-stage-eq0.false) in
     let most : a.stage ≤ 11 = omega (arith, c.if-stage-gt11.false) in
-    let bytes = bytes-below a.job.now (λ i. (c.shared-slice-known.given i).fits) in
+    let bytes = bytes-below a.job.now (λ i. (c.type_inv.job i).fits) in
     let after = c.operate-ending.new.out in (
       runs a.stage a.job.now a.out.now after c.operate-ending.result some most c.operate-ending.ensures,
       lists-stage a.stage a.job.now a.out.now after a.page.now c.put_stage.new.page c.put_stage.result c.operate-ending.result some most
-          bytes size.0.1 c.operate-ending.ensures c.put_stage.ensures,
+          bytes c.told-out c.operate-ending.ensures c.put_stage.ensures,
     )

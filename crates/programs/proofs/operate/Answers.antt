@@ -1,3 +1,4 @@
+use Rattle.std.proofs.Common.{arith}
 use Rattle.rules.specs.Rules.{ordinary}
 use Rattle.rules.specs.Sew.{sewn}
 use Rattle.rules.specs.Stage.{readStage, pairStage, mergeStage, vertexLoopStage, walkStage, loopStage, fanStage, edgeStage, joiningStage, shellStage, lumpStage}
@@ -38,7 +39,7 @@ returns-in-5 c =
 pub returns-in-6 : goal.returns-in-6
 returns-in-6 c =
     let a = c.args in
-    let s = c.loop-stage in
+    let s = c.loop_stage in
     ends-by a.number (loopStage ordinary) a.job.now a.out.now s.new.out s.result (is-6 a.number c.in-6.is) s.ensures.0
 
 pub returns-in-7 : goal.returns-in-7
@@ -77,15 +78,15 @@ returns-in_default c =
     let s = c.sew in
     ends-by a.number (sewn ordinary) a.job.now a.out.now s.new.out s.result
     (is-sewing a.number (
-      c.in_default.not-1,
-      c.in_default.not-2,
-      c.in_default.not-3,
-      c.in_default.not-4,
-      c.in_default.not-5,
-      c.in_default.not-6,
-      c.in_default.not-7,
-      c.in_default.not-8,
-      c.in_default.not-9,
-      c.in_default.not-10,
-      c.in_default.not-11,
+      omega arith,
+      omega arith,
+      omega arith,
+      omega arith,
+      omega arith,
+      omega arith,
+      omega arith,
+      omega arith,
+      omega arith,
+      omega arith,
+      omega arith,
     )) s.ensures.0

@@ -5,7 +5,7 @@ use mathlib.Core.Path.{◌≡◌}
 use Rattle.replay.proofs.run_vectors.Given as goal
 
 abbrev pub invariant-loop-i : goal.invariant-loop-i
-invariant-loop-i l = (length l.out ≡ length l.initial.out) × Counted l.t × (l.t.at < 4294967296)
+invariant-loop-i g l = (length l.out ≡ length l.initial.out) × Counted l.t × (l.t.at < 4294967296)
 
 abbrev pub decreases-loop-i : goal.decreases-loop-i
-decreases-loop-i l = l.count - l.i
+decreases-loop-i g l = l.count - l.i
