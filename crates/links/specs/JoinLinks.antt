@@ -1,5 +1,5 @@
 -- The join of two edges at a corner in linked loops: one slot in each of two loops is rewritten, and the loops are then those of the rules.
-use Rattle.std.specs.Prelude.{ℕ, zero, suc, ◌+◌, ◌*◌, ◌/◌, ◌%◌, ◌≤◌, ◌<◌, ◌≡◌, refl, List, [], ◌∷◌, ◌++◌, map, Bool, true, false, cond, length, get_or, take, drop, eqb}
+use Rattle.std.specs.Prelude.{ℕ, zero, suc, ◌+◌, ◌*◌, ◌/◌, ◌%◌, ◌≤◌, ◌<◌, ◌≡◌, refl, List, [], ◌∷◌, ◌++◌, map, cond, length, get_or, take, drop}
 use Rattle.std.proofs.Common.{arith, subst, ◌∙◌, ⊎_elim, eq-eqb, ne_eqb}
 use Rattle.std.proofs.Math.Decide.{ℕ_discrete, dec_lt}
 use Rattle.std.proofs.Math.Path.{sym, ap}
@@ -9,8 +9,6 @@ use Rattle.lists.specs.Runs.{in-below, below-in}
 use Rattle.lists.specs.Members.{in-map, map-in}
 use Rattle.lists.specs.Sums.{sum-nil, sum-cons}
 use Rattle.lists.specs.TurnedLists.{turn-in}
-use Rattle.lists.specs.Tests.{equal-or-not}
-use Rattle.rules.specs.declared.Sense.{Sense}
 use Rattle.rules.specs.declared.Sense.TheVariants.{Same, Reversed}
 use Rattle.rules.specs.declared.Item.{Item}
 use Rattle.rules.specs.declared.EdgeData.{EdgeData}
@@ -22,7 +20,7 @@ use Rattle.theorems.specs.Linked.{LoopsSound}
 use Rattle.theorems.specs.Ends.{endsOne, ends-active, TwoEdges}
 use Rattle.theorems.specs.EdgesAfter.{active-inside}
 use Rattle.theorems.specs.Trails.{LoopSound, loop-sound}
-use Rattle.theorems.specs.Places.{inSense, inItem, outItem, timesOf, Found, Missed, place-cases, found-once}
+use Rattle.theorems.specs.Places.{inSense, inItem, outItem, timesOf, Found, place-cases, found-once}
 use Rattle.theorems.specs.JoinLoops.{joinedItems, newItem, joined-found, joined-missed}
 use Rattle.links.specs.Tables.{Links, IsLoop, ringAt, loopOf, Linked, fusedAt, Fusable}
 use Rattle.links.specs.Chains.{map-turned, Front, front}

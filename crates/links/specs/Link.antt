@@ -3,7 +3,7 @@ use Prim.Native.Nat.{ℕ, zero, suc, ◌+◌, ◌*◌, ◌-◌, ◌/◌, ◌≤�
 use native.Mathlib.Omega.{arith}
 use Rattle.std.proofs.Math.Decide.{ℕ_discrete, dec_lt}
 use Rattle.std.proofs.Common.{not-suc-le-zero, add-one, ap, ◌∙◌, inl, inr, ⊎_elim, length-set, get_or-set_same, get_or-set_other, drop-cons, eq-eqb, ne_eqb}
-use Rattle.std.specs.Prelude.{◌≡◌, ◌⊎◌, List, [], ◌∷◌, map, cond, length, get_or, set, take, drop, eqb}
+use Rattle.std.specs.Prelude.{◌≡◌, ◌⊎◌, List, ◌∷◌, map, cond, length, get_or, set, take, drop, eqb}
 use Rattle.std.proofs.Math.Path.{refl, sym, subst}
 use Rattle.lists.specs.Lists.{◌∈◌, from}
 use Rattle.lists.specs.Runs.{from-in, from-nodup, length-from}

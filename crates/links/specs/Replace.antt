@@ -1,5 +1,5 @@
 -- The loops of linked tables, laid out, before and after a join: at each place the two items became one.
-use Rattle.std.specs.Prelude.{ℕ, ◌+◌, ◌*◌, ◌≤◌, ◌<◌, ◌≡◌, refl, List, map, length, get_or}
+use Rattle.std.specs.Prelude.{ℕ, ◌*◌, ◌≤◌, ◌<◌, ◌≡◌, refl, List, map, length, get_or}
 use Rattle.std.proofs.Common.{arith, sym, ap, ◌∙◌}
 use Rattle.std.proofs.lemmas.Simd.{map-map}
 use Rattle.lists.specs.Lists.{below}
@@ -10,7 +10,7 @@ use Rattle.rules.specs.Edges.{FaceLoop}
 use Rattle.rules.specs.Join.{replacedIn, replacedAll}
 use Rattle.edges.specs.Table.{itemIn, loopAt, faceLoopsIn, Laid}
 use Rattle.theorems.specs.JoinLoops.{joinedItems}
-use Rattle.links.specs.Tables.{Links, IsLoop, ringAt, loopOf}
+use Rattle.links.specs.Tables.{Links, IsLoop}
 use Rattle.links.specs.JoinLinks.{Joined}
 use Rattle.links.specs.Lay.{laidBy, length-laid, laid-loops}
 

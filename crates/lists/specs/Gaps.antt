@@ -1,5 +1,5 @@
 -- Laws of a permutation f of the numbers below n some of which are gone: from the number after one that stays, f passes over a run of gone ones and meets one that stays.
-use Rattle.std.specs.Prelude.{◌≡◌, ◌⊎◌, Bool, false, not, ltb, length}
+use Rattle.std.specs.Prelude.{◌≡◌, Bool, false, not, ltb, length}
 use Rattle.std.proofs.Math.Path.{refl, sym, ap}
 use Rattle.std.proofs.Common.{◌∙◌, subst, true≢false, ltb-true, ltb-false}
 use Rattle.std.proofs.Math.Logic.{⊎_elim}

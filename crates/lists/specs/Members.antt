@@ -1,10 +1,10 @@
 -- Laws of what holds of each member, of tests over lists, of the members that pass a test, of positions, and of lists put together.
-use Rattle.std.specs.Prelude.{◌≡◌, refl, ◌⊎◌, Bool, true, false, not, cond, ℕ, zero, suc, ◌+◌, ◌-◌, ◌≤◌, ◌<◌, eqb, length, get_or, set, drop}
+use Rattle.std.specs.Prelude.{◌≡◌, refl, Bool, true, false, not, cond, ℕ, zero, suc, ◌+◌, ◌-◌, ◌≤◌, ◌<◌, eqb, length, get_or, set, drop}
 use Rattle.std.proofs.Common.{sym, ap, ap₂, ◌∙◌, subst, ⊎_elim, true≢false, zero-le, arith, length-append, eqb-true, eq-eqb, ne_eqb}
 use Rattle.std.proofs.lemmas.Bool.{false≢true, eqb-false}
 use mathlib.Core.List.Memᴰ
 use mathlib.Core.List.{List, [], ◌∷◌, ◌++◌, map, flat_map, foldl}
-use Rattle.lists.specs.Lists.{◌∈◌, Nodup, has, all, some, keep, positions, position, indexOf, sumOf}
+use Rattle.lists.specs.Lists.{◌∈◌, Nodup, all, some, keep, positions, position, indexOf, sumOf}
 use Rattle.lists.specs.Tests.{or-cases, or-second, and-both, both-and, equal-or-not}
 use Rattle.lists.specs.Membership.{pigeon, nodup-append}
 

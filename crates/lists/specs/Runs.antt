@@ -1,5 +1,5 @@
 -- Laws of runs of numbers, `from` and `below`.
-use Rattle.std.specs.Prelude.{◌≡◌, refl, ◌⊎◌, List, [], ◌∷◌, ◌++◌, map, ℕ, zero, suc, ◌+◌, ◌-◌, ◌≤◌, ◌<◌, length, get_or}
+use Rattle.std.specs.Prelude.{◌≡◌, refl, List, [], ◌∷◌, ◌++◌, map, ℕ, zero, suc, ◌+◌, ◌-◌, ◌≤◌, ◌<◌, length, get_or}
 use Rattle.std.proofs.Common.{sym, ap, ◌∙◌, ⊎_elim, zero-le, eq-or-lt_of_le, add-one, arith}
 use mathlib.Core.List.Memᴰ
 use Rattle.std.proofs.lemmas.List.{length-map}

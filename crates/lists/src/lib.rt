@@ -1,4 +1,3 @@
 // Definitions and laws of lists of numbers: see specs/. No code.
 
 #![tactic(auto)]
-

@@ -6,7 +6,6 @@ use Rattle.std.proofs.lemmas.List.{length-replicate}
 use Rattle.lists.specs.Lists.{below}
 use Rattle.lists.specs.Runs.{below-in}
 use Rattle.lists.specs.Members.{map-same}
-use Rattle.rules.specs.declared.Item.{Item}
 use Rattle.rules.specs.declared.EdgeData.{EdgeData}
 use Rattle.rules.specs.Join.{edgeDataAt, endsAt, activeEdges, joinedEdge, retired, ringOf, joinEdges}
 use Rattle.edges.specs.Table.{itemIn, Laid}
@@ -15,7 +14,7 @@ use Rattle.theorems.specs.Ends.{one-edge, two-edges}
 use Rattle.theorems.specs.RingLoops.{ring-keeps}
 use Rattle.theorems.specs.JoinLoops.{joinedItems}
 use Rattle.theorems.specs.LoopRuns.{join-keeps}
-use Rattle.links.specs.Tables.{Links, linksOf, IsLoop, loopOf, Linked}
+use Rattle.links.specs.Tables.{Links, linksOf, loopOf, Linked}
 use Rattle.links.specs.JoinLinks.{loopsOf, Joined, Joinable}
 use Rattle.links.specs.Link.{Linkable, LinkedLoops}
 use Rattle.links.specs.Spread.{laidLoop, laidLoops, sound-linkable}

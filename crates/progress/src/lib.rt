@@ -2,7 +2,6 @@
 
 #![tactic(auto)]
 
-
 // The stages in their order, from the one after `read` on; the last gives the body.
 pub const PAIR: usize = 2;
 

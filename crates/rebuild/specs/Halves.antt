@@ -1,5 +1,5 @@
 -- Uses that pair up have at most half as many edges.
-use Rattle.std.specs.Prelude.{ℕ, ◌+◌, ◌*◌, ◌<◌, ◌≤◌, ◌≡◌, refl, List, [], ◌∷◌, ◌++◌, map, Bool, not, length, ltb}
+use Rattle.std.specs.Prelude.{ℕ, ◌*◌, ◌<◌, ◌≤◌, ◌≡◌, refl, List, [], ◌∷◌, ◌++◌, map, Bool, not, length, ltb}
 use Rattle.std.proofs.Common.{arith, sym, ap, subst, ◌∙◌, ⊎_elim, length-append, ltb-true}
 use mathlib.Core.List.Memᴰ
 use Rattle.std.proofs.lemmas.List.{length-map}

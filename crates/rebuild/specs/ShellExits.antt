@@ -13,7 +13,7 @@ use Rattle.rules.specs.Fields.{le32}
 use Rattle.rules.specs.Job.{Answer, Job}
 use Rattle.rules.specs.Groups.{lowestMembers}
 use Rattle.rules.specs.Join.{Joining as State}
-use Rattle.rules.specs.Shells.{shellFaces, allShellFaces, shells, nested, lumps}
+use Rattle.rules.specs.Shells.{shellFaces, allShellFaces, shells, nested}
 use Rattle.rules.specs.Sew.{Fanned, Joined, Ends}
 use Rattle.rules.specs.Stage.{joiningFields, shellFields, stageBytes}
 use Rattle.job.specs.Lists.{answersIn, jobIn}

@@ -4,7 +4,6 @@ use Rattle.std.proofs.Common.{ap, subst, ◌∙◌}
 use Rattle.std.proofs.lemmas.Simd.{map-map}
 use Rattle.lists.specs.Lists.{below}
 use Rattle.rules.specs.Edges.{FaceLoop}
-use Rattle.rules.specs.Join.{Joining}
 use Rattle.edges.specs.Table.{itemIn, loopAt, faceLoopsIn}
 use Rattle.theorems.specs.Linked.{LoopsSound}
 use Rattle.links.specs.Spread.{laidLoop, laidLoops}

@@ -1,5 +1,5 @@
 -- Joining: corners with exactly two active edge ends are taken away, one change at a time.
-use Rattle.std.specs.Prelude.{ℕ, zero, suc, ◌+◌, List, [], ◌∷◌, ◌++◌, map, Bool, true, false, ◌||◌, ◌&&◌, not, cond, length, get_or, set, take, drop, eqb, ltb, ℤ}
+use Rattle.std.specs.Prelude.{ℕ, zero, suc, List, [], ◌∷◌, ◌++◌, map, Bool, true, false, ◌||◌, ◌&&◌, not, cond, length, get_or, set, take, drop, eqb, ltb, ℤ}
 use Rattle.std.proofs.Math.IntN.{sub_ℕ}
 use Rattle.lists.specs.Lists.{Neighbours, neighbours, keep, position, positions, same}
 use Rattle.rules.specs.declared.Sense.{Sense}

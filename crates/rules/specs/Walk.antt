@@ -1,5 +1,5 @@
 -- Walks: turns, the successor and the passed count of each kept use, and the loops.
-use Rattle.std.specs.Prelude.{ℕ, zero, suc, ◌+◌, Bool, ◌||◌, cond, length, get_or, eqb}
+use Rattle.std.specs.Prelude.{ℕ, zero, suc, Bool, ◌||◌, cond, length, get_or, eqb}
 use mathlib.Core.List.{List, [], ◌∷◌, ◌++◌, map, foldl}
 use Rattle.lists.specs.Lists.{below, has, some, iterate}
 use Rattle.rules.specs.declared.Use.{Use}

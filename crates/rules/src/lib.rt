@@ -2,7 +2,6 @@
 
 #![tactic(auto)]
 
-
 // 0 Same, 1 Reversed.
 #[derive(Clone, Copy)]
 pub enum Sense {

@@ -1,6 +1,6 @@
 -- Demand 3 as a proposition about a job's bytes, over the definitions of the rules. The statement is `Demand3` at the end.
 -- Nothing in it is bounded by a budget of the definitions: what "never" and "back" mean is said by numbers of any size.
-use Rattle.std.specs.Prelude.{ℕ, suc, ◌+◌, ◌*◌, ◌<◌, ◌≡◌, Bool, true, false, ◌&&◌, not, length, get_or, eqb, ℤ, pos, ◌+ℤ◌}
+use Rattle.std.specs.Prelude.{ℕ, suc, ◌+◌, ◌*◌, ◌<◌, ◌≡◌, Bool, true, false, ◌&&◌, not, length, get_or, eqb, pos, ◌+ℤ◌}
 use mathlib.Core.List.{List, [], ◌∷◌, flat_map}
 use Rattle.lists.specs.Lists.{below, ◌∈◌, times, some, keep, sumOf, iterate, orbit, Neighbours, neighbours}
 use Rattle.rules.specs.declared.Item.{Item}

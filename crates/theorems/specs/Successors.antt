@@ -1,6 +1,6 @@
 -- Successors of kept uses: passing over meets a kept use, and successors lead from the kept uses one to one onto the kept uses.
 -- The old successor of a use is the use after its twin in the twin's turn, and the twin of a kept use is kept: a successor is the first kept use after the twin.
-use Rattle.std.specs.Prelude.{ℕ, zero, suc, ◌+◌, ◌≤◌, ◌<◌, ◌≡◌, ◌⊎◌, List, Bool, true, false, not, length, get_or}
+use Rattle.std.specs.Prelude.{ℕ, zero, suc, ◌+◌, ◌≤◌, ◌<◌, ◌≡◌, List, Bool, true, false, not, length, get_or}
 use Rattle.std.proofs.Common.{arith, sym, ap, ◌∙◌, ⊎_elim}
 use Rattle.std.proofs.lemmas.Bool.{not-true}
 use Rattle.lists.specs.Lists.{below, ◌∈◌, iterate}

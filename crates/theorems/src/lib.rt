@@ -1,4 +1,3 @@
 // Theorems about the definitions of `rules`: see specs/. No code.
 
 #![tactic(auto)]
-

@@ -3,7 +3,6 @@ use borrow.Author.Tests.{le-leb, lt-leb}
 use lib.Dec.{leb}
 use mathlib.Core.Path.{sym, ◌∙◌}
 use borrow.Author.Tests.{le-leb, lt-leb}
-use borrow.Author.Rules.{rules}
 use Rattle.answers.proofs.about_either.Goals as goal
 
 pub returns-then-a-b : goal.returns-then-a-b

@@ -1,6 +1,5 @@
 use Rattle.answers.specs.IndexLaws.{before-yes, before-no}
 use Rattle.answers.specs.ChainLaws.{chained}
-use borrow.Author.Rules.{rules}
 use Rattle.answers.proofs.answered_before.Goals as goal
 
 pub find-f-requires : goal.find-f-requires

@@ -1,7 +1,6 @@
 use Rattle.answers.specs.ChainLaws.{bucket-below}
 use Rattle.answers.specs.Question.{bucketOf}
 use mathlib.Core.Path.{refl}
-use borrow.Author.Rules.{rules}
 use Rattle.answers.proofs.bucket.Goals as goal
 
 pub returns : goal.returns

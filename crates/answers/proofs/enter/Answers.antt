@@ -1,5 +1,4 @@
 use Rattle.answers.specs.EnterLaws.{three-stores}
-use borrow.Author.Rules.{rules}
 use Rattle.answers.proofs.enter.Goals as goal
 
 pub returns : goal.returns

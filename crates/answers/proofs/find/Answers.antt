@@ -1,5 +1,4 @@
-use Rattle.answers.specs.ChainLaws.{Walked, walk-start, walk-end, walk-found, walk-on}
-use borrow.Author.Rules.{rules}
+use Rattle.answers.specs.ChainLaws.{walk-start, walk-end, walk-found, walk-on}
 use Rattle.answers.proofs.find.Goals as goal
 
 pub loop-i-init : goal.loop-i-init

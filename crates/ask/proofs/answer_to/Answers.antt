@@ -1,7 +1,6 @@
 use Rattle.ask.specs.ToldLaws.{value-found, value-missing}
 use Rattle.answers.specs.ChainLaws.{chained, place-fits}
 use native.Mathlib.Omega.{arith}
-use borrow.Author.Rules.{rules}
 use Rattle.ask.proofs.answer_to.Goals as goal
 
 pub find-f-requires : goal.find-f-requires

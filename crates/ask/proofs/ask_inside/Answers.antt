@@ -4,7 +4,6 @@ use Rattle.answers.specs.QuestionLaws.{shaped-two}
 use Rattle.answers.specs.Question.{aboutTwo}
 use Rattle.job.specs.Lists.{answersIn}
 use native.Mathlib.Omega.{arith}
-use borrow.Author.Rules.{rules}
 use Rattle.ask.proofs.ask_inside.Goals as goal
 
 pub ask_yes-requires : goal.ask_yes-requires

@@ -4,7 +4,6 @@ use Rattle.answers.specs.QuestionLaws.{shaped-one}
 use Rattle.answers.specs.Question.{aboutOne}
 use Rattle.job.specs.Lists.{answersIn}
 use native.Mathlib.Omega.{arith}
-use borrow.Author.Rules.{rules}
 use Rattle.ask.proofs.ask_outer.Goals as goal
 
 pub ask_yes-requires : goal.ask_yes-requires

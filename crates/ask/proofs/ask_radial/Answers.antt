@@ -3,7 +3,6 @@ use Rattle.answers.specs.QuestionLaws.{shaped-one}
 use Rattle.answers.specs.Question.{aboutOne}
 use Rattle.answers.specs.ChainLaws.{chained, place-fits}
 use native.Mathlib.Omega.{arith}
-use borrow.Author.Rules.{rules}
 use Rattle.ask.proofs.ask_radial.Goals as goal
 
 pub find-f-requires : goal.find-f-requires

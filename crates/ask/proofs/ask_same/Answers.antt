@@ -5,7 +5,6 @@ use Rattle.answers.specs.Question.{aboutEither}
 use Rattle.job.specs.Lists.{answersIn}
 use mathlib.Core.Path.{sym, ◌∙◌}
 use borrow.Author.Tests.{eq-eqb, ne_eqb}
-use borrow.Author.Rules.{rules}
 use Rattle.ask.proofs.ask_same.Goals as goal
 
 pub returns-then-a-b : goal.returns-then-a-b

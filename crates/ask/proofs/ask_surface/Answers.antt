@@ -5,7 +5,6 @@ use Rattle.rules.specs.Questions.{find}
 use mathlib.Core.List.{[], ◌∷◌}
 use Rattle.job.specs.Lists.{answersIn}
 use native.Mathlib.Omega.{arith}
-use borrow.Author.Rules.{rules}
 use Rattle.ask.proofs.ask_surface.Goals as goal
 
 pub answer_to-a-requires : goal.answer_to-a-requires

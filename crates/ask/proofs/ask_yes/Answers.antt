@@ -2,7 +2,6 @@ use Rattle.ask.specs.ToldLaws.{told-missing, told-says, told-no, told-yes, told-
 use Rattle.answers.specs.Question.{keyOf}
 use Rattle.rules.specs.Questions.{find}
 use Rattle.job.specs.Lists.{answersIn}
-use borrow.Author.Rules.{rules}
 use Rattle.ask.proofs.ask_yes.Goals as goal
 
 pub returns-in_default : goal.returns-in_default

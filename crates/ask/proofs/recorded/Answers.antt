@@ -2,7 +2,6 @@ use Rattle.ask.specs.ToldLaws.{answered-says, answered-missing}
 use Rattle.answers.specs.Question.{keyOf}
 use Rattle.rules.specs.Questions.{find}
 use Rattle.job.specs.Lists.{answersIn}
-use borrow.Author.Rules.{rules}
 use Rattle.ask.proofs.recorded.Goals as goal
 
 pub returns-in-Value : goal.returns-in-Value

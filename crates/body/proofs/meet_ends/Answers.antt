@@ -5,7 +5,6 @@ use Rattle.body.specs.Vertices.{EndOk, Meeting, metBelow, met-active, met-other,
 use Rattle.rules.specs.Join.{edgeDataAt}
 use Rattle.rules.specs.Body.{meet}
 use native.Mathlib.Omega.{arith}
-use borrow.Author.Rules.{rules}
 use Rattle.body.proofs.meet_ends.Goals as goal
 
 pub meet_fan-n-requires : goal.meet_fan-n-requires

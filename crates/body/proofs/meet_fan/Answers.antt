@@ -1,6 +1,5 @@
 use Rattle.body.specs.Vertices.{fan-none, fan-old, fan-new}
 use native.Mathlib.Omega.{arith}
-use borrow.Author.Rules.{rules}
 use Rattle.body.proofs.meet_fan.Goals as goal
 
 pub returns-then-v-eq-UNSET : goal.returns-then-v-eq-UNSET

@@ -1,7 +1,6 @@
 use Rattle.edges.specs.Table.{rowsIn}
 use Rattle.body.specs.Vertices.{active-few, numbered-active, numbered-other}
 use native.Mathlib.Omega.{arith}
-use borrow.Author.Rules.{rules}
 use Rattle.body.proofs.number_edge.Goals as goal
 
 pub overflow_add-count : goal.overflow_add-count

@@ -1,12 +1,9 @@
 use Rattle.edges.specs.Table.{rowsIn}
 use Rattle.edges.specs.TableLaws.{length-rows}
-use mathlib.Core.Path.{◌≡◌, sym, refl, subst, ◌∙◌}
-use Prim.Native.Nat.{◌-◌, ◌/◌, ◌≤◌}
-use lib.ListN.{length}
+use mathlib.Core.Path.{sym, refl, subst, ◌∙◌}
 use Rattle.body.specs.Numbers.{Numbering, numbering-none}
-use Rattle.body.specs.Vertices.{activeBelow, active-none, active-all}
+use Rattle.body.specs.Vertices.{active-none, active-all}
 use native.Mathlib.Omega.{arith}
-use borrow.Author.Rules.{rules}
 use Rattle.body.proofs.number_edges.Goals as goal
 
 pub loop-e-init : goal.loop-e-init

@@ -1,5 +1,4 @@
 use Rattle.body.specs.Numbers.{number-none, number-some}
-use borrow.Author.Rules.{rules}
 use Rattle.body.proofs.number_of.Goals as goal
 
 pub returns-then-n-eq0 : goal.returns-then-n-eq0

@@ -8,7 +8,6 @@ use Rattle.rules.specs.Frame.{framedAll}
 use Rattle.rules.specs.Body.{solidBody, bodyRecords}
 use Rattle.body.specs.Sized.{spare-sized}
 use Rattle.body.specs.Writing.{ends-written, ends-short}
-use borrow.Author.Rules.{rules}
 use Rattle.body.proofs.put_body.Goals as goal
 
 pub returns-then-out-needed : goal.returns-then-out-needed

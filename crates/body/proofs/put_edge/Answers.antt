@@ -3,7 +3,6 @@ use Rattle.rules.specs.Join.{edgeDataAt}
 use Rattle.body.specs.Writing.{after-head}
 use Rattle.body.specs.RowLaws.{edge-wrote, edge-skipped}
 use native.Mathlib.Omega.{arith}
-use borrow.Author.Rules.{rules}
 use Rattle.body.proofs.put_edge.Goals as goal
 
 pub put_two-q-requires : goal.put_two-q-requires

@@ -1,15 +1,12 @@
 use Rattle.edges.specs.Table.{rowsIn}
 use Rattle.rules.specs.Join.{edgeDataAt}
 use Rattle.edges.specs.TableLaws.{length-rows}
-use mathlib.Core.Path.{◌≡◌, refl}
-use Prim.Native.Nat.{◌-◌, ◌/◌, ◌≤◌}
-use lib.ListN.{length}
+use mathlib.Core.Path.{refl}
 use Rattle.body.specs.Rows.{edgeRow}
 use Rattle.body.specs.RowLaws.{edge-rows}
-use Rattle.body.specs.Writing.{Rowed, rowed-start, rowed-step, rowed-end}
+use Rattle.body.specs.Writing.{rowed-start, rowed-step, rowed-end}
 use mathlib.Core.List.{flat_map}
 use native.Mathlib.Omega.{arith}
-use borrow.Author.Rules.{rules}
 use Rattle.body.proofs.put_edges.Goals as goal
 
 pub loop-e-init : goal.loop-e-init

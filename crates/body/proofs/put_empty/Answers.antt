@@ -2,7 +2,6 @@ use Rattle.rules.specs.Frame.{framedAll}
 use Rattle.rules.specs.Body.{emptyBody, bodyRecords}
 use Rattle.body.specs.Writing.{ends-written, ends-short, wrote-as}
 use Rattle.body.specs.BodyLaws.{empty-is, empty-size}
-use borrow.Author.Rules.{rules}
 use Rattle.body.proofs.put_empty.Goals as goal
 
 pub returns-then-out-lt34 : goal.returns-then-out-lt34

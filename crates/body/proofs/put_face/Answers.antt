@@ -2,7 +2,6 @@ use Rattle.job.specs.Lists.{facesIn}
 use Rattle.body.specs.Writing.{after-head}
 use Rattle.body.specs.RowLaws.{face-wrote}
 use native.Mathlib.Omega.{arith}
-use borrow.Author.Rules.{rules}
 use Rattle.body.proofs.put_face.Goals as goal
 
 pub put_two-requires : goal.put_two-requires

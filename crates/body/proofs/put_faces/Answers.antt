@@ -1,7 +1,4 @@
-use Prim.Native.Nat.{◌-◌, ◌≤◌}
-use mathlib.Core.Path.{◌∙◌}
 use mathlib.Core.List.{flat_map}
-use lib.ListN.{length}
 use Rattle.rules.specs.Frame.{framedAll}
 use Rattle.rules.specs.Join.{activeEdges}
 use Rattle.rules.specs.Body.{bodyFaces, faceRecords}
@@ -11,9 +8,8 @@ use Rattle.vertex_loops.specs.Kept.{keptIn}
 use Rattle.body.specs.Rows.{faceRow}
 use Rattle.body.specs.RowLaws.{face-row-wrote}
 use Rattle.body.specs.BodyLaws.{face-rows}
-use Rattle.body.specs.Writing.{Rowed, rowed-start, rowed-step, rowed-end}
+use Rattle.body.specs.Writing.{rowed-start, rowed-step, rowed-end}
 use native.Mathlib.Omega.{arith}
-use borrow.Author.Rules.{rules}
 use Rattle.body.proofs.put_faces.Goals as goal
 
 pub number_edges-count-requires : goal.number_edges-count-requires

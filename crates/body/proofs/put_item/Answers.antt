@@ -1,5 +1,4 @@
 use Rattle.body.specs.RowLaws.{item-wrote}
-use borrow.Author.Rules.{rules}
 use Rattle.body.proofs.put_item.Goals as goal
 
 pub returns : goal.returns

@@ -1,14 +1,12 @@
 use mathlib.Core.Path.{subst}
 use mathlib.Core.List.{flat_map}
-use Prim.Native.Nat.{◌-◌, ◌≤◌}
-use lib.ListN.{length, get_or}
+use lib.ListN.{get_or}
 use Rattle.rules.specs.Fields.{fieldBytes}
 use Rattle.fields.specs.Wrote.{Wrote}
 use Rattle.body.specs.Rows.{itemRow}
 use Rattle.body.specs.RowLaws.{item-rows}
-use Rattle.body.specs.Writing.{Rowed, rowed-start, rowed-step, rowed-end}
+use Rattle.body.specs.Writing.{rowed-start, rowed-step, rowed-end}
 use native.Mathlib.Omega.{arith}
-use borrow.Author.Rules.{rules}
 use Rattle.body.proofs.put_items.Goals as goal
 
 pub loop-i-init : goal.loop-i-init

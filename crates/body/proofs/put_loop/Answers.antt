@@ -3,7 +3,6 @@ use Rattle.body.specs.Writing.{after-head}
 use Rattle.body.specs.RowLaws.{loop-wrote, loop-skipped}
 use Rattle.stages_out.specs.RowLaws.{part-short}
 use native.Mathlib.Omega.{arith}
-use borrow.Author.Rules.{rules}
 use Rattle.body.proofs.put_loop.Goals as goal
 
 pub returns-then-get-f : goal.returns-then-get-f

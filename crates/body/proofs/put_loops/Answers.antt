@@ -1,10 +1,7 @@
-use Prim.Native.Nat.{◌-◌, ◌≤◌}
-use lib.ListN.{length}
-use Rattle.body.specs.Writing.{Rowed, rowed-start, rowed-step, rowed-end}
+use Rattle.body.specs.Writing.{rowed-start, rowed-step, rowed-end}
 use Rattle.body.specs.Rows.{loopRow, loopRows}
 use Rattle.body.specs.RowLaws.{loop-rows}
 use native.Mathlib.Omega.{arith}
-use borrow.Author.Rules.{rules}
 use Rattle.body.proofs.put_loops.Goals as goal
 
 pub loop-k-init : goal.loop-k-init

@@ -1,7 +1,6 @@
 use Rattle.body.specs.Writing.{after-head}
 use Rattle.body.specs.ShellLaws.{lump-wrote, lump-skipped}
 use native.Mathlib.Omega.{arith}
-use borrow.Author.Rules.{rules}
 use Rattle.body.proofs.put_lump.Goals as goal
 
 pub put_shell-q-requires : goal.put_shell-q-requires

@@ -1,5 +1,4 @@
-use Prim.Native.Nat.{◌-◌, ◌≤◌}
-use Rattle.body.specs.Writing.{Rowed, rowed-start, rowed-step, rowed-end}
+use Rattle.body.specs.Writing.{rowed-start, rowed-step, rowed-end}
 use Rattle.body.specs.Rows.{lumpRow}
 use mathlib.Core.List.{flat_map}
 use Rattle.rules.specs.Frame.{framedAll}
@@ -8,7 +7,6 @@ use Rattle.rules.specs.Body.{lumpRecords}
 use Rattle.shells.specs.Table.{nestedIn}
 use Rattle.body.specs.ShellLaws.{lump-rows}
 use native.Mathlib.Omega.{arith}
-use borrow.Author.Rules.{rules}
 use Rattle.body.proofs.put_lumps.Goals as goal
 
 pub loop-k-init : goal.loop-k-init

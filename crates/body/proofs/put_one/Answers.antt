@@ -4,7 +4,6 @@ use Rattle.fields.specs.Tabled.{length-bytes32}
 use Rattle.stages_out.specs.Writing.{wrote-one}
 use Rattle.body.specs.Writing.{wrote-record, after-head}
 use native.Mathlib.Omega.{arith}
-use borrow.Author.Rules.{rules}
 use Rattle.body.proofs.put_one.Goals as goal
 
 pub put_word-requires : goal.put_word-requires

@@ -6,7 +6,6 @@ use Rattle.shells.specs.Table.{nestedIn}
 use Rattle.body.specs.Rows.{totalsIn}
 use Rattle.body.specs.BodyLaws.{body-wrote}
 use native.Mathlib.Omega.{arith}
-use borrow.Author.Rules.{rules}
 use Rattle.body.proofs.put_records.Goals as goal
 
 pub put_vertices_and_edges-p-requires : goal.put_vertices_and_edges-p-requires

@@ -2,7 +2,6 @@ use Prim.Native.Nat.{◌/◌}
 use Rattle.body.specs.Writing.{after-head}
 use Rattle.body.specs.ShellLaws.{shell-wrote}
 use native.Mathlib.Omega.{arith}
-use borrow.Author.Rules.{rules}
 use Rattle.body.proofs.put_shell.Goals as goal
 
 pub put_shell_faces-requires : goal.put_shell_faces-requires

@@ -1,7 +1,6 @@
 use Rattle.fields.specs.Tabled.{length-bytes32}
 use Rattle.body.specs.ShellLaws.{shell-face-wrote, shell-face-skipped}
 use native.Mathlib.Omega.{arith}
-use borrow.Author.Rules.{rules}
 use Rattle.body.proofs.put_shell_face.Goals as goal
 
 pub returns-then-get-b : goal.returns-then-get-b

@@ -1,12 +1,9 @@
-use Prim.Native.Nat.{◌-◌, ◌≤◌}
-use lib.ListN.{length}
-use Rattle.body.specs.Writing.{Rowed, rowed-start, rowed-step, rowed-end}
+use Rattle.body.specs.Writing.{rowed-start, rowed-step, rowed-end}
 use Rattle.body.specs.Rows.{shellFaceRow}
 use Rattle.rules.specs.Fields.{fieldBytes}
 use Rattle.rules.specs.Shells.{shellFaces}
 use Rattle.body.specs.ShellLaws.{shell-faces}
 use native.Mathlib.Omega.{arith}
-use borrow.Author.Rules.{rules}
 use Rattle.body.proofs.put_shell_faces.Goals as goal
 
 pub loop-f-init : goal.loop-f-init

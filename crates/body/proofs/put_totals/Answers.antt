@@ -3,7 +3,6 @@ use mathlib.Core.Path.{refl}
 use Rattle.stages_out.specs.Writing.{wrote-both, wrote-one, place-after}
 use Rattle.body.specs.Writing.{wrote-record, after-head}
 use native.Mathlib.Omega.{arith}
-use borrow.Author.Rules.{rules}
 use Rattle.body.proofs.put_totals.Goals as goal
 
 pub put_two-q-requires : goal.put_two-q-requires

@@ -1,6 +1,5 @@
 use Rattle.body.specs.RowLaws.{vertex-loop-wrote, vertex-loop-skipped}
 use native.Mathlib.Omega.{arith}
-use borrow.Author.Rules.{rules}
 use Rattle.body.proofs.put_vertex_loop.Goals as goal
 
 pub returns-then-get-f : goal.returns-then-get-f

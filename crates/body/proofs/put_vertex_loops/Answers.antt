@@ -1,9 +1,7 @@
-use Prim.Native.Nat.{◌-◌, ◌≤◌}
-use Rattle.body.specs.Writing.{Rowed, rowed-start, rowed-step, rowed-end}
+use Rattle.body.specs.Writing.{rowed-start, rowed-step, rowed-end}
 use Rattle.body.specs.Rows.{vertexLoopRow, vertexLoopRows}
 use Rattle.body.specs.RowLaws.{vertex-loop-rows}
 use native.Mathlib.Omega.{arith}
-use borrow.Author.Rules.{rules}
 use Rattle.body.proofs.put_vertex_loops.Goals as goal
 
 pub loop-i-init : goal.loop-i-init

@@ -1,11 +1,8 @@
 use Rattle.edges.specs.Table.{rowsIn}
 use Rattle.edges.specs.TableLaws.{length-rows}
-use mathlib.Core.Path.{◌≡◌, sym, refl, subst, ◌∙◌}
-use Prim.Native.Nat.{◌*◌, ◌-◌, ◌/◌, ◌≤◌}
-use lib.ListN.{length}
-use Rattle.body.specs.Vertices.{EndsOk, Meeting, metBelow, meeting-start, met-none, met-all}
+use mathlib.Core.Path.{sym, refl, subst, ◌∙◌}
+use Rattle.body.specs.Vertices.{EndsOk, Meeting, meeting-start, met-none, met-all}
 use native.Mathlib.Omega.{arith}
-use borrow.Author.Rules.{rules}
 use Rattle.body.proofs.put_vertices.Goals as goal
 
 pub loop-e-init : goal.loop-e-init

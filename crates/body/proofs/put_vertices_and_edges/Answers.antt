@@ -3,7 +3,6 @@ use Rattle.edges.specs.Table.{rowsIn}
 use Rattle.body.specs.Vertices.{EndsOk}
 use Rattle.body.specs.BodyLaws.{vertices-and-edges-wrote}
 use native.Mathlib.Omega.{arith}
-use borrow.Author.Rules.{rules}
 use Rattle.body.proofs.put_vertices_and_edges.Goals as goal
 
 pub put_vertices-count-requires : goal.put_vertices-count-requires

@@ -1,6 +1,5 @@
 use Rattle.body.specs.ShellLaws.{void-wrote, void-outer, void-elsewhere}
 use native.Mathlib.Omega.{arith}
-use borrow.Author.Rules.{rules}
 use Rattle.body.proofs.put_void.Goals as goal
 
 pub returns-then-shell_outer : goal.returns-then-shell_outer

@@ -1,9 +1,7 @@
-use Prim.Native.Nat.{◌-◌, ◌≤◌}
-use Rattle.body.specs.Writing.{Rowed, rowed-start, rowed-step, rowed-end}
+use Rattle.body.specs.Writing.{rowed-start, rowed-step, rowed-end}
 use Rattle.body.specs.Rows.{voidRow, voidRows}
 use Rattle.body.specs.ShellLaws.{void-rows}
 use native.Mathlib.Omega.{arith}
-use borrow.Author.Rules.{rules}
 use Rattle.body.proofs.put_voids.Goals as goal
 
 pub loop-k-init : goal.loop-k-init

@@ -1,6 +1,5 @@
 use mathlib.Core.Path.{◌∙◌}
 use Rattle.body.specs.Numbers.{vertex-none, vertex-some}
-use borrow.Author.Rules.{rules}
 use Rattle.body.proofs.vertex_of.Goals as goal
 
 pub returns-then-v-eq-UNSET : goal.returns-then-v-eq-UNSET

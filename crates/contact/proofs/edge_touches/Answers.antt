@@ -1,6 +1,5 @@
 use Rattle.contact.specs.StampLaws.{stale-on, few-uses, many-uses}
 use Rattle.uses.specs.Table.{usesIn}
-use borrow.Author.Rules.{rules}
 use Rattle.contact.proofs.edge_touches.Goals as goal
 
 pub count_of-n-requires : goal.count_of-n-requires

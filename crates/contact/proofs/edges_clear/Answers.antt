@@ -1,13 +1,10 @@
 use lib.ListN.{length}
-use Prim.Native.Nat.{◌-◌, ◌≤◌}
 use Rattle.rules.specs.Contact.{edgeTouches}
-use Rattle.contact.specs.Stamps.{Stale}
-use Rattle.contact.specs.ClearLaws.{NoneBelow, none-on, none-stop, none-done}
+use Rattle.contact.specs.ClearLaws.{none-on, none-stop, none-done}
 use Rattle.contact.specs.StampLaws.{stale-none}
 use native.Mathlib.Omega.{arith}
-use mathlib.Core.Path.{◌≡◌, refl}
+use mathlib.Core.Path.{refl}
 use Rattle.uses.specs.Table.{usesIn}
-use borrow.Author.Rules.{rules}
 use Rattle.contact.proofs.edges_clear.Goals as goal
 
 pub loop-e-init : goal.loop-e-init

@@ -1,7 +1,6 @@
 use mathlib.Core.Path.{refl}
 use lib.ListN.{length}
 use Rattle.contact.specs.BucketLaws.{bucketed-more}
-use borrow.Author.Rules.{rules}
 use Rattle.contact.proofs.enter.Goals as goal
 
 pub returns : goal.returns

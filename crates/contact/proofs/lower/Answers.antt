@@ -1,7 +1,6 @@
 use lib.ListN.{length}
 use Rattle.contact.specs.ContactLaws.{not-lower, lower-touches, lower-apart}
 use Rattle.uses.specs.Table.{usesIn}
-use borrow.Author.Rules.{rules}
 use Rattle.contact.proofs.lower.Goals as goal
 
 pub returns-then-lowest-p : goal.returns-then-lowest-p

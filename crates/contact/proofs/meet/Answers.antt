@@ -1,6 +1,5 @@
 use Rattle.contact.specs.StampLaws.{higher-use, new-label, old-label}
 use Rattle.uses.specs.Table.{usesIn}
-use borrow.Author.Rules.{rules}
 use Rattle.contact.proofs.meet.Goals as goal
 
 pub returns-then-t-h : goal.returns-then-t-h

@@ -5,9 +5,8 @@ use Rattle.fields.specs.Chains.{chain}
 use Rattle.contact.specs.Buckets.{nextFan, standsWith}
 use Rattle.contact.specs.BucketLaws.{chain-hit, chain-miss, chain-missed}
 use native.Mathlib.Omega.{arith}
-use mathlib.Core.Path.{◌≡◌, refl}
+use mathlib.Core.Path.{refl}
 use Rattle.uses.specs.Table.{usesIn}
-use borrow.Author.Rules.{rules}
 use Rattle.contact.proofs.one_stands.Goals as goal
 
 pub loop-i-init : goal.loop-i-init

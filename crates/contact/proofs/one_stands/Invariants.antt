@@ -1,4 +1,3 @@
-use Prim.Native.Nat.{◌-◌}
 use lib.ListN.{get_or}
 use Rattle.lists.specs.Lists.{some}
 use Rattle.fields.specs.Chains.{chain}

@@ -1,10 +1,8 @@
-use lib.ListN.{length}
 use Prim.Native.Nat.{◌-◌}
-use Rattle.contact.specs.StampLaws.{Meeting, meeting-start, meeting-stale, meeting-step, meeting-stop, meeting-end}
+use Rattle.contact.specs.StampLaws.{meeting-start, meeting-stale, meeting-step, meeting-stop, meeting-end}
 use native.Mathlib.Omega.{arith}
-use mathlib.Core.Path.{◌≡◌, refl, ◌∙◌}
+use mathlib.Core.Path.{refl, ◌∙◌}
 use Rattle.uses.specs.Table.{usesIn}
-use borrow.Author.Rules.{rules}
 use Rattle.contact.proofs.pairs_meet.Goals as goal
 
 pub loop-i-init : goal.loop-i-init

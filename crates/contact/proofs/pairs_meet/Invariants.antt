@@ -1,5 +1,4 @@
 use lib.ListN.{length}
-use Prim.Native.Nat.{◌-◌}
 use Rattle.contact.specs.StampLaws.{Meeting}
 use mathlib.Core.Path.{◌≡◌}
 use Rattle.uses.specs.Table.{usesIn}

@@ -1,12 +1,11 @@
 use lib.ListN.{length}
-use Prim.Native.Nat.{◌+◌, ◌-◌, ◌≤◌}
-use mathlib.Core.Path.{◌≡◌, refl, sym, subst, ◌∙◌}
+use Prim.Native.Nat.{◌+◌}
+use mathlib.Core.Path.{refl, sym, subst, ◌∙◌}
 use Rattle.uses.specs.Table.{usesIn}
-use Rattle.contact.specs.ContactLaws.{LowestAt, lowest-none, lowest-more, lowest-found, lowest-nowhere}
+use Rattle.contact.specs.ContactLaws.{lowest-none, lowest-more, lowest-found, lowest-nowhere}
 use Rattle.contact.specs.Buckets.{Bucketed}
 use Rattle.contact.specs.BucketLaws.{bucketed-none}
 use native.Mathlib.Omega.{arith}
-use borrow.Author.Rules.{rules}
 use Rattle.contact.proofs.points_chained.Goals as goal
 
 pub loop-k-init : goal.loop-k-init

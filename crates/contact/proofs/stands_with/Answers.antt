@@ -1,6 +1,5 @@
 use Rattle.contact.specs.BucketLaws.{other-point, other-label, same-label}
 use Rattle.uses.specs.Table.{usesIn}
-use borrow.Author.Rules.{rules}
 use Rattle.contact.proofs.stands_with.Goals as goal
 
 pub returns-then-p-q : goal.returns-then-p-q

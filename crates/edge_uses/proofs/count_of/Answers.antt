@@ -2,10 +2,9 @@ use Rattle.edge_uses.specs.LinkLaws.{count-more, count-all}
 use Rattle.edge_uses.specs.Links.{nextUse}
 use Rattle.fields.specs.Chains.{chain}
 use lib.ListN.{length}
-use borrow.Author.Rules.{rules}
 use native.Mathlib.Omega.{arith}
-use mathlib.Core.Path.{◌≡◌, ap, ◌∙◌}
-use Prim.Native.Nat.{◌+◌, ◌-◌, ◌≤◌}
+use mathlib.Core.Path.{ap, ◌∙◌}
+use Prim.Native.Nat.{◌-◌}
 use Rattle.edge_uses.proofs.count_of.Goals as goal
 
 pub loop-i-init : goal.loop-i-init

@@ -2,7 +2,7 @@ use Rattle.edge_uses.specs.Links.{nextUse}
 use Rattle.fields.specs.Chains.{chain}
 use lib.ListN.{length}
 use mathlib.Core.Path.{◌≡◌}
-use Prim.Native.Nat.{◌+◌, ◌-◌, ◌≤◌}
+use Prim.Native.Nat.{◌+◌, ◌≤◌}
 use Rattle.edge_uses.proofs.count_of.Given as goal
 
 abbrev pub invariant-loop-i : goal.invariant-loop-i

@@ -1,12 +1,10 @@
 use Rattle.edge_uses.specs.LinkLaws.{linked-none, linked-step, linked-all}
 use Rattle.edge_uses.specs.Links.{Linked}
 use Rattle.uses.specs.Table.{usesIn}
-use lib.ListN.{length, take}
-use borrow.Author.Rules.{rules}
+use lib.ListN.{length}
 use native.Mathlib.Omega.{arith}
 use mathlib.Core.List.{[]}
-use mathlib.Core.Path.{◌≡◌, refl, sym, ◌∙◌, subst}
-use Prim.Native.Nat.{◌-◌, ◌≤◌}
+use mathlib.Core.Path.{refl, sym, ◌∙◌, subst}
 use Rattle.edge_uses.proofs.link.Goals as goal
 
 pub loop-h-init : goal.loop-h-init

@@ -1,7 +1,6 @@
 use mathlib.Core.Path.{sym, ◌∙◌}
 use Rattle.edges.specs.Made.{one-edge, no-edge}
 use native.Mathlib.Omega.{arith}
-use borrow.Author.Rules.{rules}
 use Rattle.edges.proofs.add_edge.Goals as goal
 
 pub overflow_add-result : goal.overflow_add-result

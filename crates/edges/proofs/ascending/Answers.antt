@@ -1,5 +1,4 @@
 use Rattle.edges.specs.EdgeLaws.{pair-rising, pair-falling}
-use borrow.Author.Rules.{rules}
 use Rattle.edges.proofs.ascending.Goals as goal
 
 pub returns-then-a-b : goal.returns-then-a-b

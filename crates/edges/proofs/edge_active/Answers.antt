@@ -2,7 +2,6 @@ use lib.Dec.{eqb}
 use mathlib.Core.Path.{sym, ap, ◌∙◌}
 use Rattle.edges.specs.Table.{edgeOf}
 use Rattle.edges.specs.TableLaws.{row-at, row-past}
-use borrow.Author.Rules.{rules}
 use Rattle.edges.proofs.edge_active.Goals as goal
 
 pub returns-then-e-rows : goal.returns-then-e-rows

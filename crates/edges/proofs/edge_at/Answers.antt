@@ -2,7 +2,6 @@ use Rattle.rules.specs.Sense.{senseOf}
 use mathlib.Core.List.{[], ◌∷◌}
 use mathlib.Core.Path.{sym, ap, ◌∙◌}
 use Rattle.edges.specs.TableLaws.{row-past, edge_of}
-use borrow.Author.Rules.{rules}
 use Rattle.edges.proofs.edge_at.Goals as goal
 
 pub returns-then-e-rows : goal.returns-then-e-rows

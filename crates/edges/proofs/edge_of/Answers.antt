@@ -3,7 +3,6 @@ use Rattle.uses.specs.Table.{usesIn}
 use Rattle.job.specs.Lists.{edgesIn}
 use mathlib.Core.Path.{sym, ◌∙◌}
 use Rattle.edges.specs.EdgeLaws.{edge-by}
-use borrow.Author.Rules.{rules}
 use Rattle.edges.proofs.edge_of.Goals as goal
 
 pub returns-in-Same : goal.returns-in-Same

@@ -2,8 +2,7 @@ use Rattle.rules.specs.Edges.{edgeData}
 use Rattle.uses.specs.Table.{usesIn}
 use Rattle.job.specs.Lists.{edgesIn}
 use mathlib.Core.Path.{refl}
-use Rattle.edges.specs.Made.{SoFar, so-far-none, so-far-few, so-far-step, made, two-faces}
-use Prim.Native.Nat.{◌-◌}
+use Rattle.edges.specs.Made.{so-far-none, so-far-few, so-far-step, made, two-faces}
 use lib.ListN.{length}
 use native.Mathlib.Omega.{arith}
 use Rattle.edges.proofs.edges.Goals as goal

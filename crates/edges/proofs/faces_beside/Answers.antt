@@ -1,6 +1,5 @@
 use Rattle.uses.specs.Table.{usesIn}
 use Rattle.edges.specs.EdgeLaws.{faces-by}
-use borrow.Author.Rules.{rules}
 use Rattle.edges.proofs.faces_beside.Goals as goal
 
 pub returns : goal.returns

@@ -1,5 +1,4 @@
 use mathlib.Core.Path.{◌∙◌}
-use borrow.Author.Rules.{rules}
 use Rattle.edges.proofs.fan_or_none.Goals as goal
 
 pub returns : goal.returns

@@ -1,6 +1,5 @@
 use mathlib.Core.Path.{◌∙◌}
 use Rattle.edges.specs.LoopLaws.{first-there, first-none}
-use borrow.Author.Rules.{rules}
 use Rattle.edges.proofs.first_use.Goals as goal
 
 pub returns-then-a-e : goal.returns-then-a-e

@@ -1,6 +1,5 @@
 use lib.Dec.{ltb}
 use mathlib.Core.Path.{sym, ap, ◌∙◌}
-use borrow.Author.Rules.{rules}
 use Rattle.edges.proofs.is_lower.Goals as goal
 
 pub returns-then-is_set : goal.returns-then-is_set

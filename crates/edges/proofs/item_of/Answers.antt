@@ -1,7 +1,6 @@
 use Rattle.uses.specs.Table.{usesIn}
 use Rattle.edges.specs.LoopLaws.{item-by}
 use native.Mathlib.Omega.{arith}
-use borrow.Author.Rules.{rules}
 use Rattle.edges.proofs.item_of.Goals as goal
 
 pub returns : goal.returns

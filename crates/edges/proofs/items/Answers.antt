@@ -1,12 +1,8 @@
 use Rattle.uses.specs.Table.{usesIn}
 use Rattle.edges.specs.LoopLaws.{items-step}
-use mathlib.Core.Path.{◌≡◌, refl, ◌∙◌}
-use Rattle.edges.specs.Table.{itemCode}
-use Rattle.lists.specs.InPlace.{mappedTo, mapped-start, mapped-done}
-use Prim.Native.Nat.{◌-◌, ◌≤◌}
-use lib.ListN.{length}
+use mathlib.Core.Path.{refl, ◌∙◌}
+use Rattle.lists.specs.InPlace.{mapped-start, mapped-done}
 use native.Mathlib.Omega.{arith}
-use borrow.Author.Rules.{rules}
 use Rattle.edges.proofs.items.Goals as goal
 
 pub loop-i-init : goal.loop-i-init

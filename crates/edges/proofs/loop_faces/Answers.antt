@@ -1,12 +1,9 @@
 use Rattle.uses.specs.Table.{usesIn}
 use Rattle.rules.specs.Read.{faceOfUse}
 use mathlib.Core.Path.{ap, ◌∙◌}
-use Rattle.edges.specs.Table.{loopFace}
-use Rattle.lists.specs.InPlace.{Filled, filled-none, filled-more, filled-all}
-use Prim.Native.Nat.{◌-◌}
-use lib.ListN.{length, get_or}
+use Rattle.lists.specs.InPlace.{filled-none, filled-more, filled-all}
+use lib.ListN.{get_or}
 use native.Mathlib.Omega.{arith}
-use borrow.Author.Rules.{rules}
 use Rattle.edges.proofs.loop_faces.Goals as goal
 
 pub loop-k-init : goal.loop-k-init

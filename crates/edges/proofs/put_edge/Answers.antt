@@ -1,5 +1,4 @@
 use Rattle.edges.specs.TableLaws.{row-by-parts}
-use borrow.Author.Rules.{rules}
 use Rattle.edges.proofs.put_edge.Goals as goal
 
 pub returns : goal.returns

@@ -4,7 +4,6 @@ use lib.ListN.{set}
 use mathlib.Core.Path.{refl, ap, ◌∙◌}
 use Rattle.edges.specs.Table.{lineOf}
 use Rattle.lists.specs.StoreRuns.{four-stores}
-use borrow.Author.Rules.{rules}
 use Rattle.edges.proofs.put_line.Goals as goal
 
 pub returns : goal.returns

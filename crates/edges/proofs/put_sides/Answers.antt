@@ -5,7 +5,6 @@ use mathlib.Core.Path.{ap, ◌∙◌}
 use Rattle.edges.specs.Table.{sidesOf}
 use Rattle.lists.specs.StoreRuns.{three-stores}
 use native.Mathlib.Omega.{arith}
-use borrow.Author.Rules.{rules}
 use Rattle.edges.proofs.put_sides.Goals as goal
 
 pub returns : goal.returns

@@ -1,12 +1,10 @@
 use lib.ListN.{length}
-use Prim.Native.Nat.{◌-◌, ◌≤◌}
 use Rattle.rules.specs.Fans.{namesFan}
-use Rattle.fans.specs.Naming.{Naming, naming-start, naming-end}
+use Rattle.fans.specs.Naming.{naming-start, naming-end}
 use native.Mathlib.Omega.{arith}
-use mathlib.Core.Path.{◌≡◌, refl, ◌∙◌}
+use mathlib.Core.Path.{refl, ◌∙◌}
 use Rattle.uses.specs.Table.{usesIn}
 use Rattle.job.specs.Lists.{edgesIn}
-use borrow.Author.Rules.{rules}
 use Rattle.fans.proofs.fan_names.Goals as goal
 
 pub loop-h-init : goal.loop-h-init

@@ -1,7 +1,6 @@
 use Rattle.fans.specs.FanLaws.{step-joins, step-leaves}
 use Rattle.uses.specs.Table.{usesIn}
 use Rattle.job.specs.Lists.{edgesIn}
-use borrow.Author.Rules.{rules}
 use Rattle.fans.proofs.fan_step.Goals as goal
 
 pub returns-then-kept_with_ends : goal.returns-then-kept_with_ends

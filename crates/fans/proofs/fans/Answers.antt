@@ -1,11 +1,9 @@
 use lib.ListN.{length}
-use Prim.Native.Nat.{◌-◌, ◌≤◌}
-use Rattle.fans.specs.FanLaws.{FannedAt, fanned-start, fanned-step, fanned-end}
+use Rattle.fans.specs.FanLaws.{fanned-start, fanned-step, fanned-end}
 use native.Mathlib.Omega.{arith}
-use mathlib.Core.Path.{◌≡◌, refl, ◌∙◌}
+use mathlib.Core.Path.{refl, ◌∙◌}
 use Rattle.uses.specs.Table.{usesIn}
 use Rattle.job.specs.Lists.{edgesIn}
-use borrow.Author.Rules.{rules}
 use Rattle.fans.proofs.fans.Goals as goal
 
 pub loop-h-init : goal.loop-h-init

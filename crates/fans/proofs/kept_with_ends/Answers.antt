@@ -1,7 +1,6 @@
 use Rattle.fans.specs.FanLaws.{gone-use, ring-use, kept-use}
 use Rattle.uses.specs.Table.{usesIn}
 use Rattle.job.specs.Lists.{edgesIn}
-use borrow.Author.Rules.{rules}
 use Rattle.fans.proofs.kept_with_ends.Goals as goal
 
 pub returns-then-is_set : goal.returns-then-is_set

@@ -2,7 +2,6 @@ use Rattle.rules.specs.Fans.{namesFan}
 use Rattle.fans.specs.Naming.{naming-yes, naming-no}
 use Rattle.uses.specs.Table.{usesIn}
 use Rattle.job.specs.Lists.{edgesIn}
-use borrow.Author.Rules.{rules}
 use Rattle.fans.proofs.name_use.Goals as goal
 
 pub returns-then-names_fan : goal.returns-then-names_fan

@@ -1,7 +1,6 @@
 use Rattle.fans.specs.FanLaws.{other-label, own-label}
 use Rattle.uses.specs.Table.{usesIn}
 use Rattle.job.specs.Lists.{edgesIn}
-use borrow.Author.Rules.{rules}
 use Rattle.fans.proofs.names_fan.Goals as goal
 
 pub returns-then-get-h : goal.returns-then-get-h

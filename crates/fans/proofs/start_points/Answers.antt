@@ -1,11 +1,8 @@
 use native.Mathlib.Omega.{arith}
-use mathlib.Core.Path.{◌≡◌, refl, ◌∙◌}
+use mathlib.Core.Path.{refl, ◌∙◌}
 use Rattle.uses.specs.Table.{usesIn}
 use Rattle.job.specs.Lists.{pointsIn, edgesIn}
-use lib.ListN.{length}
-use Prim.Native.Nat.{◌-◌, ◌≤◌}
-use Rattle.fans.specs.StartLaws.{Starting, starting-start, starting-step, starting-end}
-use borrow.Author.Rules.{rules}
+use Rattle.fans.specs.StartLaws.{starting-start, starting-step, starting-end}
 use Rattle.fans.proofs.start_points.Goals as goal
 
 pub loop-h-init : goal.loop-h-init

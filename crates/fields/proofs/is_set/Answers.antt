@@ -1,7 +1,6 @@
 use mathlib.Core.Bool.{false}
 use mathlib.Core.Path.{sym}
 use lib.ListN.{get_or-eq_default}
-use borrow.Author.Rules.{rules}
 use Rattle.fields.proofs.is_set.Goals as goal
 
 pub returns : goal.returns

@@ -3,7 +3,6 @@ use Prim.Native.Nat.{◌*◌, ◌+◌}
 use Rattle.rules.specs.Fields.{bytes16, bytes32}
 use Rattle.fields.specs.Wrote.{two-stores, wrote-more}
 use native.Mathlib.Omega.{arith}
-use borrow.Author.Rules.{rules}
 use Rattle.fields.proofs.put_head.Goals as goal
 
 pub overflow_add-p : goal.overflow_add-p

@@ -1,12 +1,10 @@
-use Prim.Native.Nat.{◌-◌}
 use mathlib.Core.Path.{◌≡◌, refl, ap, subst, ◌∙◌}
 use lib.ListN.{length, take}
 use lib.Seq.{take-length}
 use Rattle.rules.specs.Fields.{fieldBytes}
 use Rattle.fields.specs.Wrote.{Wrote}
-use Rattle.fields.specs.Tabled.{Tabled, tabled-start, tabled-step}
+use Rattle.fields.specs.Tabled.{tabled-start, tabled-step}
 use native.Mathlib.Omega.{arith}
-use borrow.Author.Rules.{rules}
 use Rattle.fields.proofs.put_table.Goals as goal
 
 pub loop-i-init : goal.loop-i-init

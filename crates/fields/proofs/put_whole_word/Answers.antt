@@ -1,6 +1,5 @@
 use Rattle.fields.specs.Wrote.{four-stores}
 use Rattle.rules.specs.Fields.{bytes32}
-use borrow.Author.Rules.{rules}
 use Rattle.fields.proofs.put_whole_word.Goals as goal
 
 pub returns : goal.returns

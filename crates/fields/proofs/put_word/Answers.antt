@@ -1,7 +1,6 @@
 use Rattle.fields.specs.Wrote.{four-stores}
 use mathlib.Core.Path.{refl}
 use Rattle.rules.specs.Fields.{bytes32}
-use borrow.Author.Rules.{rules}
 use Rattle.fields.proofs.put_word.Goals as goal
 
 pub returns-then-at-out : goal.returns-then-at-out

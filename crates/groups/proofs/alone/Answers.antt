@@ -1,9 +1,7 @@
-use Rattle.groups.specs.ParentLaws.{Numbered, numbered-step, numbered-all}
+use Rattle.groups.specs.ParentLaws.{numbered-step, numbered-all}
 use lib.ListN.{length}
-use Prim.Native.Nat.{◌-◌, ◌≤◌}
-use mathlib.Core.Path.{◌≡◌, ◌∙◌}
+use mathlib.Core.Path.{◌∙◌}
 use native.Mathlib.Omega.{arith}
-use borrow.Author.Rules.{rules}
 use Rattle.groups.proofs.alone.Goals as goal
 
 pub loop-i-preserved : goal.loop-i-preserved

@@ -1,6 +1,5 @@
 use Rattle.groups.specs.ParentLaws.{joined-less, joined-more, joined-same, separate-roots, one-root}
 use native.Mathlib.Omega.{arith}
-use borrow.Author.Rules.{rules}
 use Rattle.groups.proofs.join_in.Goals as goal
 
 pub returns-then-ra-rb : goal.returns-then-ra-rb

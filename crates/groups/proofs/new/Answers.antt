@@ -1,8 +1,6 @@
 use Rattle.groups.specs.Padding.{zeros, lent-size, new-stands}
 use native.Mathlib.Omega.{arith}
-use mathlib.Core.Path.{sym}
 use lib.ListN.{length, take}
-use borrow.Author.Rules.{rules}
 use Rattle.groups.proofs.new.Goals as goal
 
 -- no goal for slice-aggregate-alone

@@ -1,5 +1,4 @@
-use Rattle.groups.specs.ParentLaws.{Climbing, climb-start, climb-less, climb-step, climbed}
-use borrow.Author.Rules.{rules}
+use Rattle.groups.specs.ParentLaws.{climb-start, climb-less, climb-step, climbed}
 use Rattle.groups.proofs.root_in.Goals as goal
 
 pub loop-up-init : goal.loop-up-init

@@ -1,11 +1,6 @@
-use Rattle.groups.specs.ParentLaws.{Settled, settled-none, settled-step, settled-all}
-use Rattle.groups.specs.Parents.{Stands}
-use mathlib.Core.List.{List}
-use lib.ListN.{length}
-use Prim.Native.Nat.{ℕ, ◌-◌, ◌≤◌}
-use mathlib.Core.Path.{◌≡◌, refl, ◌∙◌}
+use Rattle.groups.specs.ParentLaws.{settled-none, settled-step, settled-all}
+use mathlib.Core.Path.{refl, ◌∙◌}
 use native.Mathlib.Omega.{arith}
-use borrow.Author.Rules.{rules}
 use Rattle.groups.proofs.settle.Goals as goal
 
 pub loop-i-init : goal.loop-i-init

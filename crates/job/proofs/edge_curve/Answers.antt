@@ -2,7 +2,6 @@ use Rattle.job.specs.Lists.{edgeIn}
 use Rattle.job.specs.ListLaws.{edges-at, edges-past}
 use mathlib.Core.Path.{sym, ap, ◌∙◌}
 use native.Mathlib.Omega.{arith}
-use borrow.Author.Rules.{rules}
 use Rattle.job.proofs.edge_curve.Goals as goal
 
 pub returns-then-e-c : goal.returns-then-e-c

@@ -1,4 +1,3 @@
-use borrow.Author.Rules.{rules}
 use Rattle.job.proofs.end_by.Goals as goal
 
 pub returns-in-Same : goal.returns-in-Same

@@ -4,7 +4,6 @@ use Rattle.rules.specs.Fields.{le32}
 use Rattle.job.specs.Lists.{faceIn}
 use Rattle.job.specs.ListLaws.{faces-at, faces-past}
 use mathlib.Core.Path.{sym, ap, ◌∙◌}
-use borrow.Author.Rules.{rules}
 use Rattle.job.proofs.face_own.Goals as goal
 
 pub returns-then-f-c : goal.returns-then-f-c

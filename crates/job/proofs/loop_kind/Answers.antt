@@ -1,7 +1,6 @@
 use Prim.Native.Nat.{◌+◌}
 use Rattle.rules.specs.Fields.{le16}
 use mathlib.Core.Path.{ap, ◌∙◌}
-use borrow.Author.Rules.{rules}
 use Rattle.job.proofs.loop_kind.Goals as goal
 
 pub returns : goal.returns

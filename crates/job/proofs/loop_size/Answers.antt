@@ -1,6 +1,5 @@
 use Rattle.rules.specs.Fields.{le32}
 use mathlib.Core.Path.{ap, ◌∙◌}
-use borrow.Author.Rules.{rules}
 use Rattle.job.proofs.loop_size.Goals as goal
 
 pub returns : goal.returns

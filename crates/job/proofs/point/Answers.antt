@@ -1,7 +1,6 @@
 use Rattle.job.specs.ListLaws.{points-at, points-past}
 use mathlib.Core.Path.{sym, ◌∙◌}
 use native.Mathlib.Omega.{arith}
-use borrow.Author.Rules.{rules}
 use Rattle.job.proofs.point.Goals as goal
 
 pub returns-then-v-c : goal.returns-then-v-c

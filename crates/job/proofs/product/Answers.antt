@@ -1,7 +1,6 @@
 use Rattle.rules.specs.SenseLaws.{answers-told}
 use Rattle.rules.specs.declared.Sense.TheVariants.{Same, Reversed}
 use mathlib.Core.Path.{refl}
-use borrow.Author.Rules.{rules}
 use Rattle.job.proofs.product.Goals as goal
 
 pub returns-in-Same-b : goal.returns-in-Same-b

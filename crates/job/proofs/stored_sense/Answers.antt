@@ -1,7 +1,6 @@
 use Rattle.rules.specs.Sense.{product}
 use Rattle.rules.specs.SenseLaws.{answers-product}
 use mathlib.Core.Path.{◌∙◌}
-use borrow.Author.Rules.{rules}
 use Rattle.job.proofs.stored_sense.Goals as goal
 
 pub returns : goal.returns

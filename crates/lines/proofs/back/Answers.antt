@@ -3,7 +3,6 @@ use lib.ListN.{length, drop, length-drop, drop_of_length-le}
 use Prim.Native.Nat.{◌-◌}
 use mathlib.Core.Path.{sym}
 use native.Mathlib.Omega.{arith}
-use borrow.Author.Rules.{rules}
 use Rattle.lines.proofs.back.Goals as goal
 
 pub returns-then-from-bytes : goal.returns-then-from-bytes

@@ -1,7 +1,5 @@
-use lib.Seq.{length-take-le, take_all}
+use lib.Seq.{take_all}
 use mathlib.Core.Path.{sym}
-use native.Mathlib.Omega.{arith}
-use borrow.Author.Rules.{rules}
 use Rattle.lines.proofs.front.Goals as goal
 
 -- no goal for slice-aggregate-result

@@ -4,9 +4,8 @@ use borrow.Author.Count.{below_more}
 use lib.Seq.{ext_get_or}
 use lib.ListN.{length, get_or}
 use native.Mathlib.Nat.{not-suc-le-zero}
-use Prim.Native.Nat.{ℕ, ◌-◌, ◌≤◌, ◌<◌}
 use Rattle.lines.specs.Writing.{same-not}
-use mathlib.Core.Path.{◌≡◌, sym, ap, ◌∙◌}
+use mathlib.Core.Path.{sym, ap, ◌∙◌}
 use native.Mathlib.Omega.{arith}
 use borrow.Author.Rules.{rules}
 use Rattle.lines.proofs.is_same.Goals as goal

@@ -1,10 +1,7 @@
-use lib.ListN.{length}
-use Prim.Native.Nat.{◌-◌, ◌/◌, ◌≤◌}
 use Rattle.lines.specs.Text.{fieldTextIn}
-use Rattle.lines.specs.Writing.{Fielded, fielded-start, fielded-step, fielded-end, field-short}
-use mathlib.Core.Path.{◌≡◌, refl, ◌∙◌}
+use Rattle.lines.specs.Writing.{fielded-start, fielded-step, fielded-end, field-short}
+use mathlib.Core.Path.{refl, ◌∙◌}
 use native.Mathlib.Omega.{arith}
-use borrow.Author.Rules.{rules}
 use Rattle.lines.proofs.put_fields.Goals as goal
 
 pub loop-i-init : goal.loop-i-init

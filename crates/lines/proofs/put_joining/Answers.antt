@@ -1,9 +1,8 @@
 use lib.ListN.{length, length-take, length-drop}
 use Rattle.lines.specs.LineLaws.{joining-wrote}
-use Prim.Native.Nat.{◌*◌, ◌-◌, ◌/◌}
+use Prim.Native.Nat.{◌*◌}
 use mathlib.Core.Path.{ap}
 use native.Mathlib.Omega.{arith}
-use borrow.Author.Rules.{rules}
 use Rattle.lines.proofs.put_joining.Goals as goal
 
 pub put_rows-p-requires : goal.put_rows-p-requires

@@ -4,7 +4,6 @@ use Prim.Native.Nat.{◌+◌, ◌*◌, ◌-◌, ◌/◌}
 use Rattle.lines.specs.Writing.{fields-short}
 use Rattle.lines.specs.LineLaws.{line-wrote, name-short}
 use native.Mathlib.Omega.{arith}
-use borrow.Author.Rules.{rules}
 use Rattle.lines.proofs.put_line.Goals as goal
 
 pub put_fields-q-requires : goal.put_fields-q-requires

@@ -1,10 +1,9 @@
 use Rattle.rules.specs.Listing.{lineOf}
 use Rattle.lines.specs.LineLaws.{record-some, line-short, record-next}
-use Rattle.lines.specs.Cut.{Going, going-start, going-step, going-end}
+use Rattle.lines.specs.Cut.{going-start, going-step, going-end}
 use Rattle.lines.specs.Text.{recordAt, recordSize}
-use lib.ListN.{length}
-use Prim.Native.Nat.{◌+◌, ◌-◌, ◌/◌}
-use mathlib.Core.Path.{◌≡◌, refl, ◌∙◌}
+use Prim.Native.Nat.{◌+◌}
+use mathlib.Core.Path.{refl, ◌∙◌}
 use native.Mathlib.Omega.{arith}
 use Rattle.lines.proofs.put_lines.Goals as goal
 

@@ -1,6 +1,5 @@
 use Rattle.lines.specs.LineLaws.{part-small}
 use Rattle.lines.specs.LineLaws.{listed-body, listed-refusal}
-use borrow.Author.Rules.{rules}
 use Rattle.lines.proofs.put_listing.Goals as goal
 
 pub put_lines-requires : goal.put_lines-requires

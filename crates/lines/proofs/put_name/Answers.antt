@@ -5,7 +5,6 @@ use Rattle.rules.specs.Listing.{wordOf}
 use Rattle.lines.specs.LineLaws.{name-first, name-none}
 use Rattle.lines.specs.Writing.{wrote-same}
 use mathlib.Core.Path.{sym, ap}
-use borrow.Author.Rules.{rules}
 use Rattle.lines.proofs.put_name.Goals as goal
 
 pub returns-then-kind-le21 : goal.returns-then-kind-le21

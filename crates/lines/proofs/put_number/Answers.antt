@@ -1,5 +1,4 @@
 use Rattle.lines.specs.Writing.{number-wrote}
-use borrow.Author.Rules.{rules}
 use Rattle.lines.proofs.put_number.Goals as goal
 
 pub returns : goal.returns

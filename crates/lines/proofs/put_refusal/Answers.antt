@@ -2,7 +2,6 @@ use mathlib.Core.Bool.{false}
 use Rattle.lines.specs.LineLaws.{refusal-wrote}
 use Rattle.lines.specs.Writing.{field-short}
 use native.Mathlib.Omega.{arith}
-use borrow.Author.Rules.{rules}
 use Rattle.lines.proofs.put_refusal.Goals as goal
 
 pub put_field-r-requires : goal.put_field-r-requires

@@ -2,9 +2,8 @@ use lib.ListN.{drop}
 use mathlib.Core.Bool.{false}
 use Rattle.lines.specs.Writing.{decimal-short, fields-short}
 use Rattle.lines.specs.LineLaws.{row-wrote}
-use Prim.Native.Nat.{◌+◌, ◌-◌, ◌/◌}
+use Prim.Native.Nat.{◌+◌, ◌-◌}
 use native.Mathlib.Omega.{arith}
-use borrow.Author.Rules.{rules}
 use Rattle.lines.proofs.put_row.Goals as goal
 
 pub put_fields-q-requires : goal.put_fields-q-requires

@@ -1,12 +1,12 @@
 use Rattle.rules.specs.Fields.{fieldsIn}
 use Rattle.fields.specs.Wrote.{Wrote}
 use Rattle.lines.specs.LineLaws.{row-some, row-short, row-is, counted-small}
-use Rattle.lines.specs.Cut.{Going, going-start, going-step, going-end}
+use Rattle.lines.specs.Cut.{going-start, going-step, going-end}
 use Rattle.rules.specs.Rows.{rowText}
 use Rattle.lines.specs.Text.{rowAt, rowSize}
-use lib.ListN.{length, drop}
-use Prim.Native.Nat.{◌+◌, ◌*◌, ◌-◌, ◌/◌, ◌<◌, ◌^◌}
-use mathlib.Core.Path.{◌≡◌, refl, ap, subst, ◌∙◌}
+use lib.ListN.{drop}
+use Prim.Native.Nat.{◌+◌, ◌*◌}
+use mathlib.Core.Path.{refl, ap, subst, ◌∙◌}
 use native.Mathlib.Omega.{arith}
 use Rattle.lines.proofs.put_rows.Goals as goal
 

@@ -1,6 +1,5 @@
 use Rattle.lines.specs.LineLaws.{part-small}
 use Rattle.lines.specs.LineLaws.{staged-rows, staged-refusal}
-use borrow.Author.Rules.{rules}
 use Rattle.lines.proofs.put_stage.Goals as goal
 
 pub put_stage_rows-requires : goal.put_stage_rows-requires

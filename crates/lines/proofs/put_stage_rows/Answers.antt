@@ -4,7 +4,6 @@ use Rattle.lines.specs.Text.{stageRows}
 use Rattle.lines.specs.LineLaws.{stage-edges, stage-joining, stage-other}
 use Rattle.lines.specs.Writing.{wrote-same}
 use mathlib.Core.Path.{ap}
-use borrow.Author.Rules.{rules}
 use Rattle.lines.proofs.put_stage_rows.Goals as goal
 
 pub returns-then-stage-eq8 : goal.returns-then-stage-eq8

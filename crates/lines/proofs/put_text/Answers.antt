@@ -1,6 +1,5 @@
 use lib.Seq.{sets, take-length}
 use lib.ListN.{length, take}
-use Prim.Native.Nat.{◌-◌, ◌≤◌}
 use Rattle.lines.specs.Writing.{text-more}
 use mathlib.Core.Path.{◌≡◌, refl, ap, ◌∙◌}
 use native.Mathlib.Omega.{arith}

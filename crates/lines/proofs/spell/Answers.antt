@@ -1,9 +1,6 @@
-use lib.ListN.{length-set}
 use Prim.Native.Nat.{◌-◌}
-use Rattle.lines.specs.Writing.{Spelled, spelled-start, spelled-last, spelled-on, spelled-end}
-use mathlib.Core.Path.{sym, ◌∙◌}
+use Rattle.lines.specs.Writing.{spelled-start, spelled-last, spelled-on, spelled-end}
 use native.Mathlib.Omega.{arith}
-use borrow.Author.Rules.{rules}
 use Rattle.lines.proofs.spell.Goals as goal
 
 pub loop-i-init : goal.loop-i-init

@@ -1,4 +1,3 @@
-use Prim.Native.Nat.{◌-◌}
 use Rattle.lines.specs.Writing.{Spelled}
 use Rattle.lines.proofs.spell.Given as goal
 

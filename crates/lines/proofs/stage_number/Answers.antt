@@ -1,6 +1,5 @@
 use mathlib.Core.Path.{sym, ◌∙◌}
 use Rattle.lines.specs.Text.{stageNumber}
-use borrow.Author.Rules.{rules}
 use Rattle.lines.proofs.stage_number.Goals as goal
 
 pub returns-then-is_same : goal.returns-then-is_same

@@ -1,6 +1,5 @@
 use Rattle.links.specs.Tables.{linksOf}
-use Rattle.links.specs.Fuse.{lent-order, lent-codes, lent-nexts, lent-head, slot-after, next-after, end-there, fuse-is}
-use borrow.Author.Rules.{rules}
+use Rattle.links.specs.Fuse.{lent-order, lent-codes, lent-nexts, lent-head, slot-after, next-after, fuse-is}
 use Rattle.links.proofs.fuse.Goals as goal
 
 pub slice_bounds-turn_and_replace-start : goal.slice_bounds-turn_and_replace-start

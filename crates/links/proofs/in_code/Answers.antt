@@ -1,6 +1,5 @@
 use Rattle.edges.specs.Table.{rowsIn}
 use Rattle.links.specs.JoinLinks.{in-reversed, in-same}
-use borrow.Author.Rules.{rules}
 use Rattle.links.proofs.in_code.Goals as goal
 
 pub returns-then-edge_start-v : goal.returns-then-edge_start-v

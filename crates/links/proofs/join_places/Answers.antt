@@ -2,7 +2,6 @@ use Rattle.edges.specs.Table.{rowsIn}
 use Rattle.links.specs.Tables.{linksOf}
 use Rattle.links.specs.JoinLinks.{fuse-first, fuse-second, join-is}
 use native.Mathlib.Omega.{arith}
-use borrow.Author.Rules.{rules}
 use Rattle.links.proofs.join_places.Goals as goal
 
 pub in_code-x-requires : goal.in_code-x-requires

@@ -1,11 +1,10 @@
-use mathlib.Core.Path.{◌≡◌, refl, ◌∙◌}
+use mathlib.Core.Path.{refl, ◌∙◌}
 use Prim.Native.Nat.{◌-◌}
 use lib.ListN.{length}
 use lib.Seq.{sets}
 use Rattle.links.specs.Tables.{follow, codesAt}
 use Rattle.links.specs.Lay.{lay-step, lay-done, lay-whole}
 use native.Mathlib.Omega.{arith}
-use borrow.Author.Rules.{rules}
 use Rattle.links.proofs.lay_loop.Goals as goal
 
 pub loop-i-init : goal.loop-i-init

@@ -1,9 +1,8 @@
-use mathlib.Core.Path.{◌≡◌, refl, ◌∙◌}
-use Prim.Native.Nat.{◌-◌, ◌/◌, ◌≤◌}
+use mathlib.Core.Path.{refl}
+use Prim.Native.Nat.{◌/◌}
 use lib.ListN.{length}
-use Rattle.links.specs.Lay.{laidUpto, upto-none, upto-part, upto-all, reads-order, reads-inside}
+use Rattle.links.specs.Lay.{upto-none, upto-part, upto-all}
 use native.Mathlib.Omega.{arith}
-use borrow.Author.Rules.{rules}
 use Rattle.links.proofs.lay_loops.Goals as goal
 
 pub loop-k-init : goal.loop-k-init

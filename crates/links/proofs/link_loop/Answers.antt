@@ -1,9 +1,6 @@
-use mathlib.Core.Path.{◌≡◌, refl, ◌∙◌}
-use Prim.Native.Nat.{◌-◌, ◌≤◌}
-use lib.ListN.{length}
-use Rattle.links.specs.Link.{Linking, linking-from, linking-more, linking-past}
+use mathlib.Core.Path.{refl, ◌∙◌}
+use Rattle.links.specs.Link.{linking-from, linking-more, linking-past}
 use native.Mathlib.Omega.{arith}
-use borrow.Author.Rules.{rules}
 use Rattle.links.proofs.link_loop.Goals as goal
 
 pub overflow_mul-k : goal.overflow_mul-k

@@ -1,9 +1,6 @@
-use mathlib.Core.Path.{◌≡◌, refl, ◌∙◌}
-use Prim.Native.Nat.{◌-◌, ◌/◌, ◌≤◌}
-use lib.ListN.{length}
-use Rattle.links.specs.Link.{Linking, linking-none, Headed, headed-none, headed-more, linked-all}
+use mathlib.Core.Path.{refl, ◌∙◌}
+use Rattle.links.specs.Link.{linking-none, headed-none, headed-more, linked-all}
 use native.Mathlib.Omega.{arith}
-use borrow.Author.Rules.{rules}
 use Rattle.links.proofs.link_loops.Goals as goal
 
 pub loop-k-init : goal.loop-k-init

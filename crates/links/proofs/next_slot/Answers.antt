@@ -1,6 +1,5 @@
 use Rattle.links.specs.Link.{slot-wraps, slot-on}
 use native.Mathlib.Omega.{arith}
-use borrow.Author.Rules.{rules}
 use Rattle.links.proofs.next_slot.Goals as goal
 
 pub overflow_add-s : goal.overflow_add-s

@@ -1,5 +1,4 @@
 use Rattle.links.specs.Fuse.{own-next, own-last}
-use borrow.Author.Rules.{rules}
 use Rattle.links.proofs.own_end.Goals as goal
 
 pub returns-then-k-stretches : goal.returns-then-k-stretches

@@ -1,5 +1,4 @@
 use Rattle.links.specs.Fuse.{turned-is}
-use borrow.Author.Rules.{rules}
 use Rattle.links.proofs.turn_and_replace.Goals as goal
 
 pub returns : goal.returns

@@ -1,4 +1,3 @@
-
 use Rattle.lines.specs.Listed.{bytes-below, sews, lists}
 use Rattle.listed.proofs.list.Goals as goal
 

@@ -2,7 +2,6 @@ use Rattle.load.specs.Judged.{judge-misplaced, in-place, right-fields, judge-lim
 use Prim.Native.Nat.{◌/◌}
 use mathlib.Core.Path.{refl}
 use native.Mathlib.Omega.{arith}
-use borrow.Author.Rules.{rules}
 use Rattle.load.proofs.fault.Goals as goal
 
 pub returns-then-is_misplaced : goal.returns-then-is_misplaced

@@ -1,6 +1,5 @@
 use Rattle.load.specs.Judged.{right-answer, asked-before, no-question}
 use mathlib.Core.Path.{sym}
-use borrow.Author.Rules.{rules}
 use Rattle.load.proofs.is_answered.Goals as goal
 
 pub answered_before-requires : goal.answered_before-requires

@@ -1,4 +1,3 @@
-use borrow.Author.Rules.{rules}
 use Rattle.load.proofs.is_misplaced.Goals as goal
 
 pub returns-then-right_position : goal.returns-then-right_position

@@ -1,7 +1,6 @@
 use Rattle.rules.specs.FrameLaws.{whole-is, head-cut, payload-cut}
 use mathlib.Core.Path.{sym}
 use native.Mathlib.Omega.{arith}
-use borrow.Author.Rules.{rules}
 use Rattle.load.proofs.is_whole.Goals as goal
 
 pub returns-then-job-body : goal.returns-then-job-body

@@ -1,7 +1,6 @@
 use Rattle.rules.specs.Kinds.{numberOf, isLoop, isAnswer}
 use Rattle.load.specs.Kept.{keptIndex, kept-as}
 use mathlib.Core.Path.{refl, ap}
-use borrow.Author.Rules.{rules}
 use Rattle.load.proofs.keep.Goals as goal
 
 pub keep_loop-requires : goal.keep_loop-requires

@@ -1,5 +1,4 @@
 use Rattle.load.specs.Kept.{two-puts}
-use borrow.Author.Rules.{rules}
 use Rattle.load.proofs.keep_loop.Goals as goal
 
 pub returns : goal.returns

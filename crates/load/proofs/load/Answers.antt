@@ -1,10 +1,5 @@
-use Rattle.load.specs.Follows.{Follows, load-long, load-empty, going-start, follows-start, follows-on, follows-refused, follows-done}
-use Rattle.load.specs.Going.{Going}
-use lib.ListN.{length, length-replicate}
-use Prim.Native.Nat.{ℕ, ◌-◌}
-use mathlib.Core.Path.{sym, ap, ◌∙◌}
+use Rattle.load.specs.Follows.{load-long, load-empty, going-start, follows-start, follows-on, follows-refused, follows-done}
 use native.Mathlib.Omega.{arith}
-use borrow.Author.Rules.{rules}
 use Rattle.load.proofs.load.Goals as goal
 
 pub returns-then-job-gt65536 : goal.returns-then-job-gt65536

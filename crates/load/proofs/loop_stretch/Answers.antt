@@ -1,6 +1,5 @@
 use Rattle.load.specs.Stretches.{request-refused, request-high, request-low, request-at}
 use mathlib.Core.Path.{refl}
-use borrow.Author.Rules.{rules}
 use Rattle.load.proofs.loop_stretch.Goals as goal
 
 pub returns-then-c-n : goal.returns-then-c-n

@@ -2,7 +2,6 @@ use Rattle.rules.specs.Kinds.{kindOf}
 use Rattle.load.specs.Going.{step-cut, step-refused, step-taken, faces-some, answers-room}
 use mathlib.Core.Path.{refl, ap, ◌∙◌}
 use native.Mathlib.Omega.{arith}
-use borrow.Author.Rules.{rules}
 use Rattle.load.proofs.step.Goals as goal
 
 pub is_whole-requires : goal.is_whole-requires

@@ -1,12 +1,10 @@
 use Rattle.lists.specs.Membership.{in-getD}
-use lib.ListN.{length, get_or}
-use Prim.Native.Nat.{ℕ, ◌-◌, ◌<◌, ◌≤◌}
+use lib.ListN.{get_or}
 use native.Mathlib.Decide.{dec_lt}
 use native.Mathlib.Omega.{arith}
 use mathlib.Core.Bool.{false≢true}
 use mathlib.Core.Path.{ap}
 use native.Mathlib.Decide.{ℕ_discrete}
-use borrow.Author.Rules.{rules}
 use Rattle.maximal_edges.proofs.all_below.Goals as goal
 
 pub loop-i-init : goal.loop-i-init

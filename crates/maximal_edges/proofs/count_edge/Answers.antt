@@ -2,7 +2,6 @@ use Rattle.maximal_edges.specs.CountLaws.{count-small, half-small, counted-activ
 use Rattle.edges.specs.Table.{rowsIn}
 use native.Mathlib.Omega.{arith}
 use mathlib.Core.Path.{sym, ◌∙◌}
-use borrow.Author.Rules.{rules}
 use Rattle.maximal_edges.proofs.count_edge.Goals as goal
 
 pub count_end-requires : goal.count_end-requires

@@ -1,5 +1,4 @@
 use Rattle.maximal_edges.specs.CountLaws.{end-by}
-use borrow.Author.Rules.{rules}
 use Rattle.maximal_edges.proofs.count_end.Goals as goal
 
 pub returns : goal.returns

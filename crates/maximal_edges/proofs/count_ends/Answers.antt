@@ -1,11 +1,8 @@
-use Rattle.maximal_edges.specs.CountLaws.{Counted, counted-none, counted-all}
+use Rattle.maximal_edges.specs.CountLaws.{counted-none, counted-all}
 use Rattle.edges.specs.TableLaws.{length-rows}
 use Rattle.edges.specs.Table.{rowsIn}
-use lib.ListN.{length}
-use Prim.Native.Nat.{◌-◌, ◌/◌, ◌≤◌}
 use native.Mathlib.Omega.{arith}
-use mathlib.Core.Path.{◌≡◌, refl, ◌∙◌}
-use borrow.Author.Rules.{rules}
+use mathlib.Core.Path.{refl, ◌∙◌}
 use Rattle.maximal_edges.proofs.count_ends.Goals as goal
 
 pub loop-e-init : goal.loop-e-init

@@ -4,7 +4,6 @@ use Rattle.edges.specs.Table.{rowsIn}
 use Rattle.rules.specs.Join.{edgeDataAt}
 use native.Mathlib.Omega.{arith}
 use mathlib.Core.Path.{sym, ◌∙◌}
-use borrow.Author.Rules.{rules}
 use Rattle.maximal_edges.proofs.ends_of.Goals as goal
 
 pub returns-then-edge_active : goal.returns-then-edge_active

@@ -1,7 +1,6 @@
 use native.Mathlib.Omega.{arith}
 use mathlib.Core.Path.{sym}
 use mathlib.Core.Bool.{true≢false}
-use borrow.Author.Rules.{rules}
 use Rattle.maximal_edges.proofs.is_small.Goals as goal
 
 pub returns-then-count-gt32 : goal.returns-then-count-gt32

@@ -1,21 +1,18 @@
-use Rattle.maximal_edges.specs.Hung.{Hung, hung-ringed, may-join, hung-joined}
+use Rattle.maximal_edges.specs.Hung.{hung-ringed, may-join, hung-joined}
 use Rattle.maximal_edges.specs.ChangeLaws.{count-edges}
 use Rattle.edges.specs.Table.{Laid}
 use Rattle.links.specs.Tables.{linksOf}
 use Rattle.links.specs.Lay.{laidOut}
 use Rattle.links.specs.Replace.{laid-base}
 use Rattle.maximal_edges.specs.RunLaws.{going-start, going-done, going-stopped, ring-inside, ring-less, going-ring, join-inside, join-less, going-join}
-use Rattle.maximal_edges.specs.Joined.{edgesIn, stateIn, joiningOf, wholeRun, doneWith, Fitting, nextAfter, lowerOf, Going}
+use Rattle.maximal_edges.specs.Joined.{edgesIn, stateIn, joiningOf, wholeRun, doneWith, Fitting, nextAfter, lowerOf}
 use Rattle.job.specs.Lists.{answersIn}
-use Rattle.rules.specs.Join.{twoEnds, maximalEdges}
+use Rattle.rules.specs.Join.{maximalEdges}
 use Rattle.lists.specs.Runs.{pigeon-below}
-use Rattle.lists.specs.Lists.{keep}
-use lib.Seq.{length-take-le}
 use lib.ListN.{length, get_or}
-use Prim.Native.Nat.{◌+◌, ◌*◌}
-use mathlib.Core.Path.{◌≡◌, refl, sym, ap, subst, ◌∙◌}
+use Prim.Native.Nat.{◌+◌}
+use mathlib.Core.Path.{refl, sym, ap, subst, ◌∙◌}
 use native.Mathlib.Omega.{arith}
-use borrow.Author.Rules.{rules}
 use Rattle.maximal_edges.proofs.join_all.Goals as goal
 
 pub sweeps-init : goal.sweeps-init

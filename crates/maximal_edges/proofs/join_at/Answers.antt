@@ -4,11 +4,8 @@ use Rattle.maximal_edges.specs.ChangeLaws.{rows-join, ends-joined}
 use Rattle.maximal_edges.specs.StillLaws.{new-start, new-end}
 use Rattle.maximal_edges.specs.Joined.{edgesIn}
 use Rattle.rules.specs.Join.{edgeDataAt, farEnd, joinedEdge}
-use lib.Seq.{length-take-le}
-use Prim.Native.Nat.{◌*◌}
-use mathlib.Core.Path.{◌≡◌, sym, ◌∙◌}
+use mathlib.Core.Path.{◌≡◌, ◌∙◌}
 use native.Mathlib.Omega.{arith}
-use borrow.Author.Rules.{rules}
 use Rattle.maximal_edges.proofs.join_at.Goals as goal
 
 -- no goal for slice-aggregate-edge-at

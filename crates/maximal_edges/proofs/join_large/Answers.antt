@@ -4,7 +4,6 @@ use lib.ListN.{length-replicate}
 use Prim.Native.Nat.{ℕ}
 use mathlib.Core.Path.{refl}
 use native.Mathlib.Omega.{arith}
-use borrow.Author.Rules.{rules}
 use Rattle.maximal_edges.proofs.join_large.Goals as goal
 
 pub join_with-requires : goal.join_with-requires

@@ -1,10 +1,7 @@
 use Rattle.maximal_edges.specs.Hung.{can-link, linked-start}
-use lib.Seq.{length-take-le}
 use lib.ListN.{length-take}
 use Prim.Native.Nat.{◌*◌}
-use mathlib.Core.Path.{sym, ◌∙◌}
 use native.Mathlib.Omega.{arith}
-use borrow.Author.Rules.{rules}
 use Rattle.maximal_edges.proofs.join_with.Goals as goal
 
 -- no goal for slice-aggregate-count-ends

@@ -1,6 +1,5 @@
 use Rattle.rules.specs.Join.{joinedEdge}
 use mathlib.Core.Bool.{true}
-use borrow.Author.Rules.{rules}
 use Rattle.maximal_edges.proofs.joined_edge.Goals as goal
 
 pub returns : goal.returns

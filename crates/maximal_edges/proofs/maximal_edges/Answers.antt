@@ -1,5 +1,3 @@
-use native.Mathlib.Omega.{arith}
-use borrow.Author.Rules.{rules}
 use Rattle.maximal_edges.proofs.maximal_edges.Goals as goal
 
 pub join_small-requires : goal.join_small-requires

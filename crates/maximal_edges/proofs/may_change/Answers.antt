@@ -1,7 +1,6 @@
 use Rattle.maximal_edges.specs.SweepLaws.{may-ring, may-both}
 use Rattle.edges.specs.Table.{rowsIn}
 use Rattle.job.specs.Lists.{answersIn}
-use borrow.Author.Rules.{rules}
 use Rattle.maximal_edges.proofs.may_change.Goals as goal
 
 pub returns-then-a-b : goal.returns-then-a-b

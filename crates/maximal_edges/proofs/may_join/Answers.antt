@@ -1,6 +1,5 @@
 use Rattle.maximal_edges.specs.SweepLaws.{join-apart, join-refused, join-other, join-same}
 use Rattle.job.specs.Lists.{answersIn}
-use borrow.Author.Rules.{rules}
 use mathlib.Core.Path.{sym, ◌∙◌}
 use Rattle.maximal_edges.proofs.may_join.Goals as goal
 

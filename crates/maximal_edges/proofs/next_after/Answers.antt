@@ -4,7 +4,6 @@ use mathlib.Core.Bool.{cond}
 use Rattle.lists.specs.Tests.{cond-true, cond-false}
 use borrow.Author.Tests.{lt-ltb, le-ltb}
 use mathlib.Core.Path.{sym, ◌∙◌}
-use borrow.Author.Rules.{rules}
 use Rattle.maximal_edges.proofs.next_after.Goals as goal
 
 pub returns-then-i-high : goal.returns-then-i-high

@@ -1,7 +1,6 @@
 use Rattle.maximal_edges.specs.SweepLaws.{turned, turned-told}
 use Rattle.job.specs.Lists.{answersIn}
 use mathlib.Core.Path.{ap}
-use borrow.Author.Rules.{rules}
 use Rattle.maximal_edges.proofs.not_singular.Goals as goal
 
 pub returns-in-Yes : goal.returns-in-Yes

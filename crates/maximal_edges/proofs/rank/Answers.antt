@@ -1,13 +1,9 @@
 use Rattle.maximal_edges.specs.StillLaws.{ranked-more}
-use Rattle.maximal_edges.specs.Joined.{RankedTo}
 use Rattle.lists.specs.Lists.{◌∈◌}
 use Rattle.lists.specs.Membership.{getD-in}
 use Rattle.lists.specs.Runs.{pigeon-below}
-use lib.ListN.{length}
-use Prim.Native.Nat.{◌-◌, ◌≤◌}
 use native.Mathlib.Omega.{arith}
-use mathlib.Core.Path.{◌≡◌, refl, sym, subst, ◌∙◌}
-use borrow.Author.Rules.{rules}
+use mathlib.Core.Path.{refl, sym, subst, ◌∙◌}
 use Rattle.maximal_edges.proofs.rank.Goals as goal
 
 pub loop-i-init : goal.loop-i-init

@@ -2,7 +2,6 @@ use lib.ListN.{get_or, set}
 use lib.Dec.{eqb}
 use mathlib.Core.Bool.{cond}
 use mathlib.Core.Path.{ap, ◌∙◌}
-use borrow.Author.Rules.{rules}
 use Rattle.maximal_edges.proofs.replace_end.Goals as goal
 
 pub returns : goal.returns

@@ -3,7 +3,6 @@ use lib.Dec.{eqb}
 use Rattle.lists.specs.Tests.{cond-true, cond-false}
 use borrow.Author.Tests.{eq-eqb, ne_eqb}
 use mathlib.Core.Path.{sym, ◌∙◌}
-use borrow.Author.Rules.{rules}
 use Rattle.maximal_edges.proofs.replace_low.Goals as goal
 
 pub returns-then-get-a : goal.returns-then-get-a

@@ -1,8 +1,4 @@
 use Rattle.maximal_edges.specs.ChangeLaws.{rows-ring}
-use lib.Seq.{length-take-le}
-use Prim.Native.Nat.{◌*◌}
-use borrow.Author.Rules.{rules}
-use mathlib.Core.Path.{sym}
 use Rattle.maximal_edges.proofs.ring_at.Goals as goal
 
 -- no goal for slice-aggregate-edge-at

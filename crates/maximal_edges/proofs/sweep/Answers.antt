@@ -1,14 +1,11 @@
 use Rattle.maximal_edges.specs.SweepLaws.{next-more, still-first, still-next, idle-still, tried-still, corner-count, corner-pair, still-unchanged, swept-none, swept-here}
-use Rattle.maximal_edges.specs.ScanLaws.{Scan, scan-start, scan-few, scan-more, scan-both, scan-on}
+use Rattle.maximal_edges.specs.ScanLaws.{scan-start, scan-more, scan-both, scan-on}
 use Rattle.maximal_edges.specs.Joined.{Still, AllStill}
-use Rattle.maximal_edges.specs.declared.Change.TheVariants.{Unchanged}
 use Rattle.edges.specs.Table.{rowsIn}
 use Rattle.job.specs.Lists.{answersIn}
-use lib.ListN.{length, get_or}
-use Prim.Native.Nat.{◌-◌, ◌≤◌}
+use lib.ListN.{get_or}
 use native.Mathlib.Omega.{arith}
-use mathlib.Core.Path.{◌≡◌, refl, sym, subst, ◌∙◌}
-use borrow.Author.Rules.{rules}
+use mathlib.Core.Path.{refl, sym, subst, ◌∙◌}
 use Rattle.maximal_edges.proofs.sweep.Goals as goal
 
 pub corners-init : goal.corners-init
@@ -100,4 +97,3 @@ returns-else-stays c =
     let es = rowsIn a.rows.now in
     let pair = scan-both es v low (get_or a.highs.now v 0) scan.seen scan.e scan.invariant ends.result ends.ensures.0 c.if-seen-ne2.false in
     swept-here answers a.starts.now a.names.now es a.low a.high a.top corners.i v low scan.e tried.result c.requires.3 corners.invariant.1 corners.invariant.2 c.corners-test.true c.get-v.ensures.0 pair tried.ensures (sym c.stays.ensures ∙ c.if-stays.false)
-

@@ -2,7 +2,6 @@ use Rattle.maximal_edges.specs.SweepLaws.{changeAt, changeBy, tried-at}
 use Rattle.edges.specs.Table.{rowsIn}
 use Rattle.job.specs.Lists.{answersIn}
 use mathlib.Core.Path.{sym, ap, ◌∙◌}
-use borrow.Author.Rules.{rules}
 use Rattle.maximal_edges.proofs.try_corner.Goals as goal
 
 pub returns-in-Refused : goal.returns-in-Refused

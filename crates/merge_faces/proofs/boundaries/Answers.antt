@@ -2,7 +2,6 @@ use Rattle.merge_faces.specs.MergingLaws.{boundaries-are}
 use Rattle.uses.specs.Table.{usesIn}
 use Prim.Native.Nat.{◌-◌}
 use lib.ListN.{length}
-use borrow.Author.Rules.{rules}
 use Rattle.merge_faces.proofs.boundaries.Goals as goal
 
 pub returns : goal.returns

@@ -1,5 +1,4 @@
 use Rattle.merge_faces.specs.Removing.{counted-yes, counted-no}
-use borrow.Author.Rules.{rules}
 use Rattle.merge_faces.proofs.counted.Goals as goal
 
 pub returns-then-yes : goal.returns-then-yes

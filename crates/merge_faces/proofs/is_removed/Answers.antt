@@ -3,7 +3,6 @@ use Rattle.uses.specs.Table.{usesIn}
 use lib.ListN.{get_or}
 use mathlib.Core.Path.{sym, ap, ◌∙◌}
 use borrow.Author.Tests.{eq-eqb, ne_eqb}
-use borrow.Author.Rules.{rules}
 use Rattle.merge_faces.proofs.is_removed.Goals as goal
 
 pub returns-then-a-b : goal.returns-then-a-b

@@ -3,7 +3,6 @@ use Rattle.ask.specs.Told.{toldOf}
 use Rattle.rules.specs.Groups.{joined}
 use Rattle.job.specs.Lists.{facesIn}
 use mathlib.Core.Path.{ap, ◌∙◌}
-use borrow.Author.Rules.{rules}
 use Prim.Native.Nat.{zero-le}
 use Rattle.merge_faces.proofs.join_by.Goals as goal
 

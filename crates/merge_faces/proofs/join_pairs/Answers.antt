@@ -1,4 +1,4 @@
-use Rattle.std.proofs.Common.{◌≤◌, ◌≡◌, arith, subst}
+use Rattle.std.proofs.Common.{◌≡◌, arith, subst}
 use Rattle.uses.specs.Table.{usesIn}
 use Rattle.merge_faces.specs.Merging.{JoinedPairs}
 use Rattle.merge_faces.specs.MergingLaws.{pairs-none, pairs-more}

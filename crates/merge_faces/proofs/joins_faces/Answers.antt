@@ -1,6 +1,5 @@
 use Rattle.merge_faces.specs.MergingLaws.{joins-different, joins-agreeing, joins-opposed, joins-vanishing, joins-undecided}
 use Rattle.ask.specs.Told.{toldOf}
-use borrow.Author.Rules.{rules}
 use Rattle.merge_faces.proofs.joins_faces.Goals as goal
 
 pub returns-in-Different : goal.returns-in-Different

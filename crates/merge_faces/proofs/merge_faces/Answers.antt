@@ -1,11 +1,9 @@
-use mathlib.Core.Path.{◌≡◌, refl, sym, ◌∙◌}
-use Rattle.merge_faces.specs.MergingLaws.{MergingAt, merging-start, merging-few, merging-step, merging-stop, merging-end, length-faces}
+use mathlib.Core.Path.{refl, sym, ◌∙◌}
+use Rattle.merge_faces.specs.MergingLaws.{merging-start, merging-few, merging-step, merging-stop, merging-end, length-faces}
 use Rattle.job.specs.Lists.{facesIn, answersIn}
 use Rattle.uses.specs.Table.{usesIn}
 use lib.ListN.{length}
-use Prim.Native.Nat.{◌-◌, ◌≤◌}
 use native.Mathlib.Omega.{arith}
-use borrow.Author.Rules.{rules}
 use Rattle.merge_faces.proofs.merge_faces.Goals as goal
 
 pub loop-h-init : goal.loop-h-init

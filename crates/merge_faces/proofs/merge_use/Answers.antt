@@ -4,7 +4,6 @@ use Rattle.merge_faces.specs.Merging.{MergedTo}
 use Rattle.job.specs.Lists.{facesIn, answersIn}
 use Rattle.uses.specs.Table.{usesIn}
 use mathlib.Core.Path.{sym, subst}
-use borrow.Author.Rules.{rules}
 use Rattle.merge_faces.proofs.merge_use.Goals as goal
 
 pub returns-then-t-h : goal.returns-then-t-h

@@ -1,8 +1,5 @@
-use Rattle.merge_faces.specs.Numbering.{Numbering, numbering-start, numbering-end}
-use lib.ListN.{length}
-use Prim.Native.Nat.{◌-◌}
+use Rattle.merge_faces.specs.Numbering.{numbering-start, numbering-end}
 use native.Mathlib.Omega.{arith}
-use borrow.Author.Rules.{rules}
 use Rattle.merge_faces.proofs.number.Goals as goal
 
 pub loop-f-init : goal.loop-f-init

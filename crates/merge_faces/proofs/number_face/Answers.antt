@@ -1,6 +1,5 @@
 use Rattle.merge_faces.specs.Numbering.{numbering-few, numbering-own, numbering-old}
 use native.Mathlib.Omega.{arith}
-use borrow.Author.Rules.{rules}
 use Rattle.merge_faces.proofs.number_face.Goals as goal
 
 pub put-requires-then-g-f : goal.put-requires-then-g-f

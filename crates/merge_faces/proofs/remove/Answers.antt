@@ -1,9 +1,6 @@
-use Rattle.merge_faces.specs.Removing.{Removing, removing-start, removing-few, removing-step, removing-end}
+use Rattle.merge_faces.specs.Removing.{removing-start, removing-few, removing-step, removing-end}
 use Rattle.uses.specs.Table.{usesIn}
-use lib.ListN.{length}
-use Prim.Native.Nat.{◌-◌}
 use native.Mathlib.Omega.{arith}
-use borrow.Author.Rules.{rules}
 use Rattle.merge_faces.proofs.remove.Goals as goal
 
 pub loop-h-init : goal.loop-h-init

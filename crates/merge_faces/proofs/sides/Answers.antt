@@ -1,7 +1,6 @@
 use mathlib.Core.Path.{ap, ◌∙◌}
 use Rattle.rules.specs.Read.{faceOfUse}
 use Rattle.uses.specs.Table.{usesIn}
-use borrow.Author.Rules.{rules}
 use Rattle.merge_faces.proofs.sides.Goals as goal
 
 pub returns : goal.returns

@@ -1,12 +1,10 @@
 use Rattle.pair.specs.PairLaws.{found-here, found-later, found-nowhere}
-use Rattle.pair.specs.OrderLaws.{rest, rest-all}
+use Rattle.pair.specs.OrderLaws.{rest-all}
 use Rattle.lists.specs.Lists.{has}
 use lib.ListN.{drop}
-use Prim.Native.Nat.{◌-◌, ◌≤◌}
 use Rattle.rules.specs.Fields.{fieldsIn}
-use borrow.Author.Rules.{rules}
 use native.Mathlib.Omega.{arith}
-use mathlib.Core.Path.{◌≡◌, ap}
+use mathlib.Core.Path.{ap}
 use Rattle.pair.proofs.has.Goals as goal
 
 pub loop-i-init : goal.loop-i-init

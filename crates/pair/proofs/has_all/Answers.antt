@@ -5,9 +5,8 @@ use Rattle.lists.specs.Lists.{has, all}
 use lib.ListN.{drop}
 use Prim.Native.Nat.{◌-◌}
 use Rattle.rules.specs.Fields.{fieldsIn}
-use borrow.Author.Rules.{rules}
 use native.Mathlib.Omega.{arith}
-use mathlib.Core.Path.{◌≡◌, sym, ap}
+use mathlib.Core.Path.{sym, ap}
 use Rattle.pair.proofs.has_all.Goals as goal
 
 pub loop-i-init : goal.loop-i-init

@@ -2,7 +2,6 @@ use Rattle.edge_uses.specs.Links.{nextUse, usesOn}
 use Rattle.fields.specs.Chains.{chain}
 use Rattle.lists.specs.Lists.{has, all}
 use lib.ListN.{drop}
-use Prim.Native.Nat.{◌-◌}
 use Rattle.rules.specs.Fields.{fieldsIn}
 use mathlib.Core.Path.{◌≡◌}
 use Rattle.pair.proofs.has_all.Given as goal

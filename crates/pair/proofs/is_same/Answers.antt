@@ -1,5 +1,4 @@
 use Rattle.rules.specs.Sense.{isSame}
-use borrow.Author.Rules.{rules}
 use mathlib.Core.Path.{sym, ap, ◌∙◌}
 use Rattle.pair.proofs.is_same.Goals as goal
 

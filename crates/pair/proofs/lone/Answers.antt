@@ -1,7 +1,4 @@
-use Rattle.pair.specs.PairLaws.{TwinsBelow, lone-here, lone-later, lone-none}
-use lib.ListN.{length}
-use Prim.Native.Nat.{◌-◌, ◌≤◌}
-use borrow.Author.Rules.{rules}
+use Rattle.pair.specs.PairLaws.{lone-here, lone-later, lone-none}
 use native.Mathlib.Omega.{arith}
 use Rattle.pair.proofs.lone.Goals as goal
 

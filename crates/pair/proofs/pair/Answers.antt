@@ -1,7 +1,6 @@
-use Rattle.pair.specs.AllLaws.{blank, blank-part, blank-size, part-long, paired-refused, paired-done}
+use Rattle.pair.specs.AllLaws.{blank, blank-part, part-long, paired-refused, paired-done}
 use Rattle.job.specs.Lists.{answersIn}
 use Rattle.uses.specs.Table.{usesIn}
-use borrow.Author.Rules.{rules}
 use Rattle.pair.proofs.pair.Goals as goal
 
 -- no goal for slice-aggregate-pair-edges

@@ -5,7 +5,6 @@ use lib.ListN.{length}
 use Prim.Native.Nat.{◌%◌}
 use Rattle.job.specs.Lists.{answersIn}
 use Rattle.uses.specs.Table.{usesIn}
-use borrow.Author.Rules.{rules}
 use native.Mathlib.Omega.{arith}
 use mathlib.Core.Path.{◌≡◌, refl, sym, ap, ◌∙◌}
 use Rattle.pair.proofs.pair_edge.Goals as goal

@@ -1,11 +1,8 @@
-use Rattle.pair.specs.AllLaws.{Pairing, pairing-none, pairing-more, pairing-stop, pairing-lone, pairing-all}
-use lib.ListN.{length}
-use Prim.Native.Nat.{◌-◌}
+use Rattle.pair.specs.AllLaws.{pairing-none, pairing-more, pairing-stop, pairing-lone, pairing-all}
 use Rattle.job.specs.Lists.{answersIn}
 use Rattle.uses.specs.Table.{usesIn}
-use borrow.Author.Rules.{rules}
 use native.Mathlib.Omega.{arith}
-use mathlib.Core.Path.{◌≡◌, refl, ◌∙◌}
+use mathlib.Core.Path.{refl, ◌∙◌}
 use Rattle.pair.proofs.pair_edges.Goals as goal
 
 pub loop-e-init : goal.loop-e-init

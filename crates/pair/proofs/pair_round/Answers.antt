@@ -2,7 +2,6 @@ use Rattle.pair.specs.EdgeLaws.{round-refused, round-other, round-lacks, round-o
 use Rattle.ask.specs.Told.{Order32}
 use Rattle.job.specs.Lists.{answersIn}
 use Rattle.uses.specs.Table.{usesIn}
-use borrow.Author.Rules.{rules}
 use native.Mathlib.Omega.{arith}
 use mathlib.Core.Path.{◌∙◌, subst}
 use Rattle.pair.proofs.pair_round.Goals as goal

@@ -1,6 +1,5 @@
 use Rattle.pair.specs.PairLaws.{two-same, two-other}
 use Rattle.uses.specs.Table.{usesIn}
-use borrow.Author.Rules.{rules}
 use Rattle.pair.proofs.pair_two.Goals as goal
 
 pub returns-then-same_sense : goal.returns-then-same_sense

@@ -1,6 +1,5 @@
 use Rattle.pair.specs.PairLaws.{take-none, take-stop, take-one}
 use Rattle.uses.specs.Table.{usesIn}
-use borrow.Author.Rules.{rules}
 use Rattle.pair.proofs.take_predecessor.Goals as goal
 
 pub returns-then-is_same-2 : goal.returns-then-is_same-2

@@ -1,13 +1,11 @@
 use Rattle.pair.specs.PairLaws.{order-on, order-stop, order-done}
-use Rattle.pair.specs.OrderLaws.{rest, rest-all, last-is}
+use Rattle.pair.specs.OrderLaws.{rest-all, last-is}
 use Rattle.rules.specs.Pair.{takePredecessors, lastOf}
-use lib.ListN.{length, drop}
-use Prim.Native.Nat.{◌-◌, ◌<◌, ◌≤◌}
+use lib.ListN.{drop}
 use Rattle.uses.specs.Table.{usesIn}
 use Rattle.rules.specs.Fields.{fieldsIn}
-use borrow.Author.Rules.{rules}
 use native.Mathlib.Omega.{arith}
-use mathlib.Core.Path.{◌≡◌, refl, sym, ◌∙◌}
+use mathlib.Core.Path.{refl, sym, ◌∙◌}
 use Rattle.pair.proofs.take_predecessors.Goals as goal
 
 pub loop-i-init : goal.loop-i-init

@@ -1,5 +1,4 @@
 use lib.ListN.{set}
-use borrow.Author.Rules.{rules}
 use mathlib.Core.Path.{ap, ◌∙◌}
 use Rattle.pair.proofs.twin.Goals as goal
 

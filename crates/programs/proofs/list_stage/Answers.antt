@@ -3,7 +3,6 @@ use native.Mathlib.Omega.{arith}
 use mathlib.Core.Logic.{inl, inr}
 use Rattle.lines.specs.Listed.{bytes-below}
 use Rattle.lines.specs.StageListed.{stays, runs, lists-stage, lists-none}
-use borrow.Author.Rules.{rules}
 use Rattle.programs.proofs.list_stage.Goals as goal
 
 pub returns-then-stage-eq0 : goal.returns-then-stage-eq0

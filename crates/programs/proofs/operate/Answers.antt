@@ -3,7 +3,6 @@ use Rattle.rules.specs.Rules.{ordinary}
 use Rattle.rules.specs.Sew.{sewn}
 use Rattle.rules.specs.Stage.{readStage, pairStage, mergeStage, vertexLoopStage, walkStage, loopStage, fanStage, edgeStage, joiningStage, shellStage, lumpStage}
 use Rattle.programs.specs.OperationLaws.{ends-by, is-1, is-2, is-3, is-4, is-5, is-6, is-7, is-8, is-9, is-10, is-11, is-sewing}
-use borrow.Author.Rules.{rules}
 use Rattle.programs.proofs.operate.Goals as goal
 
 pub returns-in-1 : goal.returns-in-1

@@ -1,4 +1,4 @@
-use Rattle.std.proofs.Common.{length, ◌-◌, ◌≤◌, ◌≡◌}
+use Rattle.std.proofs.Common.{length, ◌-◌, ◌≤◌}
 use Rattle.programs.proofs.read_to_end.Given as goal
 
 abbrev pub invariant-loop-done : goal.invariant-loop-done

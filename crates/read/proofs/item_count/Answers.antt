@@ -1,5 +1,4 @@
 use Rattle.read.specs.ItemLaws.{count-items, count-none}
-use borrow.Author.Rules.{rules}
 use Rattle.read.proofs.item_count.Goals as goal
 
 pub returns-then-loop_kind-eq5 : goal.returns-then-loop_kind-eq5

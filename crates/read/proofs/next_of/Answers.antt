@@ -2,7 +2,6 @@ use Rattle.lists.specs.Cyclic.{nextPlace, next-wraps, next-on}
 use Prim.Native.Nat.{suc}
 use native.Mathlib.Omega.{arith}
 use mathlib.Core.Path.{◌≡◌}
-use borrow.Author.Rules.{rules}
 use Rattle.read.proofs.next_of.Goals as goal
 
 pub returns-then-i-n : goal.returns-then-i-n

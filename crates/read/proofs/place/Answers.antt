@@ -1,6 +1,5 @@
 use Rattle.read.specs.ItemLaws.{place-back}
 use native.Mathlib.Omega.{arith}
-use borrow.Author.Rules.{rules}
 use Rattle.read.proofs.place.Goals as goal
 
 pub returns-in-Reversed : goal.returns-in-Reversed

@@ -1,11 +1,9 @@
-use Rattle.read.specs.ReadLaws.{Reading, reading-none, reading-room, reading-more, reading-all}
+use Rattle.read.specs.ReadLaws.{reading-none, reading-room, reading-more, reading-all}
 use Rattle.uses.specs.TableLaws.{count-uses}
 use Rattle.uses.specs.Table.{usesIn}
 use lib.ListN.{length}
-use borrow.Author.Rules.{rules}
 use native.Mathlib.Omega.{arith}
 use mathlib.Core.Path.{◌≡◌, refl, sym, ◌∙◌}
-use Prim.Native.Nat.{◌-◌}
 use Rattle.read.proofs.read.Goals as goal
 
 pub loop-l-init : goal.loop-l-init

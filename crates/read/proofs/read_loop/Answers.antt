@@ -1,13 +1,10 @@
-use Rattle.read.specs.ReadLaws.{Seated, seated-none, seated-more, seated-all, length-loop}
+use Rattle.read.specs.ReadLaws.{seated-none, seated-more, seated-all, length-loop}
 use Rattle.read.specs.ItemLaws.{use-made}
 use Rattle.read.specs.Items.{itemsIn}
 use Rattle.uses.specs.TableLaws.{length-uses}
 use Rattle.rules.specs.Read.{traversed, loopUses}
-use lib.ListN.{length}
-use borrow.Author.Rules.{rules}
 use native.Mathlib.Omega.{arith}
-use mathlib.Core.Path.{◌≡◌, refl, ◌∙◌}
-use Prim.Native.Nat.{◌-◌, ◌≤◌}
+use mathlib.Core.Path.{refl, ◌∙◌}
 use Rattle.read.proofs.read_loop.Goals as goal
 
 pub loop-i-init : goal.loop-i-init

@@ -4,7 +4,6 @@ use Rattle.uses.specs.Table.{usesIn}
 use Rattle.progress.specs.Parts.{zeros, part-size}
 use Rattle.rebuild.specs.Sizes.{chain-room}
 use native.Mathlib.Omega.{arith}
-use borrow.Author.Rules.{rules}
 use Rattle.rebuild.proofs.clear_in_small.Goals as goal
 
 -- no goal for slice-aggregate-clear-linked

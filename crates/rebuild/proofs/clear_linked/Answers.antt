@@ -1,8 +1,6 @@
 use mathlib.Core.Path.{ap, ◌∙◌}
 use Rattle.rules.specs.Contact.{edgesClear}
 use Rattle.uses.specs.Table.{usesIn}
-use native.Mathlib.Omega.{arith}
-use borrow.Author.Rules.{rules}
 use Rattle.rebuild.proofs.clear_linked.Goals as goal
 
 pub returns : goal.returns

@@ -4,7 +4,6 @@ use lib.ListN.{length}
 use Rattle.progress.specs.Parts.{zeros, part-size}
 use Rattle.rebuild.specs.Sizes.{settled-room, roomy}
 use native.Mathlib.Omega.{arith}
-use borrow.Author.Rules.{rules}
 use Rattle.rebuild.proofs.in_large_tables.Goals as goal
 
 pub slice_bounds-fans-end : goal.slice_bounds-fans-end

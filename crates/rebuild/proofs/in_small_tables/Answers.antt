@@ -4,7 +4,6 @@ use lib.ListN.{length}
 use Rattle.progress.specs.Parts.{zeros, part-size}
 use Rattle.rebuild.specs.Sizes.{roomy}
 use native.Mathlib.Omega.{arith}
-use borrow.Author.Rules.{rules}
 use Rattle.rebuild.proofs.in_small_tables.Goals as goal
 
 pub slice_bounds-make_fans-end : goal.slice_bounds-make_fans-end

@@ -1,7 +1,6 @@
 use mathlib.Core.Path.{sym, ◌∙◌}
-use Rattle.progress.specs.Parts.{zeros, part-size, lent-room, lent-cut}
+use Rattle.progress.specs.Parts.{zeros, part-size}
 use Rattle.rebuild.specs.Lumped.{lumped-cut, lumped-few, lumped-low, lumped-refused, lumped-on}
-use borrow.Author.Rules.{rules}
 use Rattle.rebuild.proofs.lumps_clear.Goals as goal
 
 -- no goal for slice-aggregate-lump-labels

@@ -11,7 +11,6 @@ use Rattle.progress.specs.Known.{numbersIn}
 use Rattle.progress.specs.Parts.{cut-back}
 use Rattle.rebuild.specs.Lined.{few-owners, lined}
 use native.Mathlib.Omega.{arith}
-use borrow.Author.Rules.{rules}
 use Rattle.rebuild.proofs.make_edges.Goals as goal
 
 -- no goal for slice-aggregate-loop-faces

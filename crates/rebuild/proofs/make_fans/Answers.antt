@@ -2,7 +2,6 @@ use mathlib.Core.Path.{sym, ◌∙◌}
 use lib.Seq.{length-take-le}
 use Rattle.rebuild.specs.Sizes.{settled-limited, settled-few, settled-twins, settled-succ}
 use native.Mathlib.Omega.{arith}
-use borrow.Author.Rules.{rules}
 use Rattle.rebuild.proofs.make_fans.Goals as goal
 
 pub fans-requires : goal.fans-requires
@@ -22,4 +21,3 @@ slice_bounds-on_fanned-end-2 c = sym (length-take-le c.fan_names-k.result c.fan_
 
 pub on_fanned-requires : goal.on_fanned-requires
 on_fanned-requires c = (record { settled = c.requires.0; fans-are = c.fans.ensures; names-are = c.fan_names-k.ensures.0; starts-are = c.start_points.ensures }, c.requires.4)
-

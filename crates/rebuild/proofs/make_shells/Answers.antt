@@ -1,8 +1,5 @@
-use mathlib.Core.Path.{sym}
 use lib.ListN.{length-take}
-use lib.Seq.{length-take-le}
 use native.Mathlib.Omega.{arith}
-use borrow.Author.Rules.{rules}
 use Rattle.rebuild.proofs.make_shells.Goals as goal
 
 -- no goal for slice-aggregate-shells

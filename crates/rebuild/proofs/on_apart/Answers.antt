@@ -4,7 +4,6 @@ use lib.Seq.{length-take-le}
 use Rattle.rebuild.specs.Sizes.{settled-limited, settled-few, settled-succ, settled-numbers, linable, fanned-sizes}
 use Rattle.rebuild.specs.FanExits.{drawn-sound, loops-room, stretches-room, twice-room, drawn-spare, edges-few, drawn-tables, edges-on}
 use native.Mathlib.Omega.{arith}
-use borrow.Author.Rules.{rules}
 use Rattle.rebuild.proofs.on_apart.Goals as goal
 
 pub make_edges-k-requires : goal.make_edges-k-requires

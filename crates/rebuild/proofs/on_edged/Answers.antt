@@ -3,7 +3,6 @@ use Rattle.uses.specs.Table.{usesIn}
 use Rattle.rebuild.specs.Sizes.{spare-same, names-low}
 use Rattle.maximal_edges.specs.Joined.{stateIn}
 use Rattle.rebuild.specs.JoinExits.{joined-tables, edges-written, edges-refused, edges-joined}
-use borrow.Author.Rules.{rules}
 use Rattle.rebuild.proofs.on_edged.Goals as goal
 
 pub returns-then-stage-eq-EDGES : goal.returns-then-stage-eq-EDGES

@@ -1,6 +1,5 @@
 use Rattle.rebuild.specs.Sizes.{settled-limited, settled-few, settled-faces, settled-cut, fanned-sizes, names-few}
 use Rattle.rebuild.specs.FanExits.{fans-written, fans-refused, fans-on}
-use borrow.Author.Rules.{rules}
 use Rattle.rebuild.proofs.on_fanned.Goals as goal
 
 pub write_fans-requires : goal.write_fans-requires

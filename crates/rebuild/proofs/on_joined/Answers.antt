@@ -3,7 +3,6 @@ use Rattle.progress.specs.Known.{boundariesIn, membersIn}
 use Rattle.progress.specs.Parts.{zeros, zeros-size}
 use Rattle.rebuild.specs.BodyExits.{faces-room, members-room}
 use Rattle.rebuild.specs.ShellExits.{stands, joining-written, joining-refused, joining-on}
-use borrow.Author.Rules.{rules}
 use Rattle.rebuild.proofs.on_joined.Goals as goal
 
 pub returns-then-stage-eq-JOINING : goal.returns-then-stage-eq-JOINING

@@ -1,7 +1,6 @@
 use Rattle.uses.specs.Table.{usesIn}
 use Rattle.rebuild.specs.Lumped.{lumped}
-use Rattle.rebuild.specs.BodyExits.{faces-room, faces-cut, members-cut, members-few, shells-few, rows-cut, body-sized, lumps-written, lumps-refused, lumps-on}
-use borrow.Author.Rules.{rules}
+use Rattle.rebuild.specs.BodyExits.{members-few, shells-few, body-sized, lumps-written, lumps-refused, lumps-on}
 use Rattle.rebuild.proofs.on_nested.Goals as goal
 
 -- no goal for slice-aggregate-write-lumps

@@ -1,9 +1,8 @@
 use Rattle.job.specs.Lists.{answersIn}
 use Rattle.maximal_edges.specs.Joined.{stateIn}
 use Rattle.progress.specs.Known.{boundariesIn, membersIn}
-use Rattle.rebuild.specs.BodyExits.{faces-cut, members-cut, members-few, shells-few}
+use Rattle.rebuild.specs.BodyExits.{members-few, shells-few}
 use Rattle.rebuild.specs.ShellExits.{nested-shelled, nested-homes, shells-written, shells-refused, shells-on}
-use borrow.Author.Rules.{rules}
 use Rattle.rebuild.proofs.on_shelled.Goals as goal
 
 -- no goal for slice-aggregate-write-shells

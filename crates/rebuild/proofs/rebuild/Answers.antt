@@ -1,6 +1,5 @@
 use Rattle.rebuild.specs.Sizes.{settled-limited, settled-few, settled-faces, settled-cut, settled-low}
 use Rattle.rebuild.specs.LoopExits.{loops-refused, loops-on}
-use borrow.Author.Rules.{rules}
 use Rattle.rebuild.proofs.rebuild.Goals as goal
 
 pub slice_bounds-boundaries-end : goal.slice_bounds-boundaries-end

@@ -1,10 +1,5 @@
 use Rattle.records.specs.Permitted.{exist-not, exist-on, exist-none}
-use Rattle.rules.specs.Kinds.{exists}
-use Rattle.rules.specs.Fields.{fieldsIn}
-use Rattle.lists.specs.Lists.{all}
-use lib.ListN.{drop}
-use Prim.Native.Nat.{◌+◌, ◌*◌}
-use mathlib.Core.Path.{◌≡◌, refl, sym, ◌∙◌}
+use mathlib.Core.Path.{refl, sym, ◌∙◌}
 use native.Mathlib.Omega.{arith}
 use Rattle.records.proofs.all_exist.Goals as goal
 

@@ -1,6 +1,5 @@
 use Rattle.rules.specs.Kinds.{numberOf, partOf}
 use Rattle.rules.specs.Load.{counted}
-use borrow.Author.Rules.{rules}
 use Rattle.records.proofs.count_record.Goals as goal
 
 pub returns-in-Unknown : goal.returns-in-Unknown

@@ -1,5 +1,4 @@
 use borrow.Author.Tests.{eq-eqb, ne_eqb}
-use borrow.Author.Rules.{rules}
 use Rattle.records.proofs.different_permitted.Goals as goal
 
 pub returns-then-word : goal.returns-then-word

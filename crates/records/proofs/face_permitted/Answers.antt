@@ -1,5 +1,4 @@
 use borrow.Author.Tests.{le-leb, lt-leb}
-use borrow.Author.Rules.{rules}
 use Rattle.records.proofs.face_permitted.Goals as goal
 
 pub returns-then-word-gt1 : goal.returns-then-word-gt1

@@ -2,7 +2,6 @@ use Rattle.records.specs.Permitted.{permittedAt, permitted-as, radial-some}
 use lib.Dec.{ltb, leb}
 use mathlib.Core.Path.{refl, sym, ap, ◌∙◌}
 use native.Mathlib.Omega.{arith}
-use borrow.Author.Rules.{rules}
 use Rattle.records.proofs.fields_permitted.Goals as goal
 
 pub radial_permitted-requires : goal.radial_permitted-requires

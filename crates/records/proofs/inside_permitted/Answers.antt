@@ -1,5 +1,4 @@
 use borrow.Author.Tests.{le-ltb, lt-ltb}
-use borrow.Author.Rules.{rules}
 use Rattle.records.proofs.inside_permitted.Goals as goal
 
 pub returns-then-faces-word : goal.returns-then-faces-word

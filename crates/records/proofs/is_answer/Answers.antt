@@ -1,5 +1,4 @@
 use Rattle.rules.specs.Kinds.{numberOf}
-use borrow.Author.Rules.{rules}
 use Rattle.records.proofs.is_answer.Goals as goal
 
 pub returns-in-Unknown : goal.returns-in-Unknown

@@ -1,6 +1,5 @@
 use Rattle.records.specs.Joints.{item-ring}
 use Rattle.job.specs.Lists.{edgesIn}
-use borrow.Author.Rules.{rules}
 use Rattle.records.proofs.is_ring.Goals as goal
 
 pub returns : goal.returns

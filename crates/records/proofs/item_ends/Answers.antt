@@ -1,6 +1,5 @@
 use Rattle.records.specs.Joints.{item-reads}
 use Rattle.job.specs.Lists.{pointsIn, edgesIn}
-use borrow.Author.Rules.{rules}
 use Rattle.records.proofs.item_ends.Goals as goal
 
 pub returns : goal.returns

@@ -1,9 +1,5 @@
 use Rattle.records.specs.Permitted.{permit-edge, permit-sense, permit-on, permit-none}
-use Rattle.rules.specs.Kinds.{itemsPermitted}
-use Rattle.rules.specs.Fields.{fieldsIn}
-use lib.ListN.{drop}
-use Prim.Native.Nat.{◌+◌, ◌*◌}
-use mathlib.Core.Path.{◌≡◌, refl, sym, ◌∙◌}
+use mathlib.Core.Path.{refl, sym, ◌∙◌}
 use native.Mathlib.Omega.{arith}
 use Rattle.records.proofs.items_permitted.Goals as goal
 

@@ -1,11 +1,7 @@
-use Rattle.records.specs.Joints.{jointsFrom, allJoints, joints-none, joints-of-first, joints-first, joints-ring, joints-apart, joints-on, joints-last}
+use Rattle.records.specs.Joints.{joints-none, joints-of-first, joints-first, joints-ring, joints-apart, joints-on, joints-last}
 use Rattle.records.specs.declared.Ends.{Ends}
 use Rattle.job.specs.Lists.{pointsIn, edgesIn}
-use Rattle.rules.specs.Job.{ofRing, endPoint}
-use Rattle.rules.specs.FieldLaws.{itemAt}
-use Prim.Native.Nat.{◌+◌, ◌*◌}
-use mathlib.Core.Path.{◌≡◌, sym, ap, ◌∙◌}
-use mathlib.Core.Bool.{false}
+use mathlib.Core.Path.{sym, ap, ◌∙◌}
 use native.Mathlib.Omega.{arith}
 use Rattle.records.proofs.joined.Goals as goal
 

@@ -1,7 +1,6 @@
 use Rattle.records.specs.Joints.{jointed-ring, jointed-plain, jointed-other}
 use Rattle.job.specs.Lists.{pointsIn, edgesIn}
 use mathlib.Core.Path.{sym, ◌∙◌}
-use borrow.Author.Rules.{rules}
 use Rattle.records.proofs.jointed.Goals as goal
 
 pub returns-then-n-ne1 : goal.returns-then-n-ne1

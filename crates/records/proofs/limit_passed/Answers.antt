@@ -1,5 +1,4 @@
 use Rattle.rules.specs.Kinds.{limitPassed}
-use borrow.Author.Rules.{rules}
 use Rattle.records.proofs.limit_passed.Goals as goal
 
 pub returns-in-Unknown : goal.returns-in-Unknown

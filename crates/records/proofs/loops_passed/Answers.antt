@@ -1,5 +1,4 @@
 use borrow.Author.Tests.{le-leb, lt-leb}
-use borrow.Author.Rules.{rules}
 use Rattle.records.proofs.loops_passed.Goals as goal
 
 pub returns-then-c-ge1024 : goal.returns-then-c-ge1024

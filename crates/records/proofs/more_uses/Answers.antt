@@ -1,7 +1,6 @@
 use Rattle.rules.specs.Kinds.{numberOf, partOf}
 use Rattle.rules.specs.Load.{counted}
 use mathlib.Core.Path.{refl}
-use borrow.Author.Rules.{rules}
 use Rattle.records.proofs.more_uses.Goals as goal
 
 pub returns : goal.returns

@@ -1,5 +1,4 @@
 use borrow.Author.Tests.{le-ltb, lt-ltb}
-use borrow.Author.Rules.{rules}
 use Rattle.records.proofs.parts.Goals as goal
 
 pub returns-then-size-gt0 : goal.returns-then-size-gt0

@@ -1,5 +1,4 @@
 use borrow.Author.Tests.{le-ltb, lt-ltb}
-use borrow.Author.Rules.{rules}
 use Rattle.records.proofs.radial_permitted.Goals as goal
 
 pub returns-then-c-word : goal.returns-then-c-word

@@ -1,5 +1,4 @@
 use Rattle.rules.specs.Kinds.{rightLength}
-use borrow.Author.Rules.{rules}
 use Rattle.records.proofs.right_length.Goals as goal
 
 pub returns-in-Unknown : goal.returns-in-Unknown

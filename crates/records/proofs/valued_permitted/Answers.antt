@@ -1,5 +1,4 @@
 use borrow.Author.Tests.{le-ltb, lt-ltb}
-use borrow.Author.Rules.{rules}
 use Rattle.records.proofs.valued_permitted.Goals as goal
 
 pub returns-then-count-word : goal.returns-then-count-word

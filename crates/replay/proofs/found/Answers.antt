@@ -1,9 +1,7 @@
 use lib.Seq.{length-take-le}
 use lib.ListN.{length-take}
-use Prim.Native.Nat.{◌-◌, ◌/◌}
 use mathlib.Core.Path.{sym}
 use native.Mathlib.Omega.{arith}
-use borrow.Author.Rules.{rules}
 use Rattle.replay.proofs.found.Goals as goal
 
 pub slice_bounds-run-end-2 : goal.slice_bounds-run-end-2

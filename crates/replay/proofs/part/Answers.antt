@@ -1,8 +1,6 @@
 use lib.ListN.{length, length-take, length-drop}
-use Prim.Native.Nat.{◌-◌, ◌/◌}
 use mathlib.Core.Path.{ap}
 use native.Mathlib.Omega.{arith}
-use borrow.Author.Rules.{rules}
 use Rattle.replay.proofs.part.Goals as goal
 
 pub returns : goal.returns

@@ -1,8 +1,6 @@
 use lib.ListN.{length, length-take}
-use Prim.Native.Nat.{◌-◌, ◌/◌}
 use mathlib.Core.Path.{ap}
 use native.Mathlib.Omega.{arith}
-use borrow.Author.Rules.{rules}
 use Rattle.replay.proofs.put_payload.Goals as goal
 
 pub put_text-requires : goal.put_text-requires

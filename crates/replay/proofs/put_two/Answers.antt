@@ -1,7 +1,5 @@
 use Rattle.fields.specs.Tabled.{length-bytes32}
-use Prim.Native.Nat.{◌-◌, ◌/◌}
 use native.Mathlib.Omega.{arith}
-use borrow.Author.Rules.{rules}
 use Rattle.replay.proofs.put_two.Goals as goal
 
 pub put_word-requires : goal.put_word-requires

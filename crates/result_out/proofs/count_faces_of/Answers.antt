@@ -1,7 +1,6 @@
 use Rattle.stages_out.specs.Writing.{place-after}
 use Rattle.rules.specs.Shells.{shellFaces}
 use native.Mathlib.Omega.{arith}
-use borrow.Author.Rules.{rules}
 use Rattle.result_out.proofs.count_faces_of.Goals as goal
 
 pub returns : goal.returns

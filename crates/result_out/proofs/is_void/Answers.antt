@@ -1,6 +1,5 @@
 use Rattle.result_out.specs.LumpLaws.{void-outer, void-inner}
 use mathlib.Core.Path.{sym, ◌∙◌}
-use borrow.Author.Rules.{rules}
 use Rattle.result_out.proofs.is_void.Goals as goal
 
 pub returns-then-shell_outer : goal.returns-then-shell_outer

@@ -2,7 +2,6 @@ use Rattle.result_out.specs.EdgeLaws.{edge-row}
 use Rattle.stages_out.specs.Writing.{place-after}
 use mathlib.Core.List.{[], ◌∷◌}
 use native.Mathlib.Omega.{arith}
-use borrow.Author.Rules.{rules}
 use Rattle.result_out.proofs.put_edge.Goals as goal
 
 pub put_two-q-requires : goal.put_two-q-requires

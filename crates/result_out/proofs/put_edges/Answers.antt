@@ -1,14 +1,11 @@
 use Rattle.result_out.specs.EdgeLaws.{edge-short, edge-rows}
-use Rattle.result_out.specs.Writing.{RowedFrom, rowed-start, rowed-step, rowed-end}
+use Rattle.result_out.specs.Writing.{rowed-start, rowed-step, rowed-end}
 use Rattle.result_out.specs.Rows.{edgeRow}
 use Rattle.edges.specs.Table.{rowsIn}
 use Rattle.rules.specs.Stage.{edgeFields}
-use lib.ListN.{length}
-use Prim.Native.Nat.{◌-◌, ◌/◌, ◌≤◌}
-use mathlib.Core.Path.{◌≡◌, refl}
+use mathlib.Core.Path.{refl}
 use mathlib.Core.List.{flat_map}
 use native.Mathlib.Omega.{arith}
-use borrow.Author.Rules.{rules}
 use Rattle.result_out.proofs.put_edges.Goals as goal
 
 pub loop-e-init : goal.loop-e-init

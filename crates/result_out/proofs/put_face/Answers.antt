@@ -1,5 +1,4 @@
 use Rattle.result_out.specs.ShellLaws.{face-there, face-none}
-use borrow.Author.Rules.{rules}
 use Rattle.result_out.proofs.put_face.Goals as goal
 
 pub returns-then-get-b : goal.returns-then-get-b

@@ -1,11 +1,8 @@
 use Rattle.result_out.specs.ShellLaws.{face-short, face-rows}
-use Rattle.result_out.specs.Writing.{RowedFrom, rowed-start, rowed-step, rowed-end}
+use Rattle.result_out.specs.Writing.{rowed-start, rowed-step, rowed-end}
 use Rattle.result_out.specs.Rows.{faceOr}
-use lib.ListN.{length}
-use Prim.Native.Nat.{◌-◌, ◌≤◌}
 use Rattle.rules.specs.Shells.{shellFaces}
 use native.Mathlib.Omega.{arith}
-use borrow.Author.Rules.{rules}
 use Rattle.result_out.proofs.put_faces_of.Goals as goal
 
 pub loop-f-init : goal.loop-f-init

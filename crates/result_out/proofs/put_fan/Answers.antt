@@ -4,7 +4,6 @@ use mathlib.Core.List.{[], ◌∷◌}
 use Rattle.uses.specs.Table.{usesIn}
 use Rattle.job.specs.Lists.{edgesIn}
 use native.Mathlib.Omega.{arith}
-use borrow.Author.Rules.{rules}
 use Rattle.result_out.proofs.put_fan.Goals as goal
 
 pub put_word-requires : goal.put_word-requires

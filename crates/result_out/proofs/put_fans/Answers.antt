@@ -1,12 +1,8 @@
-use Rattle.result_out.specs.Writing.{RowedFrom, rowed-start, rowed-step, rowed-end, fan-short, fan-rows-all}
+use Rattle.result_out.specs.Writing.{rowed-start, rowed-step, rowed-end, fan-short, fan-rows-all}
 use Rattle.result_out.specs.Rows.{fanOr, fanRows}
-use lib.ListN.{length}
-use mathlib.Core.Path.{◌≡◌}
-use Prim.Native.Nat.{◌-◌, ◌≤◌}
 use Rattle.uses.specs.Table.{usesIn}
 use Rattle.job.specs.Lists.{edgesIn}
 use native.Mathlib.Omega.{arith}
-use borrow.Author.Rules.{rules}
 use Rattle.result_out.proofs.put_fans.Goals as goal
 
 pub loop-h-init : goal.loop-h-init

@@ -6,10 +6,8 @@ use Rattle.rules.specs.Stage.{edgeFields}
 use lib.Seq.{length-take-le}
 use lib.ListN.{take}
 use Prim.Native.Nat.{◌*◌}
-use mathlib.Core.Path.{sym}
 use mathlib.Core.List.{[], ◌∷◌, flat_map}
 use native.Mathlib.Omega.{arith}
-use borrow.Author.Rules.{rules}
 use Rattle.result_out.proofs.put_joining.Goals as goal
 
 pub put_word-q-requires : goal.put_word-q-requires

@@ -3,7 +3,6 @@ use Rattle.stages_out.specs.Writing.{place-after}
 use lib.ListN.{length}
 use mathlib.Core.List.{[], ◌∷◌}
 use native.Mathlib.Omega.{arith}
-use borrow.Author.Rules.{rules}
 use Rattle.result_out.proofs.put_loop.Goals as goal
 
 pub put_items-requires : goal.put_items-requires

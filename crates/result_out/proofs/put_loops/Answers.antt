@@ -1,13 +1,12 @@
 use Rattle.result_out.specs.EdgeLaws.{faceLoopRow, loop-wrote, loop-short, loop-rows}
-use Rattle.result_out.specs.Writing.{RowedFrom, rowed-start, rowed-step, rowed-end}
+use Rattle.result_out.specs.Writing.{rowed-start, rowed-step, rowed-end}
 use Rattle.stages_out.specs.RowLaws.{part-short}
 use Rattle.edges.specs.Table.{faceLoopsIn}
 use Rattle.rules.specs.Stage.{faceLoopFields}
 use lib.ListN.{length}
-use Prim.Native.Nat.{◌+◌, ◌*◌, ◌-◌, ◌<◌, ◌≤◌}
+use Prim.Native.Nat.{◌+◌, ◌*◌, ◌-◌, ◌<◌}
 use mathlib.Core.List.{flat_map}
 use native.Mathlib.Omega.{arith}
-use borrow.Author.Rules.{rules}
 use Rattle.result_out.proofs.put_loops.Goals as goal
 
 pub loop-k-init : goal.loop-k-init

@@ -10,7 +10,6 @@ use Prim.Native.Nat.{◌+◌, ◌*◌}
 use mathlib.Core.Path.{sym, ◌∙◌}
 use mathlib.Core.List.{◌++◌}
 use native.Mathlib.Omega.{arith}
-use borrow.Author.Rules.{rules}
 use Rattle.result_out.proofs.put_lump.Goals as goal
 
 pub put_voids-requires : goal.put_voids-requires

@@ -1,12 +1,9 @@
-use Rattle.result_out.specs.LumpLaws.{lumpAt, lumpNumber, number-start, number-step, number-most, lump-wrote, lump-short, lump-rows}
-use Rattle.result_out.specs.Writing.{RowedFrom, rowed-start, rowed-step, rowed-end}
+use Rattle.result_out.specs.LumpLaws.{lumpAt, number-start, number-step, number-most, lump-wrote, lump-short, lump-rows}
+use Rattle.result_out.specs.Writing.{rowed-start, rowed-step, rowed-end}
 use Rattle.shells.specs.Table.{nestedIn}
 use Rattle.rules.specs.Stage.{lumpFields}
 use Rattle.rules.specs.Shells.{lumps}
-use Prim.Native.Nat.{◌-◌, ◌≤◌}
-use mathlib.Core.Path.{◌≡◌}
 use native.Mathlib.Omega.{arith}
-use borrow.Author.Rules.{rules}
 use Rattle.result_out.proofs.put_lumps.Goals as goal
 
 pub loop-k-init : goal.loop-k-init

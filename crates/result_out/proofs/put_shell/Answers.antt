@@ -2,7 +2,6 @@ use Rattle.result_out.specs.ShellLaws.{shell-row}
 use Rattle.stages_out.specs.Writing.{place-after}
 use mathlib.Core.List.{[], ◌∷◌}
 use native.Mathlib.Omega.{arith}
-use borrow.Author.Rules.{rules}
 use Rattle.result_out.proofs.put_shell.Goals as goal
 
 pub put_faces_of-requires : goal.put_faces_of-requires

@@ -1,13 +1,11 @@
 use Rattle.result_out.specs.ShellLaws.{shellAt, shell-wrote, shell-short, shell-rows}
-use Rattle.result_out.specs.Writing.{RowedFrom, rowed-start, rowed-step, rowed-end}
+use Rattle.result_out.specs.Writing.{rowed-start, rowed-step, rowed-end}
 use Rattle.result_out.specs.Rows.{isOuter}
 use Rattle.shells.specs.Table.{shellsIn, boundaryIn}
 use Rattle.rules.specs.Stage.{shellFields}
 use Rattle.rules.specs.Body.{bodyKind}
-use Prim.Native.Nat.{◌-◌, ◌≤◌}
 use mathlib.Core.List.{flat_map}
 use native.Mathlib.Omega.{arith}
-use borrow.Author.Rules.{rules}
 use Rattle.result_out.proofs.put_shells.Goals as goal
 
 pub loop-k-init : goal.loop-k-init

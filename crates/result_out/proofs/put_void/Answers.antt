@@ -2,7 +2,6 @@ use Rattle.result_out.specs.LumpLaws.{void-there}
 use Rattle.result_out.specs.Writing.{row-none}
 use Rattle.result_out.specs.Rows.{isVoid, shellRow}
 use mathlib.Core.Path.{sym, ◌∙◌}
-use borrow.Author.Rules.{rules}
 use Rattle.result_out.proofs.put_void.Goals as goal
 
 pub returns-then-is_void : goal.returns-then-is_void

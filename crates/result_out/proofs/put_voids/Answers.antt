@@ -1,9 +1,7 @@
 use Rattle.result_out.specs.LumpLaws.{void-short, void-rows-all}
-use Rattle.result_out.specs.Writing.{RowedFrom, rowed-start, rowed-step, rowed-end}
+use Rattle.result_out.specs.Writing.{rowed-start, rowed-step, rowed-end}
 use Rattle.result_out.specs.Rows.{voidOr, voidRows}
-use Prim.Native.Nat.{◌-◌, ◌≤◌}
 use native.Mathlib.Omega.{arith}
-use borrow.Author.Rules.{rules}
 use Rattle.result_out.proofs.put_voids.Goals as goal
 
 pub loop-k-init : goal.loop-k-init

@@ -2,7 +2,6 @@ use Rattle.result_out.specs.Writing.{staged-fits, staged-refused}
 use Rattle.result_out.specs.Rows.{fanRows}
 use Rattle.uses.specs.Table.{usesIn}
 use Rattle.job.specs.Lists.{edgesIn}
-use borrow.Author.Rules.{rules}
 use Rattle.result_out.proofs.write_fans.Goals as goal
 
 pub returns-then-out-needed : goal.returns-then-out-needed

@@ -1,7 +1,6 @@
 use Rattle.result_out.specs.Writing.{staged-fits, staged-refused}
 use Rattle.maximal_edges.specs.Joined.{stateIn}
 use Rattle.rules.specs.Stage.{joiningFields}
-use borrow.Author.Rules.{rules}
 use Rattle.result_out.proofs.write_joining.Goals as goal
 
 pub returns-then-out-needed : goal.returns-then-out-needed

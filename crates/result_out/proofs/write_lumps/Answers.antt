@@ -2,7 +2,6 @@ use Rattle.result_out.specs.Writing.{staged-fits, staged-refused}
 use Rattle.shells.specs.Table.{nestedIn}
 use Rattle.rules.specs.Stage.{lumpFields}
 use Rattle.rules.specs.Shells.{lumps}
-use borrow.Author.Rules.{rules}
 use Rattle.result_out.proofs.write_lumps.Goals as goal
 
 pub returns-then-out-needed : goal.returns-then-out-needed

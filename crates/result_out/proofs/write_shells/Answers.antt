@@ -2,7 +2,6 @@ use Rattle.result_out.specs.Writing.{staged-fits, staged-refused}
 use Rattle.shells.specs.Table.{shellsIn}
 use Rattle.rules.specs.Stage.{shellFields}
 use mathlib.Core.List.{flat_map}
-use borrow.Author.Rules.{rules}
 use Rattle.result_out.proofs.write_shells.Goals as goal
 
 pub returns-then-out-needed : goal.returns-then-out-needed

@@ -3,7 +3,6 @@ use Rattle.progress.specs.Endings.{ends-as}
 use Rattle.progress.specs.StageLaws.{stage-loops}
 use Rattle.sewing.specs.StepLaws.{promised}
 use lib.ListN.{length}
-use borrow.Author.Rules.{rules}
 use Rattle.sewing.proofs.loop_stage.Goals as goal
 
 pub returns : goal.returns

@@ -9,7 +9,6 @@ use Rattle.uses.specs.Table.{usesIn}
 use mathlib.Core.Path.{refl, sym}
 use lib.ListN.{length}
 use native.Mathlib.Omega.{arith}
-use borrow.Author.Rules.{rules}
 use Rattle.sewing.proofs.on_kept.Goals as goal
 
 pub write_kept-requires : goal.write_kept-requires

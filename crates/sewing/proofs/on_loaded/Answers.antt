@@ -1,5 +1,4 @@
 use Rattle.progress.specs.KnownLaws.{opened-limited}
-use borrow.Author.Rules.{rules}
 use Rattle.sewing.proofs.on_loaded.Goals as goal
 
 pub read_in_large_tables-requires : goal.read_in_large_tables-requires

@@ -7,7 +7,6 @@ use Rattle.uses.specs.Table.{usesIn}
 use mathlib.Core.Path.{refl, sym}
 use lib.ListN.{length}
 use native.Mathlib.Omega.{arith}
-use borrow.Author.Rules.{rules}
 use Rattle.sewing.proofs.on_merged.Goals as goal
 
 pub slice_bounds-labels-end : goal.slice_bounds-labels-end

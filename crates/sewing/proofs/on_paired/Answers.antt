@@ -7,7 +7,6 @@ use Rattle.uses.specs.Table.{usesIn}
 use mathlib.Core.Path.{refl, sym}
 use lib.ListN.{length}
 use native.Mathlib.Omega.{arith}
-use borrow.Author.Rules.{rules}
 use Rattle.sewing.proofs.on_paired.Goals as goal
 
 pub write_twins-requires : goal.write_twins-requires

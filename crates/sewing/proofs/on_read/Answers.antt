@@ -1,7 +1,6 @@
 use Rattle.sewing.specs.StepLaws.{link-ready, chained}
 use Rattle.progress.specs.KnownLaws.{opened-limited}
 use Rattle.uses.specs.Table.{usesIn}
-use borrow.Author.Rules.{rules}
 use Rattle.sewing.proofs.on_read.Goals as goal
 
 pub link-requires : goal.link-requires

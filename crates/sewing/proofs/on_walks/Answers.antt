@@ -5,7 +5,6 @@ use Rattle.job.specs.Lists.{jobIn}
 use Rattle.uses.specs.Table.{usesIn}
 use mathlib.Core.Path.{sym}
 use lib.ListN.{length}
-use borrow.Author.Rules.{rules}
 use Rattle.sewing.proofs.on_walks.Goals as goal
 
 pub put_loops-requires : goal.put_loops-requires

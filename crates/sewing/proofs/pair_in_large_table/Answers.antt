@@ -5,7 +5,6 @@ use mathlib.Core.Path.{sym}
 use lib.Seq.{length-take-le}
 use lib.ListN.{length, take}
 use native.Mathlib.Omega.{arith}
-use borrow.Author.Rules.{rules}
 use Rattle.sewing.proofs.pair_in_large_table.Goals as goal
 
 pub pair-p-requires : goal.pair-p-requires

@@ -5,7 +5,6 @@ use mathlib.Core.Path.{sym}
 use lib.Seq.{length-take-le}
 use lib.ListN.{length, take}
 use native.Mathlib.Omega.{arith}
-use borrow.Author.Rules.{rules}
 use Rattle.sewing.proofs.pair_in_small_table.Goals as goal
 
 pub pair_small-p-requires : goal.pair_small-p-requires

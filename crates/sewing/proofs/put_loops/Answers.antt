@@ -12,7 +12,6 @@ use lib.Seq.{length-take-le}
 use lib.ListN.{length, take, drop}
 use Prim.Native.Nat.{◌*◌}
 use native.Mathlib.Omega.{arith}
-use borrow.Author.Rules.{rules}
 use Rattle.sewing.proofs.put_loops.Goals as goal
 
 pub slice_bounds-ways-end : goal.slice_bounds-ways-end

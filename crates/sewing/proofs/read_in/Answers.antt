@@ -4,7 +4,6 @@ use Rattle.progress.specs.Chain.{afterReading}
 use Rattle.job.specs.Lists.{jobIn}
 use mathlib.Core.Path.{sym, ap}
 use lib.ListN.{length}
-use borrow.Author.Rules.{rules}
 use Rattle.sewing.proofs.read_in.Goals as goal
 
 pub read-requires : goal.read-requires

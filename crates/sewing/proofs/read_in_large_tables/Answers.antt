@@ -2,7 +2,6 @@ use Rattle.sewing.specs.StepLaws.{tables-made}
 use Rattle.progress.specs.Parts.{zeros, part-size}
 use Prim.Native.Nat.{◌*◌}
 use native.Mathlib.Omega.{arith}
-use borrow.Author.Rules.{rules}
 use Rattle.sewing.proofs.read_in_large_tables.Goals as goal
 
 pub slice_bounds-read_in-end : goal.slice_bounds-read_in-end

@@ -1,6 +1,5 @@
 use Rattle.progress.specs.Endings.{ends-refused}
 use Rattle.sewing.specs.StepLaws.{opened-from, read-refused}
-use borrow.Author.Rules.{rules}
 use Rattle.sewing.proofs.read_stage.Goals as goal
 
 pub write_loaded-requires : goal.write_loaded-requires

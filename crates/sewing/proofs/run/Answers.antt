@@ -1,7 +1,6 @@
 use mathlib.Core.Path.{sym}
 use Rattle.progress.specs.Endings.{ends-as, ends-refused}
 use Rattle.sewing.specs.StepLaws.{opened-from, load-refused, load-on}
-use borrow.Author.Rules.{rules}
 use Rattle.sewing.proofs.run.Goals as goal
 
 pub on_loaded-requires : goal.on_loaded-requires

@@ -2,7 +2,6 @@ use mathlib.Core.Path.{sym}
 use Rattle.progress.specs.Endings.{ends-as}
 use Rattle.sewing.specs.StepLaws.{sew-empty, sew-solid}
 use lib.ListN.{length}
-use borrow.Author.Rules.{rules}
 use Rattle.sewing.proofs.sew_loaded.Goals as goal
 
 pub returns-then-c-eq0 : goal.returns-then-c-eq0

@@ -2,7 +2,6 @@ use mathlib.Core.Path.{sym}
 use Rattle.progress.specs.Endings.{ends-as}
 use Rattle.progress.specs.StageLaws.{stage-shells}
 use lib.ListN.{length}
-use borrow.Author.Rules.{rules}
 use Rattle.sewing.proofs.shell_stage.Goals as goal
 
 pub returns : goal.returns

@@ -3,7 +3,6 @@ use Rattle.progress.specs.KnownLaws.{opened-limited}
 use Rattle.job.specs.Lists.{jobIn}
 use Rattle.uses.specs.Table.{usesIn}
 use native.Mathlib.Omega.{arith}
-use borrow.Author.Rules.{rules}
 use Rattle.sewing.proofs.walk_in.Goals as goal
 
 pub walks-g-requires : goal.walks-g-requires

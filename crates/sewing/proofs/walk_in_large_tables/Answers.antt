@@ -1,6 +1,5 @@
 use Rattle.sewing.specs.StepLaws.{unsetFlags, flags-size, walk-tables-made}
 use Rattle.progress.specs.Parts.{zeros, part-size}
-use borrow.Author.Rules.{rules}
 use Rattle.sewing.proofs.walk_in_large_tables.Goals as goal
 
 pub slice_bounds-walk_in-end : goal.slice_bounds-walk_in-end

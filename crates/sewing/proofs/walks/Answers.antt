@@ -1,7 +1,6 @@
 use Rattle.lists.specs.Lists.{sumOf}
 use mathlib.Core.Path.{refl, sym, ap, ◌∙◌}
 use lib.Seq.{length-take-le}
-use borrow.Author.Rules.{rules}
 use Rattle.sewing.proofs.walks.Goals as goal
 
 pub slice_bounds-remove-end : goal.slice_bounds-remove-end

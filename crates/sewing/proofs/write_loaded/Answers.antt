@@ -10,7 +10,6 @@ use native.Mathlib.Omega.{arith}
 use mathlib.Core.Path.{refl, sym, ap, ◌∙◌}
 use mathlib.Core.List.{flat_map}
 use lib.ListN.{length}
-use borrow.Author.Rules.{rules}
 use Rattle.sewing.proofs.write_loaded.Goals as goal
 
 pub overflow_mul-uses : goal.overflow_mul-uses

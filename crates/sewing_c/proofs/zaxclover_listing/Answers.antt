@@ -1,5 +1,4 @@
 use Rattle.sewing_c.specs.ToldLaws.{few-bytes, listed, lists-answer}
-use borrow.Author.Rules.{rules}
 use Rattle.sewing_c.proofs.zaxclover_listing.Goals as goal
 
 pub put_listing-requires : goal.put_listing-requires

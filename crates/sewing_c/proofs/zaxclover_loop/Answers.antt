@@ -2,7 +2,6 @@ use Rattle.rules.specs.Load.{requested}
 use native.Mathlib.Omega.{arith}
 use Rattle.sewing_c.specs.NumberLaws.{requested-numbered}
 use Rattle.sewing_c.specs.ToldLaws.{loop-refused, loop-told}
-use borrow.Author.Rules.{rules}
 use Rattle.sewing_c.proofs.zaxclover_loop.Goals as goal
 
 pub overflow_sub-value : goal.overflow_sub-value

@@ -3,7 +3,6 @@ use Rattle.rules.specs.Rules.{ordinary}
 use Rattle.rules.specs.Stage.{lumpStage}
 use Rattle.sewing_c.specs.NumberLaws.{lumps-numbered}
 use Rattle.sewing_c.specs.ToldLaws.{told}
-use borrow.Author.Rules.{rules}
 use Rattle.sewing_c.proofs.zaxclover_lump_stage.Goals as goal
 
 pub returns : goal.returns

@@ -2,7 +2,6 @@ use lib.ListN.{length}
 use Rattle.rules.specs.Stage.{pairStage}
 use Rattle.sewing_c.specs.NumberLaws.{pairs-numbered}
 use Rattle.sewing_c.specs.ToldLaws.{told}
-use borrow.Author.Rules.{rules}
 use Rattle.sewing_c.proofs.zaxclover_pair_stage.Goals as goal
 
 pub returns : goal.returns

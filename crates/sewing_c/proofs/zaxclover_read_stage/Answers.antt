@@ -2,7 +2,6 @@ use lib.ListN.{length}
 use Rattle.rules.specs.Stage.{readStage}
 use Rattle.sewing_c.specs.NumberLaws.{read-numbered}
 use Rattle.sewing_c.specs.ToldLaws.{told}
-use borrow.Author.Rules.{rules}
 use Rattle.sewing_c.proofs.zaxclover_read_stage.Goals as goal
 
 pub returns : goal.returns

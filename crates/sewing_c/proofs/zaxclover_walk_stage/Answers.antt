@@ -3,7 +3,6 @@ use Rattle.rules.specs.Rules.{ordinary}
 use Rattle.rules.specs.Stage.{walkStage}
 use Rattle.sewing_c.specs.NumberLaws.{walks-numbered}
 use Rattle.sewing_c.specs.ToldLaws.{told}
-use borrow.Author.Rules.{rules}
 use Rattle.sewing_c.proofs.zaxclover_walk_stage.Goals as goal
 
 pub returns : goal.returns

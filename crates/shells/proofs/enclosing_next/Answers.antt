@@ -2,7 +2,6 @@ use Rattle.shells.specs.NestLaws.{next-outer, next-void}
 use Rattle.shells.specs.Steps.{lowIn, outerIn, takenIn}
 use Rattle.job.specs.Lists.{answersIn}
 use mathlib.Core.Path.{◌∙◌}
-use borrow.Author.Rules.{rules}
 use Rattle.shells.proofs.enclosing_next.Goals as goal
 
 pub returns-then-shell_outer : goal.returns-then-shell_outer

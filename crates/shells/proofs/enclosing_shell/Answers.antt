@@ -1,8 +1,6 @@
-use Rattle.shells.specs.NestLaws.{EnclosingAt, enclosing-start, enclosing-step, enclosing-refused, enclosing-end}
-use Prim.Native.Nat.{◌-◌, ◌≤◌}
+use Rattle.shells.specs.NestLaws.{enclosing-start, enclosing-step, enclosing-refused, enclosing-end}
 use Rattle.job.specs.Lists.{answersIn}
 use native.Mathlib.Omega.{arith}
-use borrow.Author.Rules.{rules}
 use Rattle.shells.proofs.enclosing_shell.Goals as goal
 
 pub loop-k-init : goal.loop-k-init

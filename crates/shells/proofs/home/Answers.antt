@@ -1,6 +1,5 @@
 use Rattle.shells.specs.NestLaws.{home-outer, home-refused, home-none, home-found}
 use Rattle.job.specs.Lists.{answersIn}
-use borrow.Author.Rules.{rules}
 use Rattle.shells.proofs.home.Goals as goal
 
 pub returns-then-shell_outer : goal.returns-then-shell_outer

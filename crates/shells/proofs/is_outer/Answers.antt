@@ -2,7 +2,6 @@ use Rattle.shells.specs.ShellLaws.{outer-proven, outer-asked}
 use Rattle.rules.specs.Fields.{le32}
 use Rattle.job.specs.Lists.{answersIn}
 use mathlib.Core.Path.{◌∙◌}
-use borrow.Author.Rules.{rules}
 use Rattle.shells.proofs.is_outer.Goals as goal
 
 pub returns-then-proven-eq1 : goal.returns-then-proven-eq1

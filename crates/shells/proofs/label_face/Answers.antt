@@ -1,6 +1,5 @@
 use Rattle.shells.specs.LumpLaws.{labels-few, labels-own, labels-old}
 use native.Mathlib.Omega.{arith}
-use borrow.Author.Rules.{rules}
 use Rattle.shells.proofs.label_face.Goals as goal
 
 pub shell_home-requires : goal.shell_home-requires

@@ -1,9 +1,7 @@
-use Rattle.shells.specs.ShellLaws.{LowFrom, low-start, low-step, low-end}
-use lib.ListN.{length, length-replicate}
-use Prim.Native.Nat.{ℕ, ◌-◌}
-use mathlib.Core.Path.{refl, sym, ap, ◌∙◌}
+use Rattle.shells.specs.ShellLaws.{low-start, low-step, low-end}
+use Prim.Native.Nat.{◌-◌}
+use mathlib.Core.Path.{refl}
 use native.Mathlib.Omega.{arith}
-use borrow.Author.Rules.{rules}
 use Rattle.shells.proofs.low_faces.Goals as goal
 
 pub loop-f-init : goal.loop-f-init

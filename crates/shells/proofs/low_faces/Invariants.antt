@@ -1,5 +1,4 @@
 use Rattle.shells.specs.ShellLaws.{LowFrom}
-use Prim.Native.Nat.{◌-◌}
 use Rattle.shells.proofs.low_faces.Given as goal
 
 abbrev pub invariant-loop-f : goal.invariant-loop-f

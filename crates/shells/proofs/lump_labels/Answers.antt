@@ -1,7 +1,4 @@
-use Rattle.shells.specs.LumpLaws.{LabelsAt, labels-start, labels-end}
-use lib.ListN.{length}
-use Prim.Native.Nat.{◌-◌}
-use borrow.Author.Rules.{rules}
+use Rattle.shells.specs.LumpLaws.{labels-start, labels-end}
 use Rattle.shells.proofs.lump_labels.Goals as goal
 
 pub loop-f-init : goal.loop-f-init

@@ -2,7 +2,6 @@ use Rattle.shells.specs.NestLaws.{nearer-first, nearer-stop, nearer-yes, nearer-
 use Rattle.ask.specs.Told.{toldOf}
 use Rattle.job.specs.Lists.{answersIn}
 use mathlib.Core.Path.{sym, ap, ◌∙◌}
-use borrow.Author.Rules.{rules}
 use Rattle.shells.proofs.nearer.Goals as goal
 
 pub returns-then-n-taken : goal.returns-then-n-taken

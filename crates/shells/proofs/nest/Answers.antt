@@ -1,10 +1,8 @@
-use Rattle.shells.specs.NestLaws.{NestAt, nest-start, nest-stop, nest-step, nest-end}
+use Rattle.shells.specs.NestLaws.{nest-start, nest-stop, nest-step, nest-end}
 use Rattle.shells.specs.Steps.{Asked32}
-use Prim.Native.Nat.{◌-◌}
 use Rattle.job.specs.Lists.{answersIn}
 use mathlib.Core.Path.{subst}
 use native.Mathlib.Omega.{arith}
-use borrow.Author.Rules.{rules}
 use Rattle.shells.proofs.nest.Goals as goal
 
 pub loop-k-init : goal.loop-k-init

@@ -5,7 +5,6 @@ use Rattle.rules.specs.Fields.{le32}
 use Rattle.job.specs.Lists.{answersIn}
 use mathlib.Core.Path.{refl, sym, ap, ◌∙◌}
 use native.Mathlib.Omega.{arith}
-use borrow.Author.Rules.{rules}
 use Rattle.shells.proofs.next_shell.Goals as goal
 
 pub returns-then-label-b : goal.returns-then-label-b

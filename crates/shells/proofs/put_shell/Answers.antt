@@ -1,5 +1,4 @@
 use Rattle.shells.specs.ShellLaws.{stored-as}
-use borrow.Author.Rules.{rules}
 use Rattle.shells.proofs.put_shell.Goals as goal
 
 pub returns : goal.returns

@@ -1,6 +1,5 @@
 use lib.Dec.{eqb}
 use mathlib.Core.Path.{ap}
-use borrow.Author.Rules.{rules}
 use Rattle.shells.proofs.shell_outer.Goals as goal
 
 pub returns : goal.returns

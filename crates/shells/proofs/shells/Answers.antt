@@ -1,11 +1,8 @@
-use Rattle.shells.specs.ShellLaws.{ShellsAt, ShellsTo, shells-start, shells-end}
-use Rattle.shells.specs.Steps.{LowFaces}
-use lib.ListN.{length}
-use Prim.Native.Nat.{◌+◌, ◌-◌}
+use Rattle.shells.specs.ShellLaws.{ShellsTo, shells-start, shells-end}
+use Prim.Native.Nat.{◌+◌}
 use Rattle.rules.specs.Fields.{le32}
 use Rattle.job.specs.Lists.{answersIn}
-use mathlib.Core.Path.{◌≡◌, refl, subst, ◌∙◌}
-use borrow.Author.Rules.{rules}
+use mathlib.Core.Path.{refl, subst, ◌∙◌}
 use Rattle.shells.proofs.shells.Goals as goal
 
 pub loop-b-init : goal.loop-b-init

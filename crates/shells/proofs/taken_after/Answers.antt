@@ -3,7 +3,6 @@ use Rattle.shells.specs.Steps.{lowIn, takenIn}
 use Rattle.ask.specs.Told.{toldOf}
 use Rattle.job.specs.Lists.{answersIn}
 use mathlib.Core.Path.{sym, ap, ◌∙◌}
-use borrow.Author.Rules.{rules}
 use Rattle.shells.proofs.taken_after.Goals as goal
 
 pub returns-in-Refused : goal.returns-in-Refused

@@ -1,7 +1,6 @@
 use mathlib.Core.Path.{◌∙◌}
 use Rattle.stages_out.specs.RowLaws.{end-none, end-at}
 use native.Mathlib.Omega.{arith}
-use borrow.Author.Rules.{rules}
 use Rattle.stages_out.proofs.end_of.Goals as goal
 
 pub returns-then-k-eq0 : goal.returns-then-k-eq0

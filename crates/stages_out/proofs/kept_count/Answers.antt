@@ -1,8 +1,5 @@
-use Rattle.stages_out.specs.RowLaws.{Counted, counted-start, counted-step, counted-end}
-use Prim.Native.Nat.{◌-◌, ◌≤◌}
-use lib.ListN.{length}
+use Rattle.stages_out.specs.RowLaws.{counted-start, counted-step, counted-end}
 use native.Mathlib.Omega.{arith}
-use borrow.Author.Rules.{rules}
 use Rattle.stages_out.proofs.kept_count.Goals as goal
 
 pub loop-h-init : goal.loop-h-init

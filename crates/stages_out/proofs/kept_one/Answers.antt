@@ -3,7 +3,6 @@ use Rattle.lists.specs.Tests.{cond-true, cond-false, not-is, is-not}
 use mathlib.Core.Bool.{not}
 use mathlib.Core.Path.{sym, ◌∙◌}
 use native.Mathlib.Omega.{arith}
-use borrow.Author.Rules.{rules}
 use Rattle.stages_out.proofs.kept_one.Goals as goal
 
 pub returns-then-is_set : goal.returns-then-is_set

@@ -1,9 +1,7 @@
 use Rattle.stages_out.specs.Rows.{keptRow, keptRows}
 use Rattle.stages_out.specs.RowLaws.{two-same, kept-rows-all}
-use Prim.Native.Nat.{◌-◌, ◌≤◌}
-use Rattle.stages_out.specs.Writing.{Rowed, rowed-start, rowed-step, wrote-same}
+use Rattle.stages_out.specs.Writing.{rowed-start, rowed-step, wrote-same}
 use native.Mathlib.Omega.{arith}
-use borrow.Author.Rules.{rules}
 use Rattle.stages_out.proofs.put_kept.Goals as goal
 
 pub loop-i-init : goal.loop-i-init

@@ -4,7 +4,6 @@ use Rattle.uses.specs.Table.{usesIn}
 use Rattle.stages_out.specs.Writing.{place-after}
 use Rattle.stages_out.specs.RowLaws.{round-row}
 use native.Mathlib.Omega.{arith}
-use borrow.Author.Rules.{rules}
 use Rattle.stages_out.proofs.put_loop.Goals as goal
 
 pub put_table-requires : goal.put_table-requires

@@ -3,10 +3,9 @@ use Rattle.walk.specs.Walks.{loopsIn}
 use Rattle.uses.specs.Table.{usesIn}
 use Rattle.stages_out.specs.Rows.{roundRows}
 use Rattle.stages_out.specs.RowLaws.{loopRow, loop-rows, loop-row-short}
-use Prim.Native.Nat.{◌-◌, ◌≤◌}
-use Rattle.stages_out.specs.Writing.{Rowed, rowed-start, rowed-step, wrote-same}
+use Prim.Native.Nat.{◌-◌}
+use Rattle.stages_out.specs.Writing.{rowed-start, rowed-step, wrote-same}
 use native.Mathlib.Omega.{arith}
-use borrow.Author.Rules.{rules}
 use Rattle.stages_out.proofs.put_loops.Goals as goal
 
 pub loop-i-init : goal.loop-i-init

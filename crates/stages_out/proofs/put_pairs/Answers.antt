@@ -1,10 +1,7 @@
 use Rattle.stages_out.specs.Rows.{pairRow, pairRows}
 use Rattle.stages_out.specs.RowLaws.{two-same, pair-rows-all}
-use Prim.Native.Nat.{◌-◌, ◌≤◌}
-use lib.ListN.{length}
-use Rattle.stages_out.specs.Writing.{Rowed, rowed-start, rowed-step, wrote-same}
+use Rattle.stages_out.specs.Writing.{rowed-start, rowed-step, wrote-same}
 use native.Mathlib.Omega.{arith}
-use borrow.Author.Rules.{rules}
 use Rattle.stages_out.proofs.put_pairs.Goals as goal
 
 pub loop-f-init : goal.loop-f-init

@@ -1,7 +1,6 @@
 use Rattle.fields.specs.Tabled.{length-bytes32}
 use Rattle.stages_out.specs.RowLaws.{two-fields}
 use native.Mathlib.Omega.{arith}
-use borrow.Author.Rules.{rules}
 use Rattle.stages_out.proofs.put_two.Goals as goal
 
 pub put_word-requires : goal.put_word-requires

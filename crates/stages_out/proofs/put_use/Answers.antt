@@ -2,7 +2,6 @@ use mathlib.Core.List.{[], ◌∷◌}
 use Rattle.stages_out.specs.Writing.{place-after}
 use Rattle.stages_out.specs.RowLaws.{use-fields}
 use native.Mathlib.Omega.{arith}
-use borrow.Author.Rules.{rules}
 use Rattle.stages_out.proofs.put_use.Goals as goal
 
 pub put_two-requires : goal.put_two-requires

@@ -3,7 +3,6 @@ use Rattle.stages_out.specs.Writing.{place-after}
 use mathlib.Core.Path.{sym, ◌∙◌}
 use Rattle.stages_out.specs.RowLaws.{walked-removed, walked-kept}
 use native.Mathlib.Omega.{arith}
-use borrow.Author.Rules.{rules}
 use Rattle.stages_out.proofs.put_walked.Goals as goal
 
 pub returns-then-is_set : goal.returns-then-is_set

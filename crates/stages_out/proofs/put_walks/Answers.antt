@@ -1,10 +1,7 @@
 use Rattle.stages_out.specs.Rows.{walkRows}
 use Rattle.stages_out.specs.RowLaws.{walkedRow, walked-short, walked-rows}
-use Prim.Native.Nat.{◌-◌, ◌≤◌}
-use lib.ListN.{length}
-use Rattle.stages_out.specs.Writing.{Rowed, rowed-start, rowed-step, wrote-same}
+use Rattle.stages_out.specs.Writing.{rowed-start, rowed-step, wrote-same}
 use native.Mathlib.Omega.{arith}
-use borrow.Author.Rules.{rules}
 use Rattle.stages_out.proofs.put_walks.Goals as goal
 
 pub loop-h-init : goal.loop-h-init

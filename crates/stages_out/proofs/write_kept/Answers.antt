@@ -3,7 +3,6 @@ use Rattle.stages_out.specs.Rows.{keptRows}
 use Rattle.stages_out.specs.RowLaws.{kept-rows-length}
 use Rattle.stages_out.specs.Writing.{staged-written, staged-short}
 use native.Mathlib.Omega.{arith}
-use borrow.Author.Rules.{rules}
 use Rattle.stages_out.proofs.write_kept.Goals as goal
 
 pub returns-then-out-needed : goal.returns-then-out-needed

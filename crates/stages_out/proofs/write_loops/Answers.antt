@@ -5,7 +5,6 @@ use Rattle.stages_out.specs.Rows.{roundRows}
 use Rattle.stages_out.specs.RowLaws.{round-rows-length}
 use Rattle.stages_out.specs.Writing.{staged-written, staged-short}
 use native.Mathlib.Omega.{arith}
-use borrow.Author.Rules.{rules}
 use Rattle.stages_out.proofs.write_loops.Goals as goal
 
 pub returns-then-out-needed : goal.returns-then-out-needed

@@ -4,7 +4,6 @@ use Rattle.stages_out.specs.Rows.{pairRows}
 use Rattle.stages_out.specs.RowLaws.{pair-rows-length}
 use Rattle.stages_out.specs.Writing.{staged-written, staged-short}
 use native.Mathlib.Omega.{arith}
-use borrow.Author.Rules.{rules}
 use Rattle.stages_out.proofs.write_pairs.Goals as goal
 
 pub returns-then-out-needed : goal.returns-then-out-needed

@@ -5,7 +5,6 @@ use Prim.Native.Nat.{◌*◌}
 use Rattle.stages_out.specs.RowLaws.{use-rows-length}
 use Rattle.stages_out.specs.Writing.{staged-written, staged-short}
 use native.Mathlib.Omega.{arith}
-use borrow.Author.Rules.{rules}
 use Rattle.stages_out.proofs.write_read.Goals as goal
 
 pub returns-then-out-needed : goal.returns-then-out-needed

@@ -2,7 +2,6 @@ use Prim.Native.Nat.{◌*◌}
 use mathlib.Core.Path.{refl}
 use lib.ListN.{length}
 use Rattle.stages_out.specs.Writing.{staged-written, staged-short}
-use borrow.Author.Rules.{rules}
 use Rattle.stages_out.proofs.write_twins.Goals as goal
 
 pub returns-then-out-needed : goal.returns-then-out-needed

@@ -3,7 +3,6 @@ use Rattle.stages_out.specs.Rows.{walkRows}
 use Rattle.stages_out.specs.RowLaws.{walked-rows-length}
 use Rattle.stages_out.specs.Writing.{staged-written, staged-short}
 use native.Mathlib.Omega.{arith}
-use borrow.Author.Rules.{rules}
 use Rattle.stages_out.proofs.write_walk.Goals as goal
 
 pub returns-then-out-needed : goal.returns-then-out-needed

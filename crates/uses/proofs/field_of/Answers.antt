@@ -2,7 +2,6 @@ use Rattle.uses.specs.Table.{fieldOf}
 use mathlib.Core.Path.{◌∙◌}
 use native.Mathlib.Omega.{arith}
 use borrow.Author.Tests.{le-ltb, lt-ltb}
-use borrow.Author.Rules.{rules}
 use Rattle.uses.proofs.field_of.Goals as goal
 
 pub returns-then-h-uses : goal.returns-then-h-uses

@@ -2,7 +2,6 @@ use Rattle.job.specs.Lists.{edgesIn}
 use Rattle.rules.specs.Job.{edgeAt}
 use lib.Dec.{eqb}
 use mathlib.Core.Path.{ap, ◌∙◌}
-use borrow.Author.Rules.{rules}
 use Rattle.uses.proofs.is_ring.Goals as goal
 
 pub returns : goal.returns

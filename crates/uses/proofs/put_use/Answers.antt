@@ -1,5 +1,4 @@
 use Rattle.uses.specs.TableLaws.{four-puts}
-use borrow.Author.Rules.{rules}
 use Rattle.uses.proofs.put_use.Goals as goal
 
 pub returns : goal.returns

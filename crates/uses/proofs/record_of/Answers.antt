@@ -1,5 +1,4 @@
 use Rattle.uses.specs.TableLaws.{record-is}
-use borrow.Author.Rules.{rules}
 use Rattle.uses.proofs.record_of.Goals as goal
 
 pub returns : goal.returns

@@ -1,10 +1,8 @@
 use mathlib.Core.Path.{◌≡◌, refl, sym, subst}
-use Prim.Native.Nat.{◌-◌, ◌≤◌}
 use lib.ListN.{length}
 use Rattle.uses.specs.Table.{usesIn, Records}
 use Rattle.uses.specs.TableLaws.{length-uses, records-none, records-more}
 use native.Mathlib.Omega.{arith}
-use borrow.Author.Rules.{rules}
 use Rattle.uses.proofs.records_of.Goals as goal
 
 pub loop-h-init : goal.loop-h-init

@@ -2,7 +2,6 @@ use Rattle.job.specs.Lists.{edgesIn, pointsIn}
 use Rattle.rules.specs.Job.{edgeAt, startBy}
 use lib.ListN.{get_or}
 use mathlib.Core.Path.{ap, ◌∙◌}
-use borrow.Author.Rules.{rules}
 use Rattle.uses.proofs.start_point.Goals as goal
 
 pub returns : goal.returns

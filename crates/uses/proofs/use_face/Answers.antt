@@ -1,6 +1,5 @@
 use Rattle.uses.specs.TableLaws.{face-is}
 use mathlib.Core.Path.{sym, ◌∙◌}
-use borrow.Author.Rules.{rules}
 use Rattle.uses.proofs.use_face.Goals as goal
 
 pub returns : goal.returns

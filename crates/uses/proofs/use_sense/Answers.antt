@@ -1,7 +1,6 @@
 use Rattle.rules.specs.Sense.{senseOf}
 use Rattle.uses.specs.TableLaws.{sense-is}
 use mathlib.Core.Path.{sym, ap, ◌∙◌}
-use borrow.Author.Rules.{rules}
 use Rattle.uses.proofs.use_sense.Goals as goal
 
 pub returns : goal.returns

@@ -1,10 +1,8 @@
-use Rattle.vertex_loops.specs.KeptLaws.{LeftAt, left-start, left-step, left-found, left-refused, left-end}
+use Rattle.vertex_loops.specs.KeptLaws.{left-start, left-step, left-found, left-refused, left-end}
 use Rattle.ask.specs.Told.{toldOf}
 use Rattle.job.specs.Lists.{answersIn}
-use Prim.Native.Nat.{◌-◌, ◌≤◌}
 use mathlib.Core.Path.{sym, ap, ◌∙◌}
 use native.Mathlib.Omega.{arith}
-use borrow.Author.Rules.{rules}
 use Rattle.vertex_loops.proofs.already_there.Goals as goal
 
 pub loop-k-init : goal.loop-k-init

@@ -1,7 +1,6 @@
 use Rattle.vertex_loops.specs.KeptLaws.{held-elsewhere, held-here}
 use Rattle.job.specs.Lists.{answersIn}
 use mathlib.Core.Path.{◌∙◌}
-use borrow.Author.Rules.{rules}
 use Rattle.vertex_loops.proofs.held_against.Goals as goal
 
 pub returns-then-f-face : goal.returns-then-f-face

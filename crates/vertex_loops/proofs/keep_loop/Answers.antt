@@ -3,7 +3,6 @@ use Rattle.vertex_loops.specs.Kept.{keptIn}
 use Rattle.job.specs.Lists.{answersIn, pointsIn}
 use mathlib.Core.Path.{◌∙◌}
 use native.Mathlib.Omega.{arith}
-use borrow.Author.Rules.{rules}
 use Rattle.vertex_loops.proofs.keep_loop.Goals as goal
 
 pub returns-then-kind-eq5 : goal.returns-then-kind-eq5

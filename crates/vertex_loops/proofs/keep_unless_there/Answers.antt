@@ -4,7 +4,6 @@ use Rattle.ask.specs.Told.{toldOf}
 use Rattle.job.specs.Lists.{answersIn}
 use mathlib.Core.Path.{sym, ap, ◌∙◌}
 use native.Mathlib.Omega.{arith}
-use borrow.Author.Rules.{rules}
 use Rattle.vertex_loops.proofs.keep_unless_there.Goals as goal
 
 pub returns-in-Refused : goal.returns-in-Refused

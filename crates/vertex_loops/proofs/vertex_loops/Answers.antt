@@ -1,10 +1,7 @@
-use Rattle.vertex_loops.specs.KeptLaws.{KeepingAt, keeping-start, keeping-step, keeping-stop, keeping-end}
+use Rattle.vertex_loops.specs.KeptLaws.{keeping-start, keeping-step, keeping-stop, keeping-end}
 use Rattle.job.specs.Lists.{answersIn, pointsIn}
-use lib.ListN.{length}
-use Prim.Native.Nat.{◌-◌}
-use mathlib.Core.Path.{◌≡◌, refl, ◌∙◌}
+use mathlib.Core.Path.{refl, ◌∙◌}
 use native.Mathlib.Omega.{arith}
-use borrow.Author.Rules.{rules}
 use Rattle.vertex_loops.proofs.vertex_loops.Goals as goal
 
 pub loop-l-init : goal.loop-l-init

@@ -1,6 +1,5 @@
 use lib.ListN.{length}
-use Rattle.walk.specs.LoopLaws.{blank-visited, blank-length}
-use borrow.Author.Rules.{rules}
+use Rattle.walk.specs.LoopLaws.{blank-visited}
 use Rattle.walk.proofs.loops.Goals as goal
 
 -- no goal for slice-aggregate-walk-all

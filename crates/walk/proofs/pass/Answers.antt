@@ -1,9 +1,6 @@
-use mathlib.Core.Path.{◌≡◌, sym, ◌∙◌}
-use Prim.Native.Nat.{◌-◌}
-use lib.ListN.{length}
+use mathlib.Core.Path.{sym, ◌∙◌}
 use Rattle.uses.specs.Table.{usesIn}
-use Rattle.walk.specs.PassLaws.{Going, going-start, going-on, going-met, going-broken}
-use borrow.Author.Rules.{rules}
+use Rattle.walk.specs.PassLaws.{going-start, going-on, going-met, going-broken}
 use Rattle.walk.proofs.pass.Goals as goal
 
 pub loop-k-init : goal.loop-k-init

@@ -1,7 +1,6 @@
 use mathlib.Core.Path.{sym, ◌∙◌}
 use Rattle.uses.specs.Table.{usesIn}
 use Rattle.walk.specs.PassLaws.{succeeds-removed, succeeds-kept}
-use borrow.Author.Rules.{rules}
 use Rattle.walk.proofs.passing.Goals as goal
 
 pub returns-then-is_set : goal.returns-then-is_set

@@ -1,6 +1,5 @@
 use Rattle.walk.specs.RoundLaws.{successor-within, successor-past}
 use native.Mathlib.Omega.{arith}
-use borrow.Author.Rules.{rules}
 use Rattle.walk.proofs.successor.Goals as goal
 
 pub returns-then-h-succ : goal.returns-then-h-succ

@@ -1,10 +1,6 @@
-use Prim.Native.Nat.{◌-◌}
-use mathlib.Core.Path.{◌≡◌, sym, ◌∙◌}
-use lib.ListN.{length}
 use Rattle.uses.specs.Table.{usesIn}
-use Rattle.walk.specs.PassLaws.{Filled, filled-start, filled-step, filled-end}
+use Rattle.walk.specs.PassLaws.{filled-start, filled-step, filled-end}
 use native.Mathlib.Omega.{arith}
-use borrow.Author.Rules.{rules}
 use Rattle.walk.proofs.successors.Goals as goal
 
 pub loop-h-init : goal.loop-h-init

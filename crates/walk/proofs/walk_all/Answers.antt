@@ -1,10 +1,6 @@
-use Prim.Native.Nat.{◌-◌, ◌≤◌}
-use mathlib.Core.Path.{◌≡◌, refl, ◌∙◌}
-use lib.ListN.{length}
-use Rattle.walk.specs.Walks.{Walking}
+use mathlib.Core.Path.{refl, ◌∙◌}
 use Rattle.walk.specs.LoopLaws.{walking-start, walking-end}
 use native.Mathlib.Omega.{arith}
-use borrow.Author.Rules.{rules}
 use Rattle.walk.proofs.walk_all.Goals as goal
 
 pub loop-h-init : goal.loop-h-init

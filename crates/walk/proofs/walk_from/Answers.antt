@@ -1,7 +1,6 @@
 use mathlib.Core.Path.{sym, ◌∙◌}
 use Rattle.walk.specs.LoopLaws.{walking-removed, walking-visited, walking-closes, walking-room, walking-starts}
 use native.Mathlib.Omega.{arith}
-use borrow.Author.Rules.{rules}
 use Rattle.walk.proofs.walk_from.Goals as goal
 
 pub returns-then-is_set : goal.returns-then-is_set

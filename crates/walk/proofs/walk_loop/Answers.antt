@@ -1,8 +1,5 @@
-use Prim.Native.Nat.{◌-◌, ◌+◌}
-use mathlib.Core.Path.{◌≡◌, refl}
-use lib.ListN.{length}
-use Rattle.walk.specs.RoundLaws.{Rounding, rounding-start, rounding-on, rounding-stop, rounding-end}
-use borrow.Author.Rules.{rules}
+use mathlib.Core.Path.{refl}
+use Rattle.walk.specs.RoundLaws.{rounding-start, rounding-on, rounding-stop, rounding-end}
 use Rattle.walk.proofs.walk_loop.Goals as goal
 
 pub loop-p-init : goal.loop-p-init
