@@ -1,7 +1,7 @@
 /*
  * Sewing of selected faces: from a job's bytes to a body's bytes, or to the fields of a single stage.
  *
- * Link target/staticlib/libsewing_c.a, which `rt staticlib sewing_c` writes. Every function is proved to answer as the
+ * Link target/staticlib/libsewing_c.a, which `tools/build sewing_c` writes. Every function is proved to answer as the
  * rules say for every job, damaged ones too. C cannot keep these promises for its callers, so keep them yourself:
  *
  *  - a pointer to bytes is valid for the length that follows it; it may be null only if that length is 0;

@@ -1,4 +1,4 @@
-//! Links the archive that `rt staticlib sewing_c` writes.
+//! Links the archive that `tools/build sewing_c` writes.
 use std::env;
 use std::path::PathBuf;
 use std::process::exit;
@@ -23,7 +23,7 @@ fn main() {
 
 fn absent(archive: &std::path::Path) -> ! {
     eprintln!(
-        "{} is not there: run `rt staticlib sewing_c` first, or set ZAXCLOVER_LIB to the folder that has it",
+        "{} is not there: run `tools/build sewing_c` first, or set ZAXCLOVER_LIB to the folder that has it",
         archive.display()
     );
     exit(1);
