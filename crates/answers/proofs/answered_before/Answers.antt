@@ -13,7 +13,8 @@ returns-in-At c =
     let pre = c.requires in
     let question-at = c.question_at in
     let find = c.find-f in
-    before-yes a.job.now a.index.now a.c a.at pre.0 pre.1 question-at.result find.result question-at.ensures.0 question-at.ensures.1 find.ensures.0 c.in-At.field-0 c.in-At.is
+    before-yes a.job.now a.index.now a.c a.at pre.0 pre.1 question-at.result find.result question-at.ensures.0
+    question-at.ensures.1 find.ensures.0 c.in-At.field-0 c.in-At.is
 
 pub returns-in-Missing : goal.returns-in-Missing
 returns-in-Missing c =
@@ -21,4 +22,5 @@ returns-in-Missing c =
     let pre = c.requires in
     let question-at = c.question_at in
     let find = c.find-f in
-    before-no a.job.now a.index.now a.c a.at pre.0 pre.1 question-at.result find.result question-at.ensures.0 question-at.ensures.1 find.ensures.0 c.in-Missing.is
+    before-no a.job.now a.index.now a.c a.at pre.0 pre.1 question-at.result find.result question-at.ensures.0
+    question-at.ensures.1 find.ensures.0 c.in-Missing.is

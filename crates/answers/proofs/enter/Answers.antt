@@ -10,4 +10,5 @@ returns c =
     let put = c.put in
     let put2 = c.put-2 in
     let put3 = c.put-3 in
-    three-stores a.job.now a.index.now put.new.t put2.new.t put3.new.t a.k a.at bucket.result get.result question-at.result question-at.ensures.0 bucket.ensures.0 get.ensures.0 put.ensures put2.ensures put3.ensures
+    three-stores a.job.now a.index.now put.new.t put2.new.t put3.new.t a.k a.at bucket.result get.result
+    question-at.result question-at.ensures.0 bucket.ensures.0 get.ensures.0 put.ensures put2.ensures put3.ensures

@@ -16,8 +16,12 @@ returns-then-same_question c =
     let l = c.loop-i in
     let get2 = c.get-p in
     let question-at = c.question_at in
-    let same-question = c.same_question in
-    (walk-found a.job.now a.index.now a.q c.requires.1 l.i get2.result question-at.result same-question.result l.invariant c.loop-i-test.true get2.ensures.0 question-at.ensures.0 same-question.ensures c.if-same_question.true, get2.ensures.1)
+    let same-question = c.same_question in (
+      walk-found a.job.now a.index.now a.q c.requires.1 l.i get2.result question-at.result same-question.result
+          l.invariant c.loop-i-test.true get2.ensures.0 question-at.ensures.0 same-question.ensures
+          c.if-same_question.true,
+      get2.ensures.1,
+    )
 
 pub loop-i-smaller : goal.loop-i-smaller
 loop-i-smaller c =
@@ -26,7 +30,9 @@ loop-i-smaller c =
     let get2 = c.get-p in
     let question-at = c.question_at in
     let same-question = c.same_question in
-    (walk-on a.job.now a.index.now a.q c.requires.1 l.i get2.result question-at.result same-question.result l.invariant c.loop-i-test.true get2.ensures.0 question-at.ensures.0 same-question.ensures c.get-i-in-loop-i.result c.if-same_question.false c.get-i-in-loop-i.ensures.0).1
+    (walk-on a.job.now a.index.now a.q c.requires.1 l.i get2.result question-at.result same-question.result l.invariant
+    c.loop-i-test.true get2.ensures.0 question-at.ensures.0 same-question.ensures c.get-i-in-loop-i.result
+    c.if-same_question.false c.get-i-in-loop-i.ensures.0).1
 
 pub loop-i-preserved : goal.loop-i-preserved
 loop-i-preserved c =
@@ -35,7 +41,9 @@ loop-i-preserved c =
     let get2 = c.get-p in
     let question-at = c.question_at in
     let same-question = c.same_question in
-    (walk-on a.job.now a.index.now a.q c.requires.1 l.i get2.result question-at.result same-question.result l.invariant c.loop-i-test.true get2.ensures.0 question-at.ensures.0 same-question.ensures c.get-i-in-loop-i.result c.if-same_question.false c.get-i-in-loop-i.ensures.0).0
+    (walk-on a.job.now a.index.now a.q c.requires.1 l.i get2.result question-at.result same-question.result l.invariant
+    c.loop-i-test.true get2.ensures.0 question-at.ensures.0 same-question.ensures c.get-i-in-loop-i.result
+    c.if-same_question.false c.get-i-in-loop-i.ensures.0).0
 
 pub returns : goal.returns
 returns c =

@@ -41,4 +41,12 @@ returns-then-q-r-6 c =
 pub returns : goal.returns
 returns c =
     let a = c.args in
-    sym (one-equal a.q a.r (λ t. record { kind = c.if-q-r.false t; words = c.if-q-r-2.false t; a = c.if-q-r-3.false t; b = c.if-q-r-4.false t; c = c.if-q-r-5.false t; d = c.if-q-r-6.false t }))
+    sym (one-equal a.q a.r (λ t. record {
+      kind = c.if-q-r.false t;
+      words = c.if-q-r-2.false t;
+      a = c.if-q-r-3.false t;
+      b
+          = c.if-q-r-4.false t;
+      c = c.if-q-r-5.false t;
+      d = c.if-q-r-6.false t;
+    }))

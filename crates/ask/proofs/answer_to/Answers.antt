@@ -32,7 +32,8 @@ returns-in-At c =
     let pre = c.requires in
     let find = c.find-f in
     let told = c.in-At in
-    value-found a.job.now a.index.now a.c a.q find.result pre.0 pre.1 find.ensures.0 told.p c.word.result pre.2 told.is c.word.ensures.0
+    value-found a.job.now a.index.now a.c a.q find.result pre.0 pre.1 find.ensures.0 told.p c.word.result pre.2 told.is
+    c.word.ensures.0
 
 pub returns-in-Missing : goal.returns-in-Missing
 returns-in-Missing c =

@@ -8,14 +8,16 @@ pub returns-in_default : goal.returns-in_default
 returns-in_default c =
     let a = c.args in
     let recorded = c.recorded in
-    told-missing a.q.kind (find (answersIn a.job.now a.index.now a.c) a.q.kind (keyOf a.q)) recorded.result recorded.ensures c.in_default.is
+    told-missing a.q.kind (find (answersIn a.job.now a.index.now a.c) a.q.kind (keyOf a.q)) recorded.result
+    recorded.ensures c.in_default.is
 
 pub returns-in-No : goal.returns-in-No
 returns-in-No c =
     let a = c.args in
     let recorded = c.recorded in
     let told = c.in-Says in
-    told-says a.q.kind (find (answersIn a.job.now a.index.now a.c) a.q.kind (keyOf a.q)) recorded.result recorded.ensures told.v _ told.is
+    told-says a.q.kind (find (answersIn a.job.now a.index.now a.c) a.q.kind (keyOf a.q)) recorded.result
+    recorded.ensures told.v _ told.is
     (told-no a.q.kind told.v c.in-No.is)
 
 pub returns-in-Yes : goal.returns-in-Yes
@@ -23,7 +25,8 @@ returns-in-Yes c =
     let a = c.args in
     let recorded = c.recorded in
     let told = c.in-Says in
-    told-says a.q.kind (find (answersIn a.job.now a.index.now a.c) a.q.kind (keyOf a.q)) recorded.result recorded.ensures told.v _ told.is
+    told-says a.q.kind (find (answersIn a.job.now a.index.now a.c) a.q.kind (keyOf a.q)) recorded.result
+    recorded.ensures told.v _ told.is
     (told-yes a.q.kind told.v c.in-Yes.is)
 
 pub returns-in-Undecided : goal.returns-in-Undecided
@@ -31,5 +34,6 @@ returns-in-Undecided c =
     let a = c.args in
     let recorded = c.recorded in
     let told = c.in-Says in
-    told-says a.q.kind (find (answersIn a.job.now a.index.now a.c) a.q.kind (keyOf a.q)) recorded.result recorded.ensures told.v _ told.is
+    told-says a.q.kind (find (answersIn a.job.now a.index.now a.c) a.q.kind (keyOf a.q)) recorded.result
+    recorded.ensures told.v _ told.is
     (told-undecided a.q.kind told.v c.in-Undecided.is)

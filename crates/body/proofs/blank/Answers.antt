@@ -12,7 +12,11 @@ pub loop-i-smaller : goal.loop-i-smaller
 loop-i-smaller c = omega (arith, c.loop-i-test.true, c.loop-i.invariant.0)
 
 pub loop-i-preserved : goal.loop-i-preserved
-loop-i-preserved c = (length-set c.loop-i.table c.loop-i.i 0 ∙ c.loop-i.invariant.0, blank-more c.loop-i.table c.loop-i.i c.loop-i-test.true c.loop-i.invariant.1)
+loop-i-preserved c = (
+  length-set c.loop-i.table c.loop-i.i 0 ∙ c.loop-i.invariant.0,
+  blank-more c.loop-i.table c.loop-i.i
+      c.loop-i-test.true c.loop-i.invariant.1,
+)
 
 pub returns : goal.returns
 returns c = blank-all c.loop-i.table c.loop-i.i c.loop-i-test.false c.loop-i.invariant.1

@@ -25,15 +25,22 @@ returns-then-edge_active c = let a = c.args in
     let ok' = ends-at es room pre.2 a.e pre.3 in (
       omega (arith, x.ensures.0, y.ensures.0),
       λ before M.
-          subst (λ l. Meeting a.starts.now before a.at l y.new.vertices y.new.out y.result) (sym (met-active es a.e pre.3 (sym c.edge_active.ensures ∙ c.if-edge_active.true)))
-          (subst (λ k. Meeting a.starts.now before a.at (meet (meet (metBelow es a.e) (edgeDataAt es a.e).start) k) y.new.vertices y.new.out y.result) w.ensures.0
-          (y.ensures.1 before (meet (metBelow es a.e) (edgeDataAt es a.e).start) (subst (λ s. EndOk s w.result) (sym x.auto.vertices) (subst (EndOk room) (sym w.ensures.0) ok'.1))
-          (subst (λ k. Meeting a.starts.now before a.at (meet (metBelow es a.e) k) x.new.vertices x.new.out x.result) v.ensures.0
+          subst (λ l. Meeting a.starts.now before a.at l y.new.vertices y.new.out y.result)
+          (sym (met-active es a.e pre.3 (sym c.edge_active.ensures ∙ c.if-edge_active.true)))
+          (subst (λ k. Meeting a.starts.now before a.at (meet (meet (metBelow es a.e) (edgeDataAt es a.e).start) k)
+          y.new.vertices y.new.out y.result) w.ensures.0
+          (y.ensures.1 before (meet (metBelow es a.e) (edgeDataAt es a.e).start)
+          (subst (λ s. EndOk s w.result) (sym x.auto.vertices) (subst (EndOk room) (sym w.ensures.0) ok'.1))
+          (subst (λ k. Meeting a.starts.now before a.at (meet (metBelow es a.e) k) x.new.vertices x.new.out x.result)
+          v.ensures.0
           (x.ensures.1 before (metBelow es a.e) (subst (EndOk room) (sym v.ensures.0) ok'.0) M)))),
     )
 
 pub returns : goal.returns
 returns c = let a = c.args in
     let pre = c.requires in
-    let es = rowsIn a.rows.now in
-    (omega arith, λ before M. subst (λ l. Meeting a.starts.now before a.at l a.vertices.now a.out.now a.count) (sym (met-other es a.e pre.3 (sym c.edge_active.ensures ∙ c.if-edge_active.false))) M)
+    let es = rowsIn a.rows.now in (
+      omega arith,
+      λ before M. subst (λ l. Meeting a.starts.now before a.at l a.vertices.now a.out.now a.count)
+          (sym (met-other es a.e pre.3 (sym c.edge_active.ensures ∙ c.if-edge_active.false))) M,
+    )

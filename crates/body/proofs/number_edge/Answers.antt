@@ -4,20 +4,28 @@ use native.Mathlib.Omega.{arith}
 use Rattle.body.proofs.number_edge.Goals as goal
 
 pub overflow_add-count : goal.overflow_add-count
-overflow_add-count c = let a = c.args in let pre = c.requires in omega (arith, active-few (rowsIn a.rows.now) a.numbers.now a.count a.e pre.0 pre.1, pre.2)
+overflow_add-count c =
+    let a = c.args in
+    let pre = c.requires in omega (arith, active-few (rowsIn a.rows.now) a.numbers.now a.count a.e pre.0 pre.1, pre.2)
 
 pub put-requires : goal.put-requires
-put-requires c = let a = c.args in let pre = c.requires in omega (arith, active-few (rowsIn a.rows.now) a.numbers.now a.count a.e pre.0 pre.1, pre.2)
+put-requires c =
+    let a = c.args in
+    let pre = c.requires in omega (arith, active-few (rowsIn a.rows.now) a.numbers.now a.count a.e pre.0 pre.1, pre.2)
 
 pub overflow_add-result : goal.overflow_add-result
-overflow_add-result c = let a = c.args in let pre = c.requires in omega (arith, active-few (rowsIn a.rows.now) a.numbers.now a.count a.e pre.0 pre.1, pre.2)
+overflow_add-result c =
+    let a = c.args in
+    let pre = c.requires in omega (arith, active-few (rowsIn a.rows.now) a.numbers.now a.count a.e pre.0 pre.1, pre.2)
 
 pub returns-then-edge_active : goal.returns-then-edge_active
 returns-then-edge_active c = let a = c.args in
     let pre = c.requires in
-    numbered-active (rowsIn a.rows.now) a.numbers.now a.count a.e pre.0 pre.1 c.edge_active.result c.put.new.t pre.3 c.edge_active.ensures c.if-edge_active.true c.put.ensures
+    numbered-active (rowsIn a.rows.now) a.numbers.now a.count a.e pre.0 pre.1 c.edge_active.result c.put.new.t pre.3
+    c.edge_active.ensures c.if-edge_active.true c.put.ensures
 
 pub returns : goal.returns
 returns c = let a = c.args in
     let pre = c.requires in
-    numbered-other (rowsIn a.rows.now) a.numbers.now a.count a.e pre.0 pre.1 c.edge_active.result c.edge_active.ensures c.if-edge_active.false
+    numbered-other (rowsIn a.rows.now) a.numbers.now a.count a.e pre.0 pre.1 c.edge_active.result c.edge_active.ensures
+    c.if-edge_active.false

@@ -7,7 +7,9 @@ use Rattle.body.specs.Vertices.{activeBelow}
 use Rattle.body.proofs.number_edges.Given as goal
 
 abbrev pub invariant-loop-e : goal.invariant-loop-e
-invariant-loop-e l = (l.e ≤ length l.rows / 7) × (l.n ≡ length l.rows / 7) × Numbering (activeBelow (rowsIn l.rows) l.e) l.numbers l.count × (length l.numbers ≡ length l.initial.numbers)
+invariant-loop-e l =
+    (l.e ≤ length l.rows / 7) × (l.n ≡ length l.rows / 7) × Numbering (activeBelow (rowsIn l.rows) l.e) l.numbers
+    l.count × (length l.numbers ≡ length l.initial.numbers)
 
 abbrev pub decreases-loop-e : goal.decreases-loop-e
 decreases-loop-e l = l.n - l.e

@@ -8,7 +8,9 @@ use Rattle.body.specs.Writing.{Rowed}
 use Rattle.body.proofs.put_edges.Given as goal
 
 abbrev pub invariant-loop-e : goal.invariant-loop-e
-invariant-loop-e l = (l.e ≤ length l.rows / 7) × (l.n ≡ length l.rows / 7) × Rowed (λ k. edgeRow l.vertices l.count (edgeDataAt (rowsIn l.rows) k)) 22 l.initial.out l.at l.out l.p l.e
+invariant-loop-e l =
+    (l.e ≤ length l.rows / 7) × (l.n ≡ length l.rows / 7) × Rowed
+    (λ k. edgeRow l.vertices l.count (edgeDataAt (rowsIn l.rows) k)) 22 l.initial.out l.at l.out l.p l.e
 
 abbrev pub decreases-loop-e : goal.decreases-loop-e
 decreases-loop-e l = l.n - l.e

@@ -10,18 +10,34 @@ use native.Mathlib.Omega.{arith}
 use Rattle.body.proofs.put_items.Goals as goal
 
 pub loop-i-init : goal.loop-i-init
-loop-i-init c = let a = c.args in (omega arith, rowed-start (λ k. fieldBytes (itemRow a.numbers.now a.count (get_or a.part.now k 0))) 8 a.out.now a.at)
+loop-i-init c =
+    let a = c.args in (
+      omega arith,
+      rowed-start (λ k. fieldBytes (itemRow a.numbers.now a.count (get_or a.part.now k 0))) 8 a.out.now
+          a.at,
+    )
 
 pub put_item-p-requires : goal.put_item-p-requires
-put_item-p-requires c = let l = c.loop-i in omega (arith, c.requires.0, c.requires.1, l.invariant.0, l.invariant.1.small)
+put_item-p-requires c =
+    let l = c.loop-i in omega (arith, c.requires.0, c.requires.1, l.invariant.0, l.invariant.1.small)
 
 pub loop-i-preserved : goal.loop-i-preserved
 loop-i-preserved c = let a = c.args in
     let l = c.loop-i in
-    let x = c.put_item-p in
-    (omega (arith, c.loop-i-test.true), rowed-step (λ k. fieldBytes (itemRow a.numbers.now a.count (get_or a.part.now k 0))) 8 a.out.now a.at l.out x.new.out l.p l.i x.result l.invariant.1 (subst (λ v. Wrote l.out l.p (fieldBytes (itemRow a.numbers.now a.count v)) x.new.out x.result) c.get-x.ensures.0 x.ensures.0) x.ensures.1)
+    let x = c.put_item-p in (
+      omega (arith, c.loop-i-test.true),
+      rowed-step (λ k. fieldBytes
+          (itemRow a.numbers.now a.count (get_or a.part.now k 0))) 8 a.out.now a.at l.out x.new.out l.p l.i x.result
+          l.invariant.1 (subst (λ v. Wrote l.out l.p (fieldBytes (itemRow a.numbers.now a.count v)) x.new.out x.result)
+          c.get-x.ensures.0 x.ensures.0) x.ensures.1,
+    )
 
 pub returns : goal.returns
 returns c = let a = c.args in
-    let l = c.loop-i in
-    (rowed-end (λ k. fieldBytes (itemRow a.numbers.now a.count (get_or a.part.now k 0))) 8 a.out.now a.at (fieldBytes (flat_map (itemRow a.numbers.now a.count) a.part.now)) l.out l.p l.i l.invariant.1 (item-rows a.numbers.now a.count a.part.now l.i (omega (arith, l.invariant.0, c.loop-i-test.false))), omega (arith, l.invariant.0, l.invariant.1.small, c.requires.1))
+    let l = c.loop-i in (
+      rowed-end (λ k. fieldBytes (itemRow a.numbers.now a.count (get_or a.part.now k 0))) 8 a.out.now a.at
+          (fieldBytes (flat_map (itemRow a.numbers.now a.count) a.part.now)) l.out l.p l.i l.invariant.1
+          (item-rows a.numbers.now a.count a.part.now l.i (omega (arith, l.invariant.0, c.loop-i-test.false))),
+      omega
+          (arith, l.invariant.0, l.invariant.1.small, c.requires.1),
+    )

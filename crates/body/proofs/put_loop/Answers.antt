@@ -6,7 +6,12 @@ use native.Mathlib.Omega.{arith}
 use Rattle.body.proofs.put_loop.Goals as goal
 
 pub returns-then-get-f : goal.returns-then-get-f
-returns-then-get-f c = let a = c.args in (loop-skipped a.numbers.now a.count a.items.now a.stretches.now a.faces.now a.f a.out.now a.at a.k c.get.result c.get.ensures.0 c.if-get-f.true, omega arith)
+returns-then-get-f c =
+    let a = c.args in (
+      loop-skipped a.numbers.now a.count a.items.now a.stretches.now a.faces.now a.f a.out.now a.at a.k c.get.result
+          c.get.ensures.0 c.if-get-f.true,
+      omega arith,
+    )
 
 -- was overflow-mul-get: check which goal
 pub overflow_mul-k : goal.overflow_mul-k
@@ -81,8 +86,15 @@ put_head-p-requires c = let a = c.args in
 pub put_items-requires : goal.put_items-requires
 put_items-requires c = let a = c.args in
     let z = c.requires.1 in
-    let h = c.put_head-p in
-    (omega (arith, c.requires.0, after-head a.out.now h.new.out a.at h.result 25 (2 * (c.get-e.result - c.get-a.result)) h.ensures), part-short a.items.now (c.get-e.result - c.get-a.result) c.get-a.result z.few-items)
+    let h = c.put_head-p in (
+      omega (
+        arith,
+        c.requires.0,
+        after-head a.out.now h.new.out a.at h.result 25 (2 * (c.get-e.result - c.get-a.result))
+            h.ensures,
+      ),
+      part-short a.items.now (c.get-e.result - c.get-a.result) c.get-a.result z.few-items,
+    )
 
 pub returns : goal.returns
 returns c = let a = c.args in
@@ -92,5 +104,10 @@ returns c = let a = c.args in
     let h = c.put_head-p in
     let x = c.put_items in
     let s = c.get-a in
-    let e = c.get-e in
-    (loop-wrote a.numbers.now a.count a.items.now a.stretches.now a.faces.now a.f a.out.now h.new.out x.new.out a.at h.result x.result a.k c.get.result s.result e.result c.get.ensures.0 c.if-get-f.false s.ensures.0 e.ensures.0 (omega (arith, inside, e.ensures.0)) h.ensures x.ensures.0, omega (arith, x.ensures.1, after-head a.out.now h.new.out a.at h.result 25 (2 * (e.result - s.result)) h.ensures))
+    let e = c.get-e in (
+      loop-wrote a.numbers.now a.count a.items.now a.stretches.now a.faces.now a.f a.out.now h.new.out x.new.out a.at
+          h.result x.result a.k c.get.result s.result e.result c.get.ensures.0 c.if-get-f.false s.ensures.0 e.ensures.0
+          (omega (arith, inside, e.ensures.0)) h.ensures x.ensures.0,
+      omega
+          (arith, x.ensures.1, after-head a.out.now h.new.out a.at h.result 25 (2 * (e.result - s.result)) h.ensures),
+    )

@@ -5,7 +5,9 @@ use Rattle.body.specs.Rows.{loopRow}
 use Rattle.body.proofs.put_loops.Given as goal
 
 abbrev pub invariant-loop-k : goal.invariant-loop-k
-invariant-loop-k l = (l.k ≤ length l.faces) × Rowed (loopRow l.items l.stretches l.faces l.numbers l.count l.f) 16390 l.initial.out l.at l.out l.p l.k
+invariant-loop-k l =
+    (l.k ≤ length l.faces) × Rowed (loopRow l.items l.stretches l.faces l.numbers l.count l.f) 16390 l.initial.out l.at
+    l.out l.p l.k
 
 abbrev pub decreases-loop-k : goal.decreases-loop-k
 decreases-loop-k l = length l.faces - l.k

@@ -10,19 +10,34 @@ use native.Mathlib.Omega.{arith}
 use Rattle.body.proofs.put_lumps.Goals as goal
 
 pub loop-k-init : goal.loop-k-init
-loop-k-init c = let a = c.args in (omega arith, rowed-start (lumpRow a.boundaries.now a.members.now a.table.now a.n) 264716 a.out.now a.at)
+loop-k-init c =
+    let a = c.args in
+    (omega arith, rowed-start (lumpRow a.boundaries.now a.members.now a.table.now a.n) 264716 a.out.now a.at)
 
 pub put_lump-p-requires : goal.put_lump-p-requires
-put_lump-p-requires c = let l = c.loop-k in (omega (arith, c.requires.0, c.requires.2, l.invariant.0, l.invariant.1.small), c.requires.1, c.requires.2, omega (arith, c.requires.2, c.loop-k-test.true))
+put_lump-p-requires c =
+    let l = c.loop-k in (
+      omega (arith, c.requires.0, c.requires.2, l.invariant.0, l.invariant.1.small),
+      c.requires.1,
+      c.requires.2,
+      omega
+          (arith, c.requires.2, c.loop-k-test.true),
+    )
 
 pub loop-k-preserved : goal.loop-k-preserved
 loop-k-preserved c = let a = c.args in
     let l = c.loop-k in
-    let x = c.put_lump-p in
-    (omega (arith, c.loop-k-test.true), rowed-step (lumpRow a.boundaries.now a.members.now a.table.now a.n) 264716 a.out.now a.at l.out x.new.out l.p l.k x.result l.invariant.1 x.ensures.0 x.ensures.1)
+    let x = c.put_lump-p in (
+      omega (arith, c.loop-k-test.true),
+      rowed-step (lumpRow a.boundaries.now a.members.now a.table.now a.n) 264716
+          a.out.now a.at l.out x.new.out l.p l.k x.result l.invariant.1 x.ensures.0 x.ensures.1,
+    )
 
 pub returns : goal.returns
 returns c = let a = c.args in
     let l = c.loop-k in
-    let wrote = rowed-end (lumpRow a.boundaries.now a.members.now a.table.now a.n) 264716 a.out.now a.at (framedAll (flat_map lumpRecords (lumps (nestedIn a.boundaries.now a.members.now a.n a.table.now)))) l.out l.p l.k l.invariant.1 (lump-rows a.boundaries.now a.members.now a.table.now a.n l.k (omega (arith, l.invariant.0, c.loop-k-test.false))) in
+    let wrote = rowed-end (lumpRow a.boundaries.now a.members.now a.table.now a.n) 264716 a.out.now a.at
+    (framedAll (flat_map lumpRecords (lumps (nestedIn a.boundaries.now a.members.now a.n a.table.now)))) l.out l.p
+    l.k l.invariant.1 (lump-rows a.boundaries.now a.members.now a.table.now a.n l.k
+    (omega (arith, l.invariant.0, c.loop-k-test.false))) in
     wrote

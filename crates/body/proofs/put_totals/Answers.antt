@@ -11,7 +11,9 @@ put_two-q-requires c =
 
 pub put_two-s-requires : goal.put_two-s-requires
 put_two-s-requires c =
-    let a = c.args in let u = c.put_head-p in omega (arith, after-head a.out.now u.new.out 0 u.result 21 7 u.ensures, c.put_two-q.ensures.1)
+    let a = c.args in
+    let u = c.put_head-p in
+    omega (arith, after-head a.out.now u.new.out 0 u.result 21 7 u.ensures, c.put_two-q.ensures.1)
 
 pub put_two-u-requires : goal.put_two-u-requires
 put_two-u-requires c =
@@ -41,13 +43,20 @@ returns c =
     let y = c.put_two-s in
     let z = c.put_two-u in
     let v = c.put_word in
-    let xy = wrote-both (a.solid ∷ t.uses ∷ []) (t.removed ∷ t.passed ∷ []) u.new.out x.new.out y.new.out u.result x.result y.result x.ensures.0 y.ensures.0 in
+    let xy = wrote-both (a.solid ∷ t.uses ∷ []) (t.removed ∷ t.passed ∷ []) u.new.out x.new.out y.new.out u.result
+    x.result y.result x.ensures.0 y.ensures.0 in
     let xyz =
-    wrote-both (a.solid ∷ t.uses ∷ t.removed ∷ t.passed ∷ []) (t.joins ∷ t.rings ∷ []) u.new.out y.new.out z.new.out u.result y.result z.result xy z.ensures.0 in
-    let all = wrote-both (a.solid ∷ t.uses ∷ t.removed ∷ t.passed ∷ t.joins ∷ t.rings ∷ []) (t.merges ∷ []) u.new.out z.new.out v.new.out u.result
+    wrote-both (a.solid ∷ t.uses ∷ t.removed ∷ t.passed ∷ []) (t.joins ∷ t.rings ∷ []) u.new.out y.new.out z.new.out
+    u.result y.result z.result xy z.ensures.0 in
+    let all = wrote-both (a.solid ∷ t.uses ∷ t.removed ∷ t.passed ∷ t.joins ∷ t.rings ∷ []) (t.merges ∷ []) u.new.out
+    z.new.out v.new.out u.result
     z.result v.result xyz (wrote-one z.new.out v.new.out z.result t.merges v.result v.ensures) in
     let fields = a.solid ∷ t.uses ∷ t.removed ∷ t.passed ∷ t.joins ∷ t.rings ∷ t.merges ∷ [] in (
       wrote-record fields a.out.now u.new.out v.new.out 0 u.result v.result 21 7 refl u.ensures all,
-      omega
-          (arith, after-head a.out.now u.new.out 0 u.result 21 7 u.ensures, place-after fields u.new.out v.new.out u.result v.result all),
+      omega (
+        arith,
+        after-head a.out.now u.new.out 0 u.result 21 7 u.ensures,
+        place-after fields u.new.out v.new.out
+            u.result v.result all,
+      ),
     )

@@ -9,5 +9,8 @@ put_word-requires c = omega (arith, c.put_word-p.ensures.1, length-bytes32 c.arg
 pub returns : goal.returns
 returns c = let a = c.args in
     let u = c.put_word-p in
-    let w = c.put_word in
-    (two-fields a.out.now u.new.out w.new.out a.at a.a a.b u.result w.result u.ensures w.ensures, omega (arith, u.ensures.1, w.ensures.1, length-bytes32 a.a, length-bytes32 a.b))
+    let w = c.put_word in (
+      two-fields a.out.now u.new.out w.new.out a.at a.a a.b u.result w.result u.ensures w.ensures,
+      omega
+          (arith, u.ensures.1, w.ensures.1, length-bytes32 a.a, length-bytes32 a.b),
+    )

@@ -6,7 +6,18 @@ use native.Mathlib.Omega.{arith}
 use Rattle.body.proofs.put_vertices_and_edges.Goals as goal
 
 pub put_vertices-count-requires : goal.put_vertices-count-requires
-put_vertices-count-requires c = (omega arith, c.requires.0, subst (λ s. EndsOk s (rowsIn c.args.rows.now)) (sym c.blank.auto.table) c.requires.1, c.blank.ensures)
+put_vertices-count-requires c = (
+  omega arith,
+  c.requires.0,
+  subst (λ s. EndsOk s (rowsIn c.args.rows.now)) (sym c.blank.auto.table) c.requires.1,
+  c.blank.ensures,
+)
 
 pub returns : goal.returns
-returns c = (vertices-and-edges-wrote c.args.starts.now c.args.out.now c.put_vertices-count.new.out c.put_edges.new.out c.put_vertices-count.new.vertices (rowsIn c.args.rows.now) c.put_vertices-count.result c.put_edges.result c.put_vertices-count.ensures.1 c.put_edges.ensures.0, omega (arith, c.put_vertices-count.ensures.0, c.put_edges.ensures.1))
+returns c = (
+  vertices-and-edges-wrote c.args.starts.now c.args.out.now c.put_vertices-count.new.out c.put_edges.new.out
+      c.put_vertices-count.new.vertices (rowsIn c.args.rows.now) c.put_vertices-count.result c.put_edges.result
+      c.put_vertices-count.ensures.1 c.put_edges.ensures.0,
+  omega
+      (arith, c.put_vertices-count.ensures.0, c.put_edges.ensures.1),
+)

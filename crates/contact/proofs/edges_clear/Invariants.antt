@@ -8,7 +8,9 @@ use Rattle.uses.specs.Table.{usesIn}
 use Rattle.contact.proofs.edges_clear.Given as goal
 
 abbrev pub invariant-loop-e : goal.invariant-loop-e
-invariant-loop-e l = (l.e ≤ length l.firsts) × (length l.stamps ≡ 256) × Stale l.stamps l.e × NoneBelow (edgeTouches (usesIn l.uses) l.twins l.labels) l.e
+invariant-loop-e l =
+    (l.e ≤ length l.firsts) × (length l.stamps ≡ 256) × Stale l.stamps l.e × NoneBelow
+    (edgeTouches (usesIn l.uses) l.twins l.labels) l.e
 
 abbrev pub decreases-loop-e : goal.decreases-loop-e
 decreases-loop-e l = length l.firsts - l.e

@@ -9,8 +9,11 @@ pub loop-i-init : goal.loop-i-init
 loop-i-init c =
     let a = c.args in
     let pre = c.requires in
-    let get-call = c.get-i in
-    (refl, meeting-start (usesIn a.uses.now) a.twins.now a.labels.now a.firsts.now a.nexts.now pre.0 a.stamps.now a.e get-call.result pre.2 get-call.ensures.0 pre.4 pre.5)
+    let get-call = c.get-i in (
+      refl,
+      meeting-start (usesIn a.uses.now) a.twins.now a.labels.now a.firsts.now a.nexts.now pre.0 a.stamps.now a.e
+          get-call.result pre.2 get-call.ensures.0 pre.4 pre.5,
+    )
 
 pub returns-then-meet : goal.returns-then-meet
 returns-then-meet c =
@@ -18,8 +21,14 @@ returns-then-meet c =
     let pre = c.requires in
     let l = c.loop-i in
     let loop-test-call = c.loop-i-test in
-    let meet-call = c.meet in
-    (meeting-stop (usesIn a.uses.now) a.twins.now a.labels.now a.firsts.now a.nexts.now pre.0 l.stamps a.e l.i l.invariant.1 pre.1 loop-test-call.true meet-call.result meet-call.new.stamps meet-call.ensures.0 meet-call.ensures.1 c.if-meet.true, meeting-stale (usesIn a.uses.now) a.twins.now a.labels.now a.firsts.now a.nexts.now pre.0 l.stamps a.e l.i l.invariant.1 pre.1 loop-test-call.true meet-call.result meet-call.new.stamps meet-call.ensures.0 meet-call.ensures.1)
+    let meet-call = c.meet in (
+      meeting-stop (usesIn a.uses.now) a.twins.now a.labels.now a.firsts.now a.nexts.now pre.0 l.stamps a.e l.i
+          l.invariant.1 pre.1 loop-test-call.true meet-call.result meet-call.new.stamps meet-call.ensures.0
+          meet-call.ensures.1 c.if-meet.true,
+      meeting-stale (usesIn a.uses.now) a.twins.now a.labels.now a.firsts.now
+          a.nexts.now pre.0 l.stamps a.e l.i l.invariant.1 pre.1 loop-test-call.true meet-call.result meet-call.new.stamps
+          meet-call.ensures.0 meet-call.ensures.1,
+    )
 
 pub loop-i-smaller : goal.loop-i-smaller
 loop-i-smaller c = omega (arith, c.requires.0.falling (c.loop-i.i - 1), c.get-i-in-loop-i.ensures.0)
@@ -30,11 +39,18 @@ loop-i-preserved c =
     let a = c.args in
     let pre = c.requires in
     let meet-call = c.meet in
-    let get2-call = c.get-i-in-loop-i in
-    (c.stamps-1.given ∙ l.invariant.0, meeting-step (usesIn a.uses.now) a.twins.now a.labels.now a.firsts.now a.nexts.now pre.0 l.stamps a.e l.i l.invariant.1 pre.1 c.loop-i-test.true meet-call.result meet-call.new.stamps meet-call.ensures.0 meet-call.ensures.1 get2-call.result c.if-meet.false get2-call.ensures.0)
+    let get2-call = c.get-i-in-loop-i in (
+      c.stamps-1.given ∙ l.invariant.0,
+      meeting-step (usesIn a.uses.now) a.twins.now a.labels.now a.firsts.now
+          a.nexts.now pre.0 l.stamps a.e l.i l.invariant.1 pre.1 c.loop-i-test.true meet-call.result meet-call.new.stamps
+          meet-call.ensures.0 meet-call.ensures.1 get2-call.result c.if-meet.false get2-call.ensures.0,
+    )
 
 pub returns : goal.returns
 returns c =
     let a = c.args in
-    let l = c.loop-i in
-    (meeting-end (usesIn a.uses.now) a.twins.now a.labels.now a.firsts.now a.nexts.now c.requires.0 l.stamps a.e l.i l.invariant.1 c.loop-i-test.false, l.invariant.1.stale)
+    let l = c.loop-i in (
+      meeting-end (usesIn a.uses.now) a.twins.now a.labels.now a.firsts.now a.nexts.now c.requires.0 l.stamps a.e l.i
+          l.invariant.1 c.loop-i-test.false,
+      l.invariant.1.stale,
+    )

@@ -7,7 +7,10 @@ use Rattle.contact.specs.Buckets.{Bucketed}
 use Rattle.contact.proofs.points_chained.Given as goal
 
 abbrev pub invariant-loop-k : goal.invariant-loop-k
-invariant-loop-k l = (l.k ≤ length l.names) × (length l.heads ≡ length l.initial.heads) × (length l.nexts ≡ length l.initial.nexts) × Bucketed (length l.heads) l.starts l.names l.heads l.nexts l.k × LowestAt (usesIn l.uses) l.starts l.labels l.names l.k l.lowest
+invariant-loop-k l =
+    (l.k ≤ length l.names) × (length l.heads ≡ length l.initial.heads) × (length l.nexts ≡ length l.initial.nexts) ×
+    Bucketed (length l.heads) l.starts l.names l.heads l.nexts l.k × LowestAt (usesIn l.uses) l.starts l.labels
+    l.names l.k l.lowest
 
 abbrev pub decreases-loop-k : goal.decreases-loop-k
 decreases-loop-k l = length l.names - l.k

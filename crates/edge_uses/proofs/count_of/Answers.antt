@@ -19,7 +19,8 @@ loop-i-preserved c =
     let l = c.loop-i in
     let next = nextUse c.args.nexts.now in (
       omega (arith, pre (l.i - 1)),
-      count-more next (pre) l.n l.i c.get-i-in-loop-i.result (length (chain next c.get-i.result)) l.invariant.1 c.loop-i-test.true c.get-i-in-loop-i.ensures.0,
+      count-more next (pre) l.n l.i c.get-i-in-loop-i.result (length (chain next c.get-i.result)) l.invariant.1
+          c.loop-i-test.true c.get-i-in-loop-i.ensures.0,
     )
 
 pub returns : goal.returns
@@ -28,4 +29,5 @@ returns c =
     let l = c.loop-i in
     let a = c.args in
     let next = nextUse a.nexts.now in
-    count-all next l.n l.i (length (chain next get-call.result)) l.invariant.1 c.loop-i-test.false ∙ ap (λ i. length (chain next i)) get-call.ensures.0
+    count-all next l.n l.i (length (chain next get-call.result)) l.invariant.1 c.loop-i-test.false ∙ ap
+    (λ i. length (chain next i)) get-call.ensures.0

@@ -6,7 +6,9 @@ use Prim.Native.Nat.{◌+◌, ◌≤◌}
 use Rattle.edge_uses.proofs.count_of.Given as goal
 
 abbrev pub invariant-loop-i : goal.invariant-loop-i
-invariant-loop-i l = (l.n + l.i ≤ l.initial.i) × (l.n + length (chain (nextUse l.nexts) l.i) ≡ length (chain (nextUse l.nexts) l.initial.i))
+invariant-loop-i l =
+    (l.n + l.i ≤ l.initial.i) × (l.n + length (chain (nextUse l.nexts) l.i) ≡ length
+    (chain (nextUse l.nexts) l.initial.i))
 
 abbrev pub decreases-loop-i : goal.decreases-loop-i
 decreases-loop-i l = l.i

@@ -23,7 +23,9 @@ loop-h-preserved c =
       omega arith,
       c.firsts-1.given ∙ l.invariant.1,
       c.nexts-1.given ∙ l.invariant.2,
-      linked-step (usesIn a.uses.now) l.firsts l.nexts put2-call.new.t put-call.new.t l.h use-edge-call.result get-call.result l.invariant.3 (omega arith) c.loop-h-test.true use-edge-call.ensures.0 get-call.ensures.0 put-call.ensures put2-call.ensures,
+      linked-step (usesIn a.uses.now) l.firsts l.nexts put2-call.new.t put-call.new.t l.h use-edge-call.result
+          get-call.result l.invariant.3 (omega arith) c.loop-h-test.true use-edge-call.ensures.0 get-call.ensures.0
+          put-call.ensures put2-call.ensures,
     )
 
 pub returns : goal.returns

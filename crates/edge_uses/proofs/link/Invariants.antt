@@ -6,7 +6,9 @@ use Prim.Native.Nat.{◌-◌, ◌≤◌}
 use Rattle.edge_uses.proofs.link.Given as goal
 
 abbrev pub invariant-loop-h : goal.invariant-loop-h
-invariant-loop-h l = (l.h ≤ length l.initial.nexts) × (length l.firsts ≡ length l.initial.firsts) × (length l.nexts ≡ length l.initial.nexts) × Linked (take l.h (usesIn l.uses)) l.firsts (take l.h l.nexts)
+invariant-loop-h l =
+    (l.h ≤ length l.initial.nexts) × (length l.firsts ≡ length l.initial.firsts) ×
+    (length l.nexts ≡ length l.initial.nexts) × Linked (take l.h (usesIn l.uses)) l.firsts (take l.h l.nexts)
 
 abbrev pub decreases-loop-h : goal.decreases-loop-h
 decreases-loop-h l = length l.initial.nexts - l.h

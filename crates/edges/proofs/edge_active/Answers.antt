@@ -6,7 +6,8 @@ use Rattle.edges.proofs.edge_active.Goals as goal
 
 pub returns-then-e-rows : goal.returns-then-e-rows
 unfolding edgeOf
-returns-then-e-rows c = ap (λ n. eqb n 1) c.get.ensures.0 ∙ sym (ap (λ x. x.active) (row-at c.args.rows.now c.args.e c.if-e-rows.true))
+returns-then-e-rows c =
+    ap (λ n. eqb n 1) c.get.ensures.0 ∙ sym (ap (λ x. x.active) (row-at c.args.rows.now c.args.e c.if-e-rows.true))
 
 pub returns : goal.returns
 returns c = sym (ap (λ x. x.active) (row-past c.args.rows.now c.args.e c.if-e-rows.false))

@@ -6,7 +6,8 @@ use Rattle.edges.proofs.edge_end.Goals as goal
 
 pub returns-then-e-rows : goal.returns-then-e-rows
 unfolding edgeOf
-returns-then-e-rows c = (c.get.ensures.0 ∙ sym (ap (λ x. x.end) (row-at c.args.rows.now c.args.e c.if-e-rows.true)), c.get.ensures.1)
+returns-then-e-rows c =
+    (c.get.ensures.0 ∙ sym (ap (λ x. x.end) (row-at c.args.rows.now c.args.e c.if-e-rows.true)), c.get.ensures.1)
 
 pub returns : goal.returns
 returns c = (sym (ap (λ x. x.end) (row-past c.args.rows.now c.args.e c.if-e-rows.false)), omega arith)

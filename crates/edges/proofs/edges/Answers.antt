@@ -11,7 +11,17 @@ pub loop-h-init : goal.loop-h-init
 loop-h-init c = so-far-none _ _ _ _ _ _ refl
 
 pub add_edge-count-requires : goal.add_edge-count-requires
-add_edge-count-requires c = (c.requires.0, c.requires.1, omega (arith, c.requires.3, c.loop-h-test.true), so-far-few c.args.twins.now c.args.removed.now (edgeData (edgesIn c.args.job.now c.args.c) (usesIn c.args.uses.now) c.args.twins.now c.args.numbers.now c.args.succ.now c.args.fans.now) (two-faces (edgesIn c.args.job.now c.args.c) (usesIn c.args.uses.now) c.args.twins.now c.args.numbers.now c.args.succ.now c.args.fans.now) c.requires.2 c.args.owns.now c.requires.4 (length c.args.rows.now) c.requires.5 c.loop-h.rows c.loop-h.owns c.loop-h.count c.loop-h.h c.loop-h.invariant c.loop-h-test.true)
+add_edge-count-requires c = (
+  c.requires.0,
+  c.requires.1,
+  omega (arith, c.requires.3, c.loop-h-test.true),
+  so-far-few c.args.twins.now
+      c.args.removed.now (edgeData (edgesIn c.args.job.now c.args.c) (usesIn c.args.uses.now) c.args.twins.now
+      c.args.numbers.now c.args.succ.now c.args.fans.now)
+      (two-faces (edgesIn c.args.job.now c.args.c) (usesIn c.args.uses.now) c.args.twins.now c.args.numbers.now
+      c.args.succ.now c.args.fans.now) c.requires.2 c.args.owns.now c.requires.4 (length c.args.rows.now) c.requires.5
+      c.loop-h.rows c.loop-h.owns c.loop-h.count c.loop-h.h c.loop-h.invariant c.loop-h-test.true,
+)
 
 pub overflow_add-h : goal.overflow_add-h
 overflow_add-h c = omega arith
@@ -20,7 +30,16 @@ pub loop-h-smaller : goal.loop-h-smaller
 loop-h-smaller c = omega arith
 
 pub loop-h-preserved : goal.loop-h-preserved
-loop-h-preserved c = so-far-step c.args.twins.now c.args.removed.now (edgeData (edgesIn c.args.job.now c.args.c) (usesIn c.args.uses.now) c.args.twins.now c.args.numbers.now c.args.succ.now c.args.fans.now) (two-faces (edgesIn c.args.job.now c.args.c) (usesIn c.args.uses.now) c.args.twins.now c.args.numbers.now c.args.succ.now c.args.fans.now) c.requires.2 c.args.owns.now c.requires.4 (length c.args.rows.now) c.requires.5 c.loop-h.rows c.loop-h.owns c.add_edge-count.new.rows c.add_edge-count.new.owns c.loop-h.count c.loop-h.h c.add_edge-count.result c.loop-h.invariant c.loop-h-test.true c.add_edge-count.ensures
+loop-h-preserved c =
+    so-far-step c.args.twins.now c.args.removed.now (edgeData (edgesIn c.args.job.now c.args.c) (usesIn c.args.uses.now)
+    c.args.twins.now c.args.numbers.now c.args.succ.now c.args.fans.now)
+    (two-faces (edgesIn c.args.job.now c.args.c) (usesIn c.args.uses.now) c.args.twins.now c.args.numbers.now
+    c.args.succ.now c.args.fans.now) c.requires.2 c.args.owns.now c.requires.4 (length c.args.rows.now) c.requires.5
+    c.loop-h.rows c.loop-h.owns c.add_edge-count.new.rows c.add_edge-count.new.owns c.loop-h.count c.loop-h.h
+    c.add_edge-count.result c.loop-h.invariant c.loop-h-test.true c.add_edge-count.ensures
 
 pub returns : goal.returns
-returns c = made (edgesIn c.args.job.now c.args.c) (usesIn c.args.uses.now) c.args.twins.now c.args.removed.now c.args.numbers.now c.args.succ.now c.args.fans.now c.args.owns.now (length c.args.rows.now) c.loop-h.rows c.loop-h.owns c.loop-h.count c.loop-h.h c.loop-h.invariant c.loop-h-test.false
+returns c =
+    made (edgesIn c.args.job.now c.args.c) (usesIn c.args.uses.now) c.args.twins.now c.args.removed.now
+    c.args.numbers.now c.args.succ.now c.args.fans.now c.args.owns.now (length c.args.rows.now) c.loop-h.rows
+    c.loop-h.owns c.loop-h.count c.loop-h.h c.loop-h.invariant c.loop-h-test.false

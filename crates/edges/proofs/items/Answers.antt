@@ -18,7 +18,13 @@ pub loop-i-smaller : goal.loop-i-smaller
 loop-i-smaller c = omega arith
 
 pub loop-i-preserved : goal.loop-i-preserved
-loop-i-preserved c = (items-step (usesIn c.args.uses.now) c.args.owns.now c.args.ways.now c.loop-i.ways c.put.new.t c.loop-i.i c.get-h.result c.item_of-x.result (omega (arith, c.loop-i.invariant.2, c.loop-i-test.true)) c.loop-i.invariant.0 c.get-h.ensures.0 c.item_of-x.ensures.0 c.put.ensures, omega (arith, c.loop-i.invariant.2, c.loop-i-test.true), c.put.auto.t ∙ c.loop-i.invariant.2)
+loop-i-preserved c = (
+  items-step (usesIn c.args.uses.now) c.args.owns.now c.args.ways.now c.loop-i.ways c.put.new.t c.loop-i.i
+      c.get-h.result c.item_of-x.result (omega (arith, c.loop-i.invariant.2, c.loop-i-test.true)) c.loop-i.invariant.0
+      c.get-h.ensures.0 c.item_of-x.ensures.0 c.put.ensures,
+  omega (arith, c.loop-i.invariant.2, c.loop-i-test.true),
+  c.put.auto.t ∙ c.loop-i.invariant.2,
+)
 
 pub returns : goal.returns
 returns c = c.loop-i.invariant.0 ∙ mapped-done _ c.loop-i.i _ (omega (arith, c.loop-i-test.false, c.loop-i.invariant.2))

@@ -7,7 +7,9 @@ use lib.ListN.{length}
 use Rattle.edges.proofs.items.Given as goal
 
 abbrev pub invariant-loop-i : goal.invariant-loop-i
-invariant-loop-i l = (l.ways ≡ mappedTo (itemCode (usesIn l.uses) l.owns) l.i l.initial.ways) × (l.i ≤ length l.initial.ways) × (length l.ways ≡ length l.initial.ways)
+invariant-loop-i l =
+    (l.ways ≡ mappedTo (itemCode (usesIn l.uses) l.owns) l.i l.initial.ways) × (l.i ≤ length l.initial.ways) ×
+    (length l.ways ≡ length l.initial.ways)
 
 abbrev pub decreases-loop-i : goal.decreases-loop-i
 decreases-loop-i l = length l.initial.ways - l.i

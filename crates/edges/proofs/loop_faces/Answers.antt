@@ -19,7 +19,11 @@ pub loop-k-smaller : goal.loop-k-smaller
 loop-k-smaller c = omega arith
 
 pub loop-k-preserved : goal.loop-k-preserved
-loop-k-preserved c = filled-more _ c.args.faces.now c.loop-k.faces c.put.new.t c.loop-k.k c.get-f.result c.loop-k.invariant (omega (arith, c.loop-k.invariant.size, c.loop-k-test.true)) (c.get-f.ensures.0 ∙ ap (λ g. get_or c.args.numbers.now g 0) (c.use_face.ensures.0 ∙ ap (faceOfUse (usesIn c.args.uses.now)) c.first_use-h.ensures)) c.put.ensures
+loop-k-preserved c =
+    filled-more _ c.args.faces.now c.loop-k.faces c.put.new.t c.loop-k.k c.get-f.result c.loop-k.invariant
+    (omega (arith, c.loop-k.invariant.size, c.loop-k-test.true))
+    (c.get-f.ensures.0 ∙ ap (λ g. get_or c.args.numbers.now g 0)
+    (c.use_face.ensures.0 ∙ ap (faceOfUse (usesIn c.args.uses.now)) c.first_use-h.ensures)) c.put.ensures
 
 pub returns : goal.returns
 returns c = filled-all _ _ _ c.loop-k.k c.loop-k.invariant (omega (arith, c.loop-k-test.false, c.loop-k.invariant.size))

@@ -9,8 +9,12 @@ use Rattle.fans.proofs.fan_names.Goals as goal
 
 pub loop-h-init : goal.loop-h-init
 loop-h-init c =
-    let a = c.args in
-    (omega arith, refl, naming-start (namesFan (edgesIn a.job.now a.c) (usesIn a.uses.now) a.removed.now a.fans.now) a.names.now)
+    let a = c.args in (
+      omega arith,
+      refl,
+      naming-start (namesFan (edgesIn a.job.now a.c) (usesIn a.uses.now) a.removed.now a.fans.now)
+          a.names.now,
+    )
 
 pub name_use-count-requires : goal.name_use-count-requires
 name_use-count-requires c =
@@ -24,4 +28,5 @@ pub returns : goal.returns
 returns c =
     let a = c.args in
     let l = c.loop-h in
-    naming-end (namesFan (edgesIn a.job.now a.c) (usesIn a.uses.now) a.removed.now a.fans.now) l.names l.count l.h l.invariant.2 (length (usesIn a.uses.now)) (omega arith)
+    naming-end (namesFan (edgesIn a.job.now a.c) (usesIn a.uses.now) a.removed.now a.fans.now) l.names l.count l.h
+    l.invariant.2 (length (usesIn a.uses.now)) (omega arith)

@@ -8,7 +8,9 @@ use Rattle.job.specs.Lists.{edgesIn}
 use Rattle.fans.proofs.fan_names.Given as goal
 
 abbrev pub invariant-loop-h : goal.invariant-loop-h
-invariant-loop-h l = (l.h ≤ length l.initial.names) × (length l.names ≡ length l.initial.names) × Naming (namesFan (edgesIn l.job l.c) (usesIn l.uses) l.removed l.fans) l.names l.count l.h
+invariant-loop-h l =
+    (l.h ≤ length l.initial.names) × (length l.names ≡ length l.initial.names) × Naming
+    (namesFan (edgesIn l.job l.c) (usesIn l.uses) l.removed l.fans) l.names l.count l.h
 
 abbrev pub decreases-loop-h : goal.decreases-loop-h
 decreases-loop-h l = length l.initial.names - l.h

@@ -7,7 +7,9 @@ use Rattle.job.specs.Lists.{edgesIn}
 use Rattle.fans.proofs.fans.Given as goal
 
 abbrev pub invariant-loop-h : goal.invariant-loop-h
-invariant-loop-h l = (l.h ≤ length l.succ) × (length l.labels ≡ length l.initial.labels) × FannedAt (edgesIn l.job l.c) (usesIn l.uses) l.twins l.removed l.succ l.labels l.h
+invariant-loop-h l =
+    (l.h ≤ length l.succ) × (length l.labels ≡ length l.initial.labels) × FannedAt (edgesIn l.job l.c) (usesIn l.uses)
+    l.twins l.removed l.succ l.labels l.h
 
 abbrev pub decreases-loop-h : goal.decreases-loop-h
 decreases-loop-h l = length l.succ - l.h

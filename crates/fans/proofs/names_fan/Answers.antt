@@ -7,11 +7,13 @@ pub returns-then-get-h : goal.returns-then-get-h
 returns-then-get-h c =
     let a = c.args in
     let get-call = c.get in
-    other-label (edgesIn a.job.now a.c) (usesIn a.uses.now) a.removed.now a.h a.fans.now get-call.result get-call.ensures.0 c.if-get-h.true
+    other-label (edgesIn a.job.now a.c) (usesIn a.uses.now) a.removed.now a.h a.fans.now get-call.result
+    get-call.ensures.0 c.if-get-h.true
 
 pub returns : goal.returns
 returns c =
     let a = c.args in
     let get-call = c.get in
     let kept-with-ends-call = c.kept_with_ends in
-    own-label (edgesIn a.job.now a.c) (usesIn a.uses.now) a.removed.now a.h a.fans.now get-call.result kept-with-ends-call.result get-call.ensures.0 c.if-get-h.false kept-with-ends-call.ensures
+    own-label (edgesIn a.job.now a.c) (usesIn a.uses.now) a.removed.now a.h a.fans.now get-call.result
+    kept-with-ends-call.result get-call.ensures.0 c.if-get-h.false kept-with-ends-call.ensures

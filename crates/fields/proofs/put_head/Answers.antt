@@ -20,5 +20,6 @@ returns c =
     let w = c.put_word-p in
     let b1 = c.put_byte in
     let b2 = c.put_byte-2 in
-    wrote-more a.out.now w.new.out b2.new.out (bytes32 (4 * a.fields)) (bytes16 a.kind) a.at w.result (w.result + 2) w.ensures
+    wrote-more a.out.now w.new.out b2.new.out (bytes32 (4 * a.fields)) (bytes16 a.kind) a.at w.result (w.result + 2)
+    w.ensures
     (two-stores w.new.out b1.new.out b2.new.out w.result _ _ b1.ensures b2.ensures, refl)

@@ -19,7 +19,8 @@ loop-i-preserved c =
     let l = c.loop-i in
     let w = c.put_word-p in (
       c.out-1.given ∙ l.invariant.0,
-      tabled-step a.out.now a.at a.t.now l.out w.new.out l.p l.i c.get.result w.result l.invariant.1 c.loop-i-test.true c.get.ensures.0 w.ensures,
+      tabled-step a.out.now a.at a.t.now l.out w.new.out l.p l.i c.get.result w.result l.invariant.1 c.loop-i-test.true
+          c.get.ensures.0 w.ensures,
     )
 
 pub returns : goal.returns
@@ -27,4 +28,5 @@ returns c =
     let a = c.args in
     let l = c.loop-i in
     let e : l.i ≡ length a.t.now = omega arith in
-    subst (λ ns. Wrote a.out.now a.at (fieldBytes ns) l.out l.p) (ap (λ n. take n a.t.now) e ∙ take-length a.t.now) l.invariant.1.wrote
+    subst (λ ns. Wrote a.out.now a.at (fieldBytes ns) l.out l.p) (ap (λ n. take n a.t.now) e ∙ take-length a.t.now)
+    l.invariant.1.wrote

@@ -10,4 +10,5 @@ returns c =
     let b2 = c.store-2 in
     let b3 = c.store-3 in
     let b4 = c.store-4 in
-    four-stores a.out.now b1.new.out b2.new.out b3.new.out b4.new.out a.at _ _ _ _ b1.ensures b2.ensures b3.ensures b4.ensures
+    four-stores a.out.now b1.new.out b2.new.out b3.new.out b4.new.out a.at _ _ _ _ b1.ensures b2.ensures b3.ensures
+    b4.ensures

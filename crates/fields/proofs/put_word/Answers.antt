@@ -14,5 +14,8 @@ returns c =
     let b1 = c.put_byte in
     let b2 = c.put_byte-2 in
     let b3 = c.put_byte-3 in
-    let b4 = c.put_byte-4 in
-    (four-stores a.out.now b1.new.out b2.new.out b3.new.out b4.new.out a.at _ _ _ _ b1.ensures b2.ensures b3.ensures b4.ensures, refl)
+    let b4 = c.put_byte-4 in (
+      four-stores a.out.now b1.new.out b2.new.out b3.new.out b4.new.out a.at _ _ _ _ b1.ensures b2.ensures b3.ensures
+          b4.ensures,
+      refl,
+    )

@@ -5,8 +5,12 @@ use native.Mathlib.Omega.{arith}
 use Rattle.groups.proofs.alone.Goals as goal
 
 pub loop-i-preserved : goal.loop-i-preserved
-loop-i-preserved c = let l = c.loop-i in
-    (omega arith, c.parents-1.given ∙ l.invariant.1, numbered-step l.parents c.put.new.t l.i l.invariant.2 c.loop-i-test.true c.put.ensures)
+loop-i-preserved c = let l = c.loop-i in (
+  omega arith,
+  c.parents-1.given ∙ l.invariant.1,
+  numbered-step l.parents c.put.new.t l.i l.invariant.2
+      c.loop-i-test.true c.put.ensures,
+)
 
 pub returns : goal.returns
 returns c = let l = c.loop-i in

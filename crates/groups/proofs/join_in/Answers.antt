@@ -7,7 +7,8 @@ returns-then-ra-rb c =
     let s = c.args in
     let x = c.root_in-ra in
     let y = c.root_in-rb in (
-      joined-less s.parents.now x.new.parents y.new.parents s.a s.b x.result y.result x.ensures y.ensures c.put.new.t c.if-ra-rb.true
+      joined-less s.parents.now x.new.parents y.new.parents s.a s.b x.result y.result x.ensures y.ensures c.put.new.t
+          c.if-ra-rb.true
           c.put.ensures,
       separate-roots s.parents.now x.new.parents y.new.parents s.a s.b x.result y.result x.ensures y.ensures
           (λ e. let t = c.if-ra-rb.true in omega arith),
@@ -18,7 +19,8 @@ returns-then-rb-ra c =
     let s = c.args in
     let x = c.root_in-ra in
     let y = c.root_in-rb in (
-      joined-more s.parents.now x.new.parents y.new.parents s.a s.b x.result y.result x.ensures y.ensures c.put-then-rb-ra.new.t c.if-rb-ra.true
+      joined-more s.parents.now x.new.parents y.new.parents s.a s.b x.result y.result x.ensures y.ensures
+          c.put-then-rb-ra.new.t c.if-rb-ra.true
           c.put-then-rb-ra.ensures,
       separate-roots s.parents.now x.new.parents y.new.parents s.a s.b x.result y.result x.ensures y.ensures
           (λ e. let t = c.if-rb-ra.true in omega arith),

@@ -4,4 +4,5 @@ use Rattle.groups.proofs.labels_of.Goals as goal
 
 pub returns : goal.returns
 returns c = λ ls st.
-    labelling-end c.args.g.parents (length c.args.labels.now) c.loop-i.i c.loop-i.groups.parents c.loop-i.labels ls (search rules) (omega arith) st
+    labelling-end c.args.g.parents (length c.args.labels.now) c.loop-i.i c.loop-i.groups.parents c.loop-i.labels ls
+    (search rules) (omega arith) st

@@ -13,4 +13,5 @@ alone-requires c = let e = lent-size c.args.n 256 c.requires in omega (arith, e)
 
 pub returns : goal.returns
 returns c = let n = c.args.n in
-    new-stands 256 n (length (take n (zeros 256))) c.alone.new.parents c.requires (lent-size n 256 c.requires) c.alone.ensures.1
+    new-stands 256 n (length (take n (zeros 256))) c.alone.new.parents c.requires (lent-size n 256 c.requires)
+    c.alone.ensures.1

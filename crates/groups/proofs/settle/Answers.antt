@@ -10,7 +10,8 @@ pub loop-i-preserved : goal.loop-i-preserved
 loop-i-preserved c = let l = c.loop-i in (
   omega arith,
   c.parents-1.given ∙ l.invariant.1,
-  λ ls s. settled-step c.args.parents.now ls l.parents c.put.new.t l.i c.get-up.result c.get-label.result s (l.invariant.2 ls s) c.loop-i-test.true c.get-up.ensures.0 c.get-label.ensures.0 c.put.ensures,
+  λ ls s. settled-step c.args.parents.now ls l.parents c.put.new.t l.i c.get-up.result c.get-label.result s
+      (l.invariant.2 ls s) c.loop-i-test.true c.get-up.ensures.0 c.get-label.ensures.0 c.put.ensures,
 )
 
 pub returns : goal.returns

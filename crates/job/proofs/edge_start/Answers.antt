@@ -6,7 +6,10 @@ use Rattle.job.proofs.edge_start.Goals as goal
 
 pub returns-then-e-c : goal.returns-then-e-c
 unfolding edgeIn
-returns-then-e-c c = (c.word.ensures.0 ∙ sym (ap (λ e. e.start) (edges-at c.args.job.now c.args.c c.args.e c.if-e-c.true)), c.word.ensures.1)
+returns-then-e-c c = (
+  c.word.ensures.0 ∙ sym (ap (λ e. e.start) (edges-at c.args.job.now c.args.c c.args.e c.if-e-c.true)),
+  c.word.ensures.1,
+)
 
 pub returns : goal.returns
 returns c = (sym (ap (λ e. e.start) (edges-past c.args.job.now c.args.c c.args.e c.if-e-c.false)), omega arith)

@@ -8,7 +8,9 @@ use Rattle.job.proofs.face_own.Goals as goal
 
 pub returns-then-f-c : goal.returns-then-f-c
 unfolding faceIn
-returns-then-f-c c = c.sense_of.ensures ∙ ap senseOf (c.word.ensures.0 ∙ ap (λ p. le32 c.args.job.now (p + 10)) c.get.ensures.0) ∙ sym (ap (λ f. f.own) (faces-at c.args.job.now c.args.index.now c.args.c c.args.f c.if-f-c.true))
+returns-then-f-c c =
+    c.sense_of.ensures ∙ ap senseOf (c.word.ensures.0 ∙ ap (λ p. le32 c.args.job.now (p + 10)) c.get.ensures.0) ∙ sym
+    (ap (λ f. f.own) (faces-at c.args.job.now c.args.index.now c.args.c c.args.f c.if-f-c.true))
 
 pub returns : goal.returns
 returns c = sym (ap (λ f. f.own) (faces-past c.args.job.now c.args.index.now c.args.c c.args.f c.if-f-c.false))

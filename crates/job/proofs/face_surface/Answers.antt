@@ -8,7 +8,15 @@ use Rattle.job.proofs.face_surface.Goals as goal
 
 pub returns-then-f-c : goal.returns-then-f-c
 unfolding faceIn
-returns-then-f-c c = (c.word.ensures.0 ∙ ap (λ p. le32 c.args.job.now (p + 6)) c.get.ensures.0 ∙ sym (ap (λ f. f.surface) (faces-at c.args.job.now c.args.index.now c.args.c c.args.f c.if-f-c.true)), c.word.ensures.1)
+returns-then-f-c c = (
+  c.word.ensures.0 ∙ ap (λ p. le32 c.args.job.now (p + 6)) c.get.ensures.0 ∙ sym
+      (ap (λ f. f.surface) (faces-at c.args.job.now c.args.index.now c.args.c c.args.f c.if-f-c.true)),
+  c.word.ensures.1,
+)
 
 pub returns : goal.returns
-returns c = (sym (ap (λ f. f.surface) (faces-past c.args.job.now c.args.index.now c.args.c c.args.f c.if-f-c.false)), omega arith)
+returns c = (
+  sym (ap (λ f. f.surface) (faces-past c.args.job.now c.args.index.now c.args.c c.args.f c.if-f-c.false)),
+  omega
+      arith,
+)

@@ -23,4 +23,6 @@ pub loop-i-preserved : goal.loop-i-preserved
 loop-i-preserved c = (search rules, below_more _ _ c.loop-i.invariant.1 c.if-a-i.false)
 
 pub returns : goal.returns
-returns c = sym (ap (same c.args.a.now) (sym (ext_get_or 0 c.args.a.now c.args.b.now c.if-a-b.false (λ k h. c.loop-i.invariant.1 k (omega arith)))) ∙ same-self c.args.a.now)
+returns c =
+    sym (ap (same c.args.a.now) (sym (ext_get_or 0 c.args.a.now c.args.b.now c.if-a-b.false
+    (λ k h. c.loop-i.invariant.1 k (omega arith)))) ∙ same-self c.args.a.now)

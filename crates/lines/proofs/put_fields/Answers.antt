@@ -5,7 +5,12 @@ use native.Mathlib.Omega.{arith}
 use Rattle.lines.proofs.put_fields.Goals as goal
 
 pub loop-i-init : goal.loop-i-init
-loop-i-init c = (refl, omega arith, fielded-start (fieldTextIn c.args.vertex) (field-short c.args.vertex) c.args.page.now c.args.at c.args.bytes.now c.args.from)
+loop-i-init c = (
+  refl,
+  omega arith,
+  fielded-start (fieldTextIn c.args.vertex) (field-short c.args.vertex) c.args.page.now c.args.at
+      c.args.bytes.now c.args.from,
+)
 
 pub overflow_mul-i : goal.overflow_mul-i
 overflow_mul-i c = omega arith
@@ -25,11 +30,14 @@ loop-i-preserved c =
     let l = c.loop-i in (
       c.page-1.given ∙ l.invariant.0,
       omega arith,
-      fielded-step (fieldTextIn a.vertex) (field-short a.vertex) a.page.now a.at a.bytes.now a.from l.page c.put_field-p.new.page l.p c.put_field-p.result l.i c.word.result c.word.ensures.0 l.invariant.2 c.put_field-p.ensures,
+      fielded-step (fieldTextIn a.vertex) (field-short a.vertex) a.page.now a.at a.bytes.now a.from l.page
+          c.put_field-p.new.page l.p c.put_field-p.result l.i c.word.result c.word.ensures.0 l.invariant.2
+          c.put_field-p.ensures,
     )
 
 pub returns : goal.returns
 returns c =
     let a = c.args in
     let l = c.loop-i in
-    fielded-end (fieldTextIn a.vertex) (field-short a.vertex) a.page.now a.at a.bytes.now a.from l.page l.p l.i a.n (omega arith) l.invariant.2
+    fielded-end (fieldTextIn a.vertex) (field-short a.vertex) a.page.now a.at a.bytes.now a.from l.page l.p l.i a.n
+    (omega arith) l.invariant.2

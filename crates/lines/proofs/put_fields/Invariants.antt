@@ -6,7 +6,9 @@ use mathlib.Core.Path.{◌≡◌}
 use Rattle.lines.proofs.put_fields.Given as goal
 
 abbrev pub invariant-loop-i : goal.invariant-loop-i
-invariant-loop-i l = (length l.page ≡ length l.initial.page) × (l.i ≤ l.n) × Fielded (fieldTextIn l.vertex) (field-short l.vertex) l.initial.page l.at l.bytes l.from l.page l.p l.i
+invariant-loop-i l =
+    (length l.page ≡ length l.initial.page) × (l.i ≤ l.n) × Fielded (fieldTextIn l.vertex) (field-short l.vertex)
+    l.initial.page l.at l.bytes l.from l.page l.p l.i
 
 abbrev pub decreases-loop-i : goal.decreases-loop-i
 decreases-loop-i l = l.n - l.i

@@ -30,8 +30,12 @@ loop-from-preserved c =
     let a = c.args in
     let l = c.loop-from in (
       c.page-1.given ∙ l.invariant.0,
-      going-step recordAt recordSize lineOf a.page.now 0 a.body.now record-some line-short l.page c.put_line-p.new.page l.p c.put_line-p.result l.from (l.from + (6 + c.word.result)) l.invariant.1 c.loop-from-test.true (record-next a.body.now l.from c.word.result c.word.ensures.0) c.put_line-p.ensures,
+      going-step recordAt recordSize lineOf a.page.now 0 a.body.now record-some line-short l.page c.put_line-p.new.page
+          l.p c.put_line-p.result l.from (l.from + (6 + c.word.result)) l.invariant.1 c.loop-from-test.true
+          (record-next a.body.now l.from c.word.result c.word.ensures.0) c.put_line-p.ensures,
     )
 
 pub returns : goal.returns
-returns c = going-end recordAt recordSize lineOf c.args.page.now 0 c.args.body.now c.loop-from.page c.loop-from.p c.loop-from.from c.loop-from.invariant.1 c.loop-from-test.false
+returns c =
+    going-end recordAt recordSize lineOf c.args.page.now 0 c.args.body.now c.loop-from.page c.loop-from.p
+    c.loop-from.from c.loop-from.invariant.1 c.loop-from-test.false

@@ -7,7 +7,8 @@ use mathlib.Core.Path.{◌≡◌}
 use Rattle.lines.proofs.put_lines.Given as goal
 
 abbrev pub invariant-loop-from : goal.invariant-loop-from
-invariant-loop-from l = (length l.page ≡ length l.initial.page) × Going recordAt recordSize lineOf l.initial.page 0 l.body l.page l.p l.from
+invariant-loop-from l =
+    (length l.page ≡ length l.initial.page) × Going recordAt recordSize lineOf l.initial.page 0 l.body l.page l.p l.from
 
 abbrev pub decreases-loop-from : goal.decreases-loop-from
 decreases-loop-from l = length l.body - l.from

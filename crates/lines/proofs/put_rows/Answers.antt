@@ -11,7 +11,12 @@ use native.Mathlib.Omega.{arith}
 use Rattle.lines.proofs.put_rows.Goals as goal
 
 pub loop-from-init : goal.loop-from-init
-loop-from-init c = (refl, omega arith, going-start (rowAt c.args.fixed c.args.counted) (rowSize c.args.fixed c.args.counted) rowText c.args.page.now c.args.at c.args.bytes.now)
+loop-from-init c = (
+  refl,
+  omega arith,
+  going-start (rowAt c.args.fixed c.args.counted) (rowSize c.args.fixed c.args.counted) rowText
+      c.args.page.now c.args.at c.args.bytes.now,
+)
 
 pub overflow_add-from : goal.overflow_add-from
 overflow_add-from c = omega arith
@@ -34,7 +39,8 @@ pub overflow_mul-from : goal.overflow_mul-from
 overflow_mul-from c = omega (arith, counted-small c.args.counted c.word.result c.requires.4 c.word.ensures.1)
 
 pub overflow_add-from-in-loop-from : goal.overflow_add-from-in-loop-from
-overflow_add-from-in-loop-from c = omega (arith, counted-small c.args.counted c.word.result c.requires.4 c.word.ensures.1)
+overflow_add-from-in-loop-from c =
+    omega (arith, counted-small c.args.counted c.word.result c.requires.4 c.word.ensures.1)
 
 pub loop-from-smaller : goal.loop-from-smaller
 loop-from-smaller c = omega arith
@@ -47,11 +53,19 @@ loop-from-preserved c =
     let n = row-is a.bytes.now l.from a.fixed a.counted v c.word.ensures.0 in (
       c.page-1.given ∙ l.invariant.0,
       omega (arith, counted-small a.counted v c.requires.4 c.word.ensures.1),
-      going-step (rowAt a.fixed a.counted) (rowSize a.fixed a.counted) rowText a.page.now a.at a.bytes.now (row-some a.fixed a.counted c.requires.2) (row-short a.fixed a.counted c.requires.2) l.page c.put_row-p.new.page l.p c.put_row-p.result l.from (l.from + 4 * (a.fixed + a.counted * v)) l.invariant.2 c.loop-from-test.true (ap (λ k. l.from + 4 * k) n) (subst (λ k. Wrote l.page l.p (rowText (fieldsIn k (drop l.from a.bytes.now))) c.put_row-p.new.page c.put_row-p.result) n c.put_row-p.ensures),
+      going-step (rowAt a.fixed a.counted) (rowSize a.fixed a.counted) rowText a.page.now a.at a.bytes.now
+          (row-some a.fixed a.counted c.requires.2) (row-short a.fixed a.counted c.requires.2) l.page
+          c.put_row-p.new.page l.p c.put_row-p.result l.from (l.from + 4 * (a.fixed + a.counted * v)) l.invariant.2
+          c.loop-from-test.true (ap (λ k. l.from + 4 * k) n)
+          (subst (λ k. Wrote l.page l.p (rowText (fieldsIn k (drop l.from a.bytes.now))) c.put_row-p.new.page
+          c.put_row-p.result) n c.put_row-p.ensures),
     )
 
 pub returns : goal.returns
 returns c =
     let a = c.args in
-    let l = c.loop-from in
-    (going-end (rowAt a.fixed a.counted) (rowSize a.fixed a.counted) rowText a.page.now a.at a.bytes.now l.page l.p l.from l.invariant.2 c.loop-from-test.false, omega (arith, l.invariant.2.few))
+    let l = c.loop-from in (
+      going-end (rowAt a.fixed a.counted) (rowSize a.fixed a.counted) rowText a.page.now a.at a.bytes.now l.page l.p
+          l.from l.invariant.2 c.loop-from-test.false,
+      omega (arith, l.invariant.2.few),
+    )

@@ -7,7 +7,9 @@ use mathlib.Core.Path.{◌≡◌}
 use Rattle.lines.proofs.put_rows.Given as goal
 
 abbrev pub invariant-loop-from : goal.invariant-loop-from
-invariant-loop-from l = (length l.page ≡ length l.initial.page) × (l.from < 2 ^ 37) × Going (rowAt l.fixed l.counted) (rowSize l.fixed l.counted) rowText l.initial.page l.at l.bytes l.page l.p l.from
+invariant-loop-from l =
+    (length l.page ≡ length l.initial.page) × (l.from < 2 ^ 37) × Going (rowAt l.fixed l.counted)
+    (rowSize l.fixed l.counted) rowText l.initial.page l.at l.bytes l.page l.p l.from
 
 abbrev pub decreases-loop-from : goal.decreases-loop-from
 decreases-loop-from l = length l.bytes - l.from

@@ -16,7 +16,8 @@ pub loop-i-preserved : goal.loop-i-preserved
 loop-i-preserved c = (
   c.page-1.given ∙ c.loop-i.invariant.0,
   search rules,
-  text-more c.args.page.now c.loop-i.page c.put_byte.new.page c.args.text.now c.args.at c.loop-i.i c.loop-i.invariant.2 c.loop-i-test.true c.put_byte.ensures,
+  text-more c.args.page.now c.loop-i.page c.put_byte.new.page c.args.text.now c.args.at c.loop-i.i c.loop-i.invariant.2
+      c.loop-i-test.true c.put_byte.ensures,
 )
 
 pub overflow_add-result : goal.overflow_add-result
@@ -26,5 +27,8 @@ pub returns : goal.returns
 returns c =
     let l = c.loop-i in
     let t = c.args.text.now in
-    let e : l.i ≡ length t = omega arith in
-    (l.invariant.2 ∙ ap (λ n. sets c.args.page.now c.args.at (take n t)) e ∙ ap (sets c.args.page.now c.args.at) (take-length t), refl)
+    let e : l.i ≡ length t = omega arith in (
+      l.invariant.2 ∙ ap (λ n. sets c.args.page.now c.args.at (take n t)) e ∙ ap (sets c.args.page.now c.args.at)
+          (take-length t),
+      refl,
+    )

@@ -12,10 +12,17 @@ loop-i-init c = spelled-start c.args.v c.args.digits.now c.requires
 -- slice-write-digits c = omega (arith, c.loop-i.invariant.1, c.loop-i.invariant.0)
 
 pub returns-then-rest-lt10 : goal.returns-then-rest-lt10
-returns-then-rest-lt10 c = (omega (arith, c.loop-i.invariant.1), spelled-last c.args.v c.loop-i.digits c.loop-i.i (c.loop-i.i - 1) c.loop-i.rest (omega arith) c.if-rest-lt10.true c.loop-i.invariant)
+returns-then-rest-lt10 c = (
+  omega (arith, c.loop-i.invariant.1),
+  spelled-last c.args.v c.loop-i.digits c.loop-i.i (c.loop-i.i - 1)
+      c.loop-i.rest (omega arith) c.if-rest-lt10.true c.loop-i.invariant,
+)
 
 pub loop-i-preserved : goal.loop-i-preserved
-loop-i-preserved c = spelled-on c.args.v c.loop-i.digits c.loop-i.i (c.loop-i.i - 1) c.loop-i.rest (omega arith) c.if-rest-lt10.false c.loop-i.invariant
+loop-i-preserved c =
+    spelled-on c.args.v c.loop-i.digits c.loop-i.i (c.loop-i.i - 1) c.loop-i.rest (omega arith) c.if-rest-lt10.false
+    c.loop-i.invariant
 
 pub returns : goal.returns
-returns c = (omega arith, spelled-end c.args.v c.loop-i.digits c.loop-i.i c.loop-i.rest c.loop-i-test.false c.loop-i.invariant)
+returns c =
+    (omega arith, spelled-end c.args.v c.loop-i.digits c.loop-i.i c.loop-i.rest c.loop-i-test.false c.loop-i.invariant)

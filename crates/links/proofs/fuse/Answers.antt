@@ -9,7 +9,8 @@ slice_bounds-turn_and_replace-start c =
     let o = c.get-k in
     let s = c.get-start in
     let b = c.own_end-bound in
-    lent-order (linksOf a.list.now a.nexts.now a.heads.now a.owners.now a.spots.now a.stretches.now) a.y a.x g.result o.result s.result b.result
+    lent-order (linksOf a.list.now a.nexts.now a.heads.now a.owners.now a.spots.now a.stretches.now) a.y a.x g.result
+    o.result s.result b.result
     c.requires.0 g.ensures.0 o.ensures.0 s.ensures.0 b.ensures
 
 pub slice_bounds-turn_and_replace-end : goal.slice_bounds-turn_and_replace-end
@@ -19,7 +20,8 @@ slice_bounds-turn_and_replace-end c =
     let o = c.get-k in
     let s = c.get-start in
     let b = c.own_end-bound in
-    lent-codes (linksOf a.list.now a.nexts.now a.heads.now a.owners.now a.spots.now a.stretches.now) a.y a.x g.result o.result s.result b.result
+    lent-codes (linksOf a.list.now a.nexts.now a.heads.now a.owners.now a.spots.now a.stretches.now) a.y a.x g.result
+    o.result s.result b.result
     c.requires.0 g.ensures.0 o.ensures.0 s.ensures.0 b.ensures
 
 pub slice_bounds-turn_and_replace-start-2 : goal.slice_bounds-turn_and_replace-start-2
@@ -29,7 +31,8 @@ slice_bounds-turn_and_replace-start-2 c =
     let o = c.get-k in
     let s = c.get-start in
     let b = c.own_end-bound in
-    lent-order (linksOf a.list.now a.nexts.now a.heads.now a.owners.now a.spots.now a.stretches.now) a.y a.x g.result o.result s.result b.result
+    lent-order (linksOf a.list.now a.nexts.now a.heads.now a.owners.now a.spots.now a.stretches.now) a.y a.x g.result
+    o.result s.result b.result
     c.requires.0 g.ensures.0 o.ensures.0 s.ensures.0 b.ensures
 
 pub slice_bounds-turn_and_replace-end-2 : goal.slice_bounds-turn_and_replace-end-2
@@ -39,7 +42,8 @@ slice_bounds-turn_and_replace-end-2 c =
     let o = c.get-k in
     let s = c.get-start in
     let b = c.own_end-bound in
-    lent-nexts (linksOf a.list.now a.nexts.now a.heads.now a.owners.now a.spots.now a.stretches.now) a.y a.x g.result o.result s.result b.result
+    lent-nexts (linksOf a.list.now a.nexts.now a.heads.now a.owners.now a.spots.now a.stretches.now) a.y a.x g.result
+    o.result s.result b.result
     c.requires.0 g.ensures.0 o.ensures.0 s.ensures.0 b.ensures
 
 pub slice_bounds-turn_and_replace-end-3 : goal.slice_bounds-turn_and_replace-end-3
@@ -49,7 +53,8 @@ slice_bounds-turn_and_replace-end-3 c =
     let o = c.get-k in
     let s = c.get-start in
     let b = c.own_end-bound in
-    lent-head (linksOf a.list.now a.nexts.now a.heads.now a.owners.now a.spots.now a.stretches.now) a.y a.x g.result o.result s.result b.result
+    lent-head (linksOf a.list.now a.nexts.now a.heads.now a.owners.now a.spots.now a.stretches.now) a.y a.x g.result
+    o.result s.result b.result
     c.requires.0 g.ensures.0 o.ensures.0 s.ensures.0 b.ensures
 
 pub turn_and_replace-requires : goal.turn_and_replace-requires
@@ -59,10 +64,12 @@ turn_and_replace-requires c =
     let o = c.get-k in
     let s = c.get-start in
     let b = c.own_end-bound in (
-      slot-after (linksOf a.list.now a.nexts.now a.heads.now a.owners.now a.spots.now a.stretches.now) a.y a.x g.result o.result s.result b.result
+      slot-after (linksOf a.list.now a.nexts.now a.heads.now a.owners.now a.spots.now a.stretches.now) a.y a.x g.result
+          o.result s.result b.result
           c.requires.0 g.ensures.0 o.ensures.0 s.ensures.0 b.ensures,
       next-after
-          (linksOf a.list.now a.nexts.now a.heads.now a.owners.now a.spots.now a.stretches.now) a.y a.x g.result o.result s.result b.result c.requires.0
+          (linksOf a.list.now a.nexts.now a.heads.now a.owners.now a.spots.now a.stretches.now) a.y a.x g.result
+          o.result s.result b.result c.requires.0
           g.ensures.0 o.ensures.0 s.ensures.0 b.ensures,
       g.ensures.1,
       c.requires.1,
@@ -75,7 +82,8 @@ returns c =
     let o = c.get-k in
     let s = c.get-start in
     let b = c.own_end-bound in
-    fuse-is (linksOf a.list.now a.nexts.now a.heads.now a.owners.now a.spots.now a.stretches.now) a.y a.x g.result o.result s.result b.result
+    fuse-is (linksOf a.list.now a.nexts.now a.heads.now a.owners.now a.spots.now a.stretches.now) a.y a.x g.result
+    o.result s.result b.result
     c.requires.0 g.ensures.0 o.ensures.0 s.ensures.0 b.ensures c.get-end.result c.turn_and_replace.new.part
     c.turn_and_replace.new.nexts c.turn_and_replace.new.head _ _ c.get-end.ensures.0 c.turn_and_replace.ensures
     c.put.ensures c.put-2.ensures

@@ -14,7 +14,12 @@ pub overflow_mul-new : goal.overflow_mul-new
 overflow_mul-new c = omega (arith, c.requires.few)
 
 pub fuse-requires : goal.fuse-requires
-fuse-requires c = (fuse-first (rowsIn c.args.rows.now) c.args.v c.args.a c.args.b c.args.new (linksOf c.args.list.now c.args.nexts.now c.args.heads.now c.args.owners.now c.args.spots.now c.args.stretches.now) c.requires c.in_code-x.result c.in_code-y.result c.in_code-x.ensures c.in_code-y.ensures, omega (arith, c.requires.few))
+fuse-requires c = (
+  fuse-first (rowsIn c.args.rows.now) c.args.v c.args.a c.args.b c.args.new
+      (linksOf c.args.list.now c.args.nexts.now c.args.heads.now c.args.owners.now c.args.spots.now
+      c.args.stretches.now) c.requires c.in_code-x.result c.in_code-y.result c.in_code-x.ensures c.in_code-y.ensures,
+  omega (arith, c.requires.few),
+)
 
 pub overflow_mul-new-2 : goal.overflow_mul-new-2
 overflow_mul-new-2 c = omega (arith, c.requires.few)
@@ -23,7 +28,20 @@ pub overflow_add-new : goal.overflow_add-new
 overflow_add-new c = omega (arith, c.requires.few)
 
 pub fuse-requires-2 : goal.fuse-requires-2
-fuse-requires-2 c = (fuse-second (rowsIn c.args.rows.now) c.args.v c.args.a c.args.b c.args.new (linksOf c.args.list.now c.args.nexts.now c.args.heads.now c.args.owners.now c.args.spots.now c.args.stretches.now) c.requires c.in_code-x.result c.in_code-y.result c.in_code-x.ensures c.in_code-y.ensures (linksOf c.fuse.new.list c.fuse.new.nexts c.fuse.new.heads c.args.owners.now c.fuse.new.spots c.fuse.new.stretches) c.fuse.ensures, omega (arith, c.requires.few))
+fuse-requires-2 c = (
+  fuse-second (rowsIn c.args.rows.now) c.args.v c.args.a c.args.b c.args.new
+      (linksOf c.args.list.now c.args.nexts.now c.args.heads.now c.args.owners.now c.args.spots.now
+      c.args.stretches.now) c.requires c.in_code-x.result c.in_code-y.result c.in_code-x.ensures c.in_code-y.ensures
+      (linksOf c.fuse.new.list c.fuse.new.nexts c.fuse.new.heads c.args.owners.now c.fuse.new.spots
+      c.fuse.new.stretches) c.fuse.ensures,
+  omega (arith, c.requires.few),
+)
 
 pub returns : goal.returns
-returns c = join-is (rowsIn c.args.rows.now) c.args.v c.args.a c.args.b c.args.new (linksOf c.args.list.now c.args.nexts.now c.args.heads.now c.args.owners.now c.args.spots.now c.args.stretches.now) c.requires c.in_code-x.result c.in_code-y.result c.in_code-x.ensures c.in_code-y.ensures (linksOf c.fuse.new.list c.fuse.new.nexts c.fuse.new.heads c.args.owners.now c.fuse.new.spots c.fuse.new.stretches) c.fuse.ensures (linksOf c.fuse-2.new.list c.fuse-2.new.nexts c.fuse-2.new.heads c.args.owners.now c.fuse-2.new.spots c.fuse-2.new.stretches) c.fuse-2.ensures
+returns c =
+    join-is (rowsIn c.args.rows.now) c.args.v c.args.a c.args.b c.args.new
+    (linksOf c.args.list.now c.args.nexts.now c.args.heads.now c.args.owners.now c.args.spots.now
+    c.args.stretches.now) c.requires c.in_code-x.result c.in_code-y.result c.in_code-x.ensures c.in_code-y.ensures
+    (linksOf c.fuse.new.list c.fuse.new.nexts c.fuse.new.heads c.args.owners.now c.fuse.new.spots
+    c.fuse.new.stretches) c.fuse.ensures (linksOf c.fuse-2.new.list c.fuse-2.new.nexts c.fuse-2.new.heads
+    c.args.owners.now c.fuse-2.new.spots c.fuse-2.new.stretches) c.fuse-2.ensures

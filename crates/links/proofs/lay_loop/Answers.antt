@@ -19,7 +19,9 @@ loop-i-preserved c =
     let l = c.loop-i in
     let n = length a.part.now in (
       l.invariant.0,
-      lay-step a.list.now a.nexts.now l.part c.put.new.t (sets a.part.now 0 (codesAt a.list.now (follow a.nexts.now a.head (n - 0)))) l.i n l.p c.get-p.result c.get-x.result l.invariant.1 c.loop-i-test.true c.get-x.ensures.0 c.get-p.ensures.0 c.put.ensures,
+      lay-step a.list.now a.nexts.now l.part c.put.new.t (sets a.part.now 0
+          (codesAt a.list.now (follow a.nexts.now a.head (n - 0)))) l.i n l.p c.get-p.result c.get-x.result
+          l.invariant.1 c.loop-i-test.true c.get-x.ensures.0 c.get-p.ensures.0 c.put.ensures,
       c.put.auto.t ∙ l.invariant.2,
     )
 
@@ -29,4 +31,5 @@ returns c =
     let l = c.loop-i in
     let n = length a.part.now in
     lay-whole a.list.now a.nexts.now a.part.now l.part a.head n refl
-    (lay-done a.list.now a.nexts.now l.part (sets a.part.now 0 (codesAt a.list.now (follow a.nexts.now a.head (n - 0)))) l.i n l.p l.invariant.1 c.loop-i-test.false)
+    (lay-done a.list.now a.nexts.now l.part (sets a.part.now 0 (codesAt a.list.now (follow a.nexts.now a.head (n - 0))))
+    l.i n l.p l.invariant.1 c.loop-i-test.false)

@@ -9,5 +9,6 @@ returns c =
     let bytes = bytes-below a.job.now (λ i. (c.type_inv.job i).fits) in
     let size = c.told-out in (
       sews a.job.now a.out.now sew.new.out sew.result sew.ensures.0,
-      lists a.job.now a.out.now sew.new.out a.page.now put.new.page put.result sew.result bytes size sew.ensures.0 put.ensures,
+      lists a.job.now a.out.now sew.new.out a.page.now put.new.page put.result sew.result bytes size sew.ensures.0
+          put.ensures,
     )

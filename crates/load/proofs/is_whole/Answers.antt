@@ -7,7 +7,9 @@ pub returns-then-job-body : goal.returns-then-job-body
 returns-then-job-body c = sym (head-cut c.args.job.now c.args.at c.if-job-body.true)
 
 pub returns-then-job-end : goal.returns-then-job-end
-returns-then-job-end c = sym (payload-cut c.args.job.now c.args.at c.if-job-body.false (omega (arith, c.word.ensures.0, c.if-job-end.true)))
+returns-then-job-end c =
+    sym (payload-cut c.args.job.now c.args.at c.if-job-body.false (omega (arith, c.word.ensures.0, c.if-job-end.true)))
 
 pub returns : goal.returns
-returns c = sym (whole-is c.args.job.now c.args.at c.if-job-body.false (omega (arith, c.word.ensures.0, c.if-job-end.false)))
+returns c =
+    sym (whole-is c.args.job.now c.args.at c.if-job-body.false (omega (arith, c.word.ensures.0, c.if-job-end.false)))

@@ -53,44 +53,59 @@ returns-in-Vertex c = kept-as c.args.kind _ c.args.job.now c.args.index.now c.ar
 
 pub returns-in-EdgeRecord : goal.returns-in-EdgeRecord
 unfolding keptIndex
-returns-in-EdgeRecord c = kept-as c.args.kind _ c.args.job.now c.args.index.now c.args.c c.args.at _ c.in-EdgeRecord.is (refl)
+returns-in-EdgeRecord c =
+    kept-as c.args.kind _ c.args.job.now c.args.index.now c.args.c c.args.at _ c.in-EdgeRecord.is (refl)
 
 pub returns-in-FaceRecord : goal.returns-in-FaceRecord
 unfolding keptIndex
-returns-in-FaceRecord c = kept-as c.args.kind _ c.args.job.now c.args.index.now c.args.c c.args.at _ c.in-FaceRecord.is c.put.ensures
+returns-in-FaceRecord c =
+    kept-as c.args.kind _ c.args.job.now c.args.index.now c.args.c c.args.at _ c.in-FaceRecord.is c.put.ensures
 
 pub returns-in-LoopRecord : goal.returns-in-LoopRecord
 unfolding keptIndex
-returns-in-LoopRecord c = kept-as c.args.kind _ c.args.job.now c.args.index.now c.args.c c.args.at _ c.in-LoopRecord.is c.keep_loop.ensures
+returns-in-LoopRecord c =
+    kept-as c.args.kind _ c.args.job.now c.args.index.now c.args.c c.args.at _ c.in-LoopRecord.is c.keep_loop.ensures
 
 pub returns-in-VertexLoop : goal.returns-in-VertexLoop
 unfolding keptIndex
-returns-in-VertexLoop c = kept-as c.args.kind _ c.args.job.now c.args.index.now c.args.c c.args.at _ c.in-VertexLoop.is c.keep_loop-in-VertexLoop.ensures
+returns-in-VertexLoop c =
+    kept-as c.args.kind _ c.args.job.now c.args.index.now c.args.c c.args.at _ c.in-VertexLoop.is
+    c.keep_loop-in-VertexLoop.ensures
 
 pub returns-in-Radial : goal.returns-in-Radial
 unfolding keptIndex
-returns-in-Radial c = kept-as c.args.kind _ c.args.job.now c.args.index.now c.args.c c.args.at _ c.in-Radial.is c.enter.ensures
+returns-in-Radial c =
+    kept-as c.args.kind _ c.args.job.now c.args.index.now c.args.c c.args.at _ c.in-Radial.is c.enter.ensures
 
 pub returns-in-Surface : goal.returns-in-Surface
 unfolding keptIndex
-returns-in-Surface c = kept-as c.args.kind _ c.args.job.now c.args.index.now c.args.c c.args.at _ c.in-Surface.is c.enter-in-Surface.ensures
+returns-in-Surface c =
+    kept-as c.args.kind _ c.args.job.now c.args.index.now c.args.c c.args.at _ c.in-Surface.is
+    c.enter-in-Surface.ensures
 
 pub returns-in-Points : goal.returns-in-Points
 unfolding keptIndex
-returns-in-Points c = kept-as c.args.kind _ c.args.job.now c.args.index.now c.args.c c.args.at _ c.in-Points.is c.enter-in-Points.ensures
+returns-in-Points c =
+    kept-as c.args.kind _ c.args.job.now c.args.index.now c.args.c c.args.at _ c.in-Points.is c.enter-in-Points.ensures
 
 pub returns-in-Curves : goal.returns-in-Curves
 unfolding keptIndex
-returns-in-Curves c = kept-as c.args.kind _ c.args.job.now c.args.index.now c.args.c c.args.at _ c.in-Curves.is c.enter-in-Curves.ensures
+returns-in-Curves c =
+    kept-as c.args.kind _ c.args.job.now c.args.index.now c.args.c c.args.at _ c.in-Curves.is c.enter-in-Curves.ensures
 
 pub returns-in-Singular : goal.returns-in-Singular
 unfolding keptIndex
-returns-in-Singular c = kept-as c.args.kind _ c.args.job.now c.args.index.now c.args.c c.args.at _ c.in-Singular.is c.enter-in-Singular.ensures
+returns-in-Singular c =
+    kept-as c.args.kind _ c.args.job.now c.args.index.now c.args.c c.args.at _ c.in-Singular.is
+    c.enter-in-Singular.ensures
 
 pub returns-in-Orientation : goal.returns-in-Orientation
 unfolding keptIndex
-returns-in-Orientation c = kept-as c.args.kind _ c.args.job.now c.args.index.now c.args.c c.args.at _ c.in-Orientation.is c.enter-in-Orientation.ensures
+returns-in-Orientation c =
+    kept-as c.args.kind _ c.args.job.now c.args.index.now c.args.c c.args.at _ c.in-Orientation.is
+    c.enter-in-Orientation.ensures
 
 pub returns-in-Inside : goal.returns-in-Inside
 unfolding keptIndex
-returns-in-Inside c = kept-as c.args.kind _ c.args.job.now c.args.index.now c.args.c c.args.at _ c.in-Inside.is c.enter-in-Inside.ensures
+returns-in-Inside c =
+    kept-as c.args.kind _ c.args.job.now c.args.index.now c.args.c c.args.at _ c.in-Inside.is c.enter-in-Inside.ensures

@@ -9,19 +9,35 @@ pub returns-then-job-eq0 : goal.returns-then-job-eq0
 returns-then-job-eq0 c = load-empty c.args.job.now c.if-job-eq0.true
 
 pub loop-at-init : goal.loop-at-init
-loop-at-init c = (going-start c.args.job.now c.args.index.now c.nothing-c.result c.requires c.nothing-c.ensures c.if-job-gt65536.false, follows-start c.args.job.now c.args.index.now c.nothing-c.result c.nothing-c.ensures c.if-job-gt65536.false (omega arith))
+loop-at-init c = (
+  going-start c.args.job.now c.args.index.now c.nothing-c.result c.requires c.nothing-c.ensures
+      c.if-job-gt65536.false,
+  follows-start c.args.job.now c.args.index.now c.nothing-c.result c.nothing-c.ensures
+      c.if-job-gt65536.false (omega arith),
+)
 
 pub step-s-requires : goal.step-s-requires
 step-s-requires c = (c.loop-at.invariant.0, c.loop-at-test.true)
 
 pub returns-in-Refused : goal.returns-in-Refused
-returns-in-Refused c = let s = rw c.in-Refused.is at c.step-s.ensures in follows-refused c.args.job.now c.loop-at.index c.loop-at.c c.loop-at.at c.loop-at.invariant.1 _ _ c.loop-at-test.true s
+returns-in-Refused c =
+    let s = rw c.in-Refused.is at c.step-s.ensures in
+    follows-refused c.args.job.now c.loop-at.index c.loop-at.c c.loop-at.at c.loop-at.invariant.1 _ _
+    c.loop-at-test.true s
 
 pub loop-at-smaller : goal.loop-at-smaller
 loop-at-smaller c = let s = rw c.in-Taken.is at c.step-s.ensures in omega (arith, s.2, c.loop-at-test.true)
 
 pub loop-at-preserved : goal.loop-at-preserved
-loop-at-preserved c = let s = rw c.in-Taken.is at c.step-s.ensures in (s.3, follows-on c.args.job.now c.loop-at.index c.loop-at.c c.loop-at.at c.loop-at.invariant.1 _ _ _ c.loop-at-test.true s)
+loop-at-preserved c =
+    let s = rw c.in-Taken.is at c.step-s.ensures in (
+      s.3,
+      follows-on c.args.job.now c.loop-at.index c.loop-at.c c.loop-at.at c.loop-at.invariant.1 _ _ _
+          c.loop-at-test.true s,
+    )
 
 pub returns : goal.returns
-returns c = (follows-done c.args.job.now c.loop-at.index c.loop-at.c c.loop-at.at c.loop-at.invariant.1 c.loop-at-test.false, c.loop-at.invariant.0.indexed)
+returns c = (
+  follows-done c.args.job.now c.loop-at.index c.loop-at.c c.loop-at.at c.loop-at.invariant.1 c.loop-at-test.false,
+  c.loop-at.invariant.0.indexed,
+)

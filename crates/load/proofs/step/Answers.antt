@@ -17,13 +17,33 @@ pub half-requires : goal.half-requires
 half-requires c = omega (arith, c.requires.0.small, c.requires.1)
 
 pub fault-number-requires : goal.fault-number-requires
-fault-number-requires c = record { limited = c.requires.0.limited; indexed = c.requires.0.indexed; low = omega (arith, c.requires.0.small, c.requires.1); kind = c.kind_of-kind.ensures ∙ ap kindOf c.half.ensures.0; long = c.word-size.ensures.0; small = c.word-size.ensures.1 }
+fault-number-requires c =
+    record {
+      limited = c.requires.0.limited;
+      indexed = c.requires.0.indexed;
+      low = omega
+          (arith, c.requires.0.small, c.requires.1);
+      kind = c.kind_of-kind.ensures ∙ ap kindOf c.half.ensures.0;
+      long =
+          c.word-size.ensures.0;
+      small = c.word-size.ensures.1;
+    }
 
 pub returns-then-number-gt0 : goal.returns-then-number-gt0
-returns-then-number-gt0 c = step-refused c.args.job.now c.args.index.now c.args.c c.args.at c.is_whole.result c.is_whole.ensures c.if-is_whole.true c.kind_of-kind.result c.fault-number.result c.fault-number.ensures c.if-number-gt0.true
+returns-then-number-gt0 c =
+    step-refused c.args.job.now c.args.index.now c.args.c c.args.at c.is_whole.result c.is_whole.ensures
+    c.if-is_whole.true c.kind_of-kind.result c.fault-number.result c.fault-number.ensures c.if-number-gt0.true
 
 pub keep-requires : goal.keep-requires
-keep-requires c = (c.requires.0.limited, omega (arith, c.requires.0.small, c.requires.1), faces-some c.args.job.now c.args.index.now c.args.c c.args.at c.kind_of-kind.result c.fault-number.result c.requires.0 c.fault-number.ensures c.if-number-gt0.false, answers-room c.args.job.now c.args.index.now c.args.c c.args.at c.kind_of-kind.result c.fault-number.result c.fault-number.ensures c.if-number-gt0.false)
+keep-requires c = (
+  c.requires.0.limited,
+  omega (arith, c.requires.0.small, c.requires.1),
+  faces-some c.args.job.now c.args.index.now
+      c.args.c c.args.at c.kind_of-kind.result c.fault-number.result c.requires.0 c.fault-number.ensures
+      c.if-number-gt0.false,
+  answers-room c.args.job.now c.args.index.now c.args.c c.args.at c.kind_of-kind.result
+      c.fault-number.result c.fault-number.ensures c.if-number-gt0.false,
+)
 
 pub count_record-after-requires : goal.count_record-after-requires
 count_record-after-requires c = (c.requires.0.limited, omega (arith, c.word-size.ensures.1))
@@ -35,7 +55,13 @@ pub overflow_add-result-then-is_whole : goal.overflow_add-result-then-is_whole
 overflow_add-result-then-is_whole c = omega (arith, c.word-size.ensures.1, c.requires.0.small, c.requires.1)
 
 pub returns-then-is_whole : goal.returns-then-is_whole
-returns-then-is_whole c = step-taken c.args.job.now c.args.index.now c.args.c c.args.at c.is_whole.result c.is_whole.ensures c.if-is_whole.true c.kind_of-kind.result c.keep.new.index c.count_record-after.result c.fault-number.result c.word-size.result _ _ c.requires.0 c.fault-number.ensures c.if-number-gt0.false (c.kind_of-kind.ensures ∙ ap kindOf c.half.ensures.0) c.word-size.ensures.0 refl c.keep.ensures c.count_record-after.ensures refl
+returns-then-is_whole c =
+    step-taken c.args.job.now c.args.index.now c.args.c c.args.at c.is_whole.result c.is_whole.ensures
+    c.if-is_whole.true c.kind_of-kind.result c.keep.new.index c.count_record-after.result c.fault-number.result
+    c.word-size.result _ _ c.requires.0 c.fault-number.ensures c.if-number-gt0.false
+    (c.kind_of-kind.ensures ∙ ap kindOf c.half.ensures.0) c.word-size.ensures.0 refl c.keep.ensures
+    c.count_record-after.ensures refl
 
 pub returns : goal.returns
-returns c = step-cut c.args.job.now c.args.index.now c.args.c c.args.at c.is_whole.result c.is_whole.ensures c.if-is_whole.false
+returns c =
+    step-cut c.args.job.now c.args.index.now c.args.c c.args.at c.is_whole.result c.is_whole.ensures c.if-is_whole.false

@@ -13,4 +13,10 @@ pub returns-then-stretches-gt128 : goal.returns-then-stretches-gt128
 returns-then-stretches-gt128 c = λ e. absurd (true≢false (sym e))
 
 pub returns : goal.returns
-returns c = λ e. (c.all_below.ensures e, omega (arith, c.if-count-gt32.false), c.if-items-gt64.false, c.if-stretches-gt128.false)
+returns c =
+    λ e. (
+      c.all_below.ensures e,
+      omega (arith, c.if-count-gt32.false),
+      c.if-items-gt64.false,
+      c.if-stretches-gt128.false,
+    )

@@ -21,8 +21,26 @@ sweeps-init c =
     let pre = c.requires in
     let answers = answersIn a.job.now a.index.now a.c in
     let names = a.names.now in
-    let whole = wholeRun answers a.starts.now names a.rows.now a.count a.items.now a.stretches.now in
-    (refl, refl, refl, refl, refl, refl, going-start answers a.starts.now names a.rows.now a.count (length a.stretches.now) (laidOut a.list.now a.nexts.now a.heads.now a.stretches.now a.items.now) a.stretches.now a.ends.now a.lows.now a.highs.now whole pre.1 pre.2 refl (subst (Laid a.stretches.now) (sym pre.9) pre.3) pre.4 (λ faces. ap (λ l. maximalEdges answers a.starts.now names (length names) (stateIn a.rows.now a.count l a.stretches.now faces 0 0)) (sym pre.9)), refl, refl, refl, refl, refl, pre.8)
+    let whole = wholeRun answers a.starts.now names a.rows.now a.count a.items.now a.stretches.now in (
+      refl,
+      refl,
+      refl,
+      refl,
+      refl,
+      refl,
+      going-start answers a.starts.now names a.rows.now a.count
+          (length a.stretches.now) (laidOut a.list.now a.nexts.now a.heads.now a.stretches.now a.items.now)
+          a.stretches.now a.ends.now a.lows.now a.highs.now whole pre.1 pre.2 refl
+          (subst (Laid a.stretches.now) (sym pre.9) pre.3) pre.4
+          (λ faces. ap (λ l. maximalEdges answers a.starts.now names (length names)
+          (stateIn a.rows.now a.count l a.stretches.now faces 0 0)) (sym pre.9)),
+      refl,
+      refl,
+      refl,
+      refl,
+      refl,
+      pre.8,
+    )
 
 pub overflow_mul-part : goal.overflow_mul-part
 overflow_mul-part c = omega (arith, c.sweeps.invariant.6.few)
@@ -49,8 +67,19 @@ returns-in-Unchanged c =
     let answers = answersIn a.job.now a.index.now a.c in
     let names = a.names.now in
     let whole = wholeRun answers a.starts.now names a.rows.now a.count a.items.now a.stretches.now in (
-      λ faces h. ap (joiningOf l.rows c.lay_loops.new.items l.stretches faces) c.done.ensures ∙ ap (λ z. joiningOf l.rows z l.stretches faces (doneWith l.n l.joins l.rings)) c.lay_loops.ensures ∙ going-done answers a.starts.now names whole (length a.stretches.now) l.rows l.n laid l.stretches l.ends l.lows l.highs l.joins l.rings l.low l.high l.top l.invariant.6 c.sweep-change.result c.sweep-change.ensures c.in-Unchanged.is faces h,
-      subst (λ z. Fitting names l.rows z l.stretches c.done.result) (sym c.lay_loops.ensures) (subst (Fitting names l.rows laid l.stretches) (sym c.done.ensures) (l.invariant.6.laid, l.invariant.6.few, omega (arith, l.invariant.6.budget), omega (arith, l.invariant.6.size))),
+      λ faces h. ap (joiningOf l.rows c.lay_loops.new.items l.stretches faces) c.done.ensures ∙ ap
+          (λ z. joiningOf l.rows z l.stretches faces (doneWith l.n l.joins l.rings)) c.lay_loops.ensures ∙ going-done
+          answers a.starts.now names whole (length a.stretches.now) l.rows l.n laid l.stretches l.ends l.lows l.highs
+          l.joins l.rings l.low l.high l.top l.invariant.6 c.sweep-change.result c.sweep-change.ensures
+          c.in-Unchanged.is faces h,
+      subst (λ z. Fitting names l.rows z l.stretches c.done.result) (sym c.lay_loops.ensures)
+          (subst (Fitting names l.rows laid l.stretches) (sym c.done.ensures) (
+            l.invariant.6.laid,
+            l.invariant.6.few,
+            omega (arith, l.invariant.6.budget),
+            omega
+                (arith, l.invariant.6.size),
+          )),
     )
 
 pub returns-in-Refused : goal.returns-in-Refused
@@ -62,8 +91,12 @@ returns-in-Refused c =
     let pre = c.requires in
     let answers = answersIn a.job.now a.index.now a.c in
     let names = a.names.now in
-    let whole = wholeRun answers a.starts.now names a.rows.now a.count a.items.now a.stretches.now in
-    (going-stopped answers a.starts.now names whole (length a.stretches.now) l.rows l.n laid l.stretches l.ends l.lows l.highs l.joins l.rings l.low l.high l.top l.invariant.6 c.sweep-change.result _ _ c.sweep-change.ensures c.in-Refused.is, tt)
+    let whole = wholeRun answers a.starts.now names a.rows.now a.count a.items.now a.stretches.now in (
+      going-stopped answers a.starts.now names whole (length a.stretches.now) l.rows l.n laid l.stretches l.ends l.lows
+          l.highs l.joins l.rings l.low l.high l.top l.invariant.6 c.sweep-change.result _ _ c.sweep-change.ensures
+          c.in-Refused.is,
+      tt,
+    )
 
 pub ring_at-requires : goal.ring_at-requires
 ring_at-requires c =
@@ -74,8 +107,14 @@ ring_at-requires c =
     let pre = c.requires in
     let answers = answersIn a.job.now a.index.now a.c in
     let names = a.names.now in
-    let whole = wholeRun answers a.starts.now names a.rows.now a.count a.items.now a.stretches.now in
-    (omega (arith, l.invariant.6.size), omega (arith, l.invariant.6.few), ring-inside answers a.starts.now names whole (length a.stretches.now) l.rows l.n laid l.stretches l.ends l.lows l.highs l.joins l.rings l.low l.high l.top l.invariant.6 pre.5 (λ x m. omega (arith, pre.6 x m, pre.4.size)) a.ranks.now pre.7 c.sweep-change.result c.sweep-change.ensures _ _ c.in-Ring.is)
+    let whole = wholeRun answers a.starts.now names a.rows.now a.count a.items.now a.stretches.now in (
+      omega (arith, l.invariant.6.size),
+      omega (arith, l.invariant.6.few),
+      ring-inside answers a.starts.now names whole
+          (length a.stretches.now) l.rows l.n laid l.stretches l.ends l.lows l.highs l.joins l.rings l.low l.high l.top
+          l.invariant.6 pre.5 (λ x m. omega (arith, pre.6 x m, pre.4.size)) a.ranks.now pre.7 c.sweep-change.result
+          c.sweep-change.ensures _ _ c.in-Ring.is,
+    )
 
 pub next_after-top-requires : goal.next_after-top-requires
 next_after-top-requires c = omega (arith, c.get.ensures.1)
@@ -83,7 +122,12 @@ next_after-top-requires c = omega (arith, c.get.ensures.1)
 pub overflow_add-rings : goal.overflow_add-rings
 overflow_add-rings c =
     let pre = c.requires in
-    omega (arith, c.sweeps.invariant.6.budget, pigeon-below 2048 c.args.names.now pre.5 (λ x m. omega (arith, pre.6 x m, pre.4.size)))
+    omega (
+      arith,
+      c.sweeps.invariant.6.budget,
+      pigeon-below 2048 c.args.names.now pre.5
+          (λ x m. omega (arith, pre.6 x m, pre.4.size)),
+    )
 
 pub sweeps-smaller-in-Ring : goal.sweeps-smaller-in-Ring
 sweeps-smaller-in-Ring c =
@@ -96,7 +140,10 @@ sweeps-smaller-in-Ring c =
     let names = a.names.now in
     let whole = wholeRun answers a.starts.now names a.rows.now a.count a.items.now a.stretches.now in
     let ring = c.ring_at in
-    ring-less answers a.starts.now names whole (length a.stretches.now) l.rows l.n laid l.stretches l.ends l.lows l.highs l.joins l.rings l.low l.high l.top l.invariant.6 pre.5 (λ x m. omega (arith, pre.6 x m, pre.4.size)) a.ranks.now pre.7 c.sweep-change.result c.sweep-change.ensures _ _ c.in-Ring.is ring.new.rows ring.new.ends ring.ensures.0
+    ring-less answers a.starts.now names whole (length a.stretches.now) l.rows l.n laid l.stretches l.ends l.lows
+    l.highs l.joins l.rings l.low l.high l.top l.invariant.6 pre.5 (λ x m. omega (arith, pre.6 x m, pre.4.size))
+    a.ranks.now pre.7 c.sweep-change.result c.sweep-change.ensures _ _ c.in-Ring.is ring.new.rows ring.new.ends
+    ring.ensures.0
 
 pub sweeps-preserved-in-Ring : goal.sweeps-preserved-in-Ring
 sweeps-preserved-in-Ring c =
@@ -115,13 +162,18 @@ sweeps-preserved-in-Ring c =
       ring.auto.rows ∙ l.invariant.3,
       l.invariant.4,
       l.invariant.5,
-      going-ring answers a.starts.now names whole (length a.stretches.now) l.rows l.n laid l.stretches l.ends l.lows l.highs l.joins l.rings l.low l.high l.top l.invariant.6 pre.5 (λ x m. omega (arith, pre.6 x m, pre.4.size)) a.ranks.now pre.7 c.sweep-change.result c.sweep-change.ensures _ _ c.in-Ring.is ring.new.rows ring.new.ends ring.ensures.0 c.next_after-top.result ring.auto.rows ring.ensures.1 (c.next_after-top.ensures ∙ ap (nextAfter l.high l.top) c.get.ensures.0),
+      going-ring answers a.starts.now names whole (length a.stretches.now) l.rows l.n laid l.stretches l.ends l.lows
+          l.highs l.joins l.rings l.low l.high l.top l.invariant.6 pre.5 (λ x m. omega (arith, pre.6 x m, pre.4.size))
+          a.ranks.now pre.7 c.sweep-change.result c.sweep-change.ensures _ _ c.in-Ring.is ring.new.rows ring.new.ends
+          ring.ensures.0 c.next_after-top.result ring.auto.rows ring.ensures.1
+          (c.next_after-top.ensures ∙ ap (nextAfter l.high l.top) c.get.ensures.0),
       l.invariant.7,
       l.invariant.8,
       l.invariant.9,
       l.invariant.10,
       l.invariant.11,
-      hung-ringed names (edgesIn l.rows l.n) links l.invariant.12 c.sweep-change.result c.sweep-change.ensures.real _ _ c.in-Ring.is (edgesIn ring.new.rows l.n) ring.ensures.0,
+      hung-ringed names (edgesIn l.rows l.n) links l.invariant.12 c.sweep-change.result c.sweep-change.ensures.real _ _
+          c.in-Ring.is (edgesIn ring.new.rows l.n) ring.ensures.0,
     )
 
 pub join_at-e-requires : goal.join_at-e-requires
@@ -134,8 +186,18 @@ join_at-e-requires c =
     let answers = answersIn a.job.now a.index.now a.c in
     let names = a.names.now in
     let whole = wholeRun answers a.starts.now names a.rows.now a.count a.items.now a.stretches.now in
-    let w = join-inside answers a.starts.now names whole (length a.stretches.now) l.rows l.n laid l.stretches l.ends l.lows l.highs l.joins l.rings l.low l.high l.top l.invariant.6 pre.5 (λ x m. omega (arith, pre.6 x m, pre.4.size)) a.ranks.now pre.7 c.sweep-change.result c.sweep-change.ensures _ _ _ c.in-Join.is in
-    (w.3, omega (arith, w.2), w.0, w.1, may-join names (edgesIn l.rows l.n) links l.invariant.12 c.sweep-change.result c.sweep-change.ensures.real _ _ _ c.in-Join.is l.n (sym (count-edges l.rows l.n (omega (arith, l.invariant.6.size)))) (omega (arith, w.2)))
+    let w = join-inside answers a.starts.now names whole (length a.stretches.now) l.rows l.n laid l.stretches l.ends
+    l.lows l.highs l.joins l.rings l.low l.high l.top l.invariant.6 pre.5
+    (λ x m. omega (arith, pre.6 x m, pre.4.size)) a.ranks.now pre.7 c.sweep-change.result c.sweep-change.ensures _ _
+    _ c.in-Join.is in (
+      w.3,
+      omega (arith, w.2),
+      w.0,
+      w.1,
+      may-join names (edgesIn l.rows l.n) links l.invariant.12 c.sweep-change.result
+          c.sweep-change.ensures.real _ _ _ c.in-Join.is l.n (sym
+          (count-edges l.rows l.n (omega (arith, l.invariant.6.size)))) (omega (arith, w.2)),
+    )
 
 pub next_after-top-requires-in-Join : goal.next_after-top-requires-in-Join
 next_after-top-requires-in-Join c = omega (arith, c.get-in-Join.ensures.1)
@@ -146,7 +208,12 @@ overflow_add-n c = omega (arith, c.sweeps.invariant.6.few)
 pub overflow_add-joins : goal.overflow_add-joins
 overflow_add-joins c =
     let pre = c.requires in
-    omega (arith, c.sweeps.invariant.6.budget, pigeon-below 2048 c.args.names.now pre.5 (λ x m. omega (arith, pre.6 x m, pre.4.size)))
+    omega (
+      arith,
+      c.sweeps.invariant.6.budget,
+      pigeon-below 2048 c.args.names.now pre.5
+          (λ x m. omega (arith, pre.6 x m, pre.4.size)),
+    )
 
 pub sweeps-smaller : goal.sweeps-smaller
 sweeps-smaller c =
@@ -159,7 +226,12 @@ sweeps-smaller c =
     let names = a.names.now in
     let whole = wholeRun answers a.starts.now names a.rows.now a.count a.items.now a.stretches.now in
     let join = c.join_at-e in
-    join-less answers a.starts.now names whole (length a.stretches.now) l.rows l.n laid l.stretches l.ends l.lows l.highs l.joins l.rings l.low l.high l.top l.invariant.6 pre.5 (λ x m. omega (arith, pre.6 x m, pre.4.size)) a.ranks.now pre.7 c.sweep-change.result c.sweep-change.ensures _ _ _ c.in-Join.is join.new.rows (laidOut join.new.list join.new.nexts join.new.heads join.new.stretches l.items) join.new.stretches join.new.ends join.new.lows join.new.highs join.result (join.ensures.lists l.items (laid-base links l.items l.invariant.6.laid))
+    join-less answers a.starts.now names whole (length a.stretches.now) l.rows l.n laid l.stretches l.ends l.lows
+    l.highs l.joins l.rings l.low l.high l.top l.invariant.6 pre.5 (λ x m. omega (arith, pre.6 x m, pre.4.size))
+    a.ranks.now pre.7 c.sweep-change.result c.sweep-change.ensures _ _ _ c.in-Join.is join.new.rows
+    (laidOut join.new.list join.new.nexts join.new.heads join.new.stretches l.items) join.new.stretches
+    join.new.ends join.new.lows join.new.highs join.result
+    (join.ensures.lists l.items (laid-base links l.items l.invariant.6.laid))
 
 pub sweeps-preserved : goal.sweeps-preserved
 sweeps-preserved c =
@@ -179,11 +251,24 @@ sweeps-preserved c =
       join.auto.rows ∙ l.invariant.3,
       l.invariant.4,
       join.auto.stretches ∙ l.invariant.5,
-      going-join answers a.starts.now names whole (length a.stretches.now) l.rows l.n laid l.stretches l.ends l.lows l.highs l.joins l.rings l.low l.high l.top l.invariant.6 pre.5 (λ x m. omega (arith, pre.6 x m, pre.4.size)) a.ranks.now pre.7 c.sweep-change.result c.sweep-change.ensures _ _ _ c.in-Join.is join.new.rows (laidOut join.new.list join.new.nexts join.new.heads join.new.stretches l.items) join.new.stretches join.new.ends join.new.lows join.new.highs join.result (join.ensures.lists l.items (laid-base links l.items l.invariant.6.laid)) c.next_after-top-in-Join.result c.get-p.result c.get-q.result c.lower-low.result c.lower-high.result join.auto.rows join.auto.stretches (c.next_after-top-in-Join.ensures ∙ ap (nextAfter l.high l.top) c.get-in-Join.ensures.0) (c.get-p.ensures.0 ∙ ap (λ x. get_or ranks x 0) c.wide.ensures.0) (c.get-q.ensures.0 ∙ ap (λ x. get_or ranks x 0) c.wide-in-Join.ensures.0) (c.lower-low.ensures ∙ ap (lowerOf c.next_after-top-in-Join.result) c.lower.ensures) (c.lower-high.ensures ∙ ap (lowerOf c.next_after-top-in-Join.result) c.higher.ensures),
+      going-join answers a.starts.now names whole (length a.stretches.now) l.rows l.n laid l.stretches l.ends l.lows
+          l.highs l.joins l.rings l.low l.high l.top l.invariant.6 pre.5 (λ x m. omega (arith, pre.6 x m, pre.4.size))
+          a.ranks.now pre.7 c.sweep-change.result c.sweep-change.ensures _ _ _ c.in-Join.is join.new.rows
+          (laidOut join.new.list join.new.nexts join.new.heads join.new.stretches l.items) join.new.stretches
+          join.new.ends join.new.lows join.new.highs join.result
+          (join.ensures.lists l.items (laid-base links l.items l.invariant.6.laid)) c.next_after-top-in-Join.result
+          c.get-p.result c.get-q.result c.lower-low.result c.lower-high.result join.auto.rows join.auto.stretches
+          (c.next_after-top-in-Join.ensures ∙ ap (nextAfter l.high l.top) c.get-in-Join.ensures.0)
+          (c.get-p.ensures.0 ∙ ap (λ x. get_or ranks x 0) c.wide.ensures.0)
+          (c.get-q.ensures.0 ∙ ap (λ x. get_or ranks x 0) c.wide-in-Join.ensures.0)
+          (c.lower-low.ensures ∙ ap (lowerOf c.next_after-top-in-Join.result) c.lower.ensures)
+          (c.lower-high.ensures ∙ ap (lowerOf c.next_after-top-in-Join.result) c.higher.ensures),
       join.auto.list ∙ l.invariant.7,
       join.auto.nexts ∙ l.invariant.8,
       join.auto.heads ∙ l.invariant.9,
       join.auto.spots ∙ l.invariant.10,
       l.invariant.11,
-      hung-joined names (edgesIn l.rows l.n) links l.invariant.12 c.sweep-change.result c.sweep-change.ensures.real _ _ _ c.in-Join.is (linksOf join.new.list join.new.nexts join.new.heads a.owners.now join.new.spots join.new.stretches) (edgesIn join.new.rows (l.n + 1)) join.ensures.links join.ensures.edges,
+      hung-joined names (edgesIn l.rows l.n) links l.invariant.12 c.sweep-change.result c.sweep-change.ensures.real _ _
+          _ c.in-Join.is (linksOf join.new.list join.new.nexts join.new.heads a.owners.now join.new.spots
+          join.new.stretches) (edgesIn join.new.rows (l.n + 1)) join.ensures.links join.ensures.edges,
     )

@@ -10,7 +10,17 @@ use mathlib.Core.Path.{◌≡◌}
 use Rattle.maximal_edges.proofs.join_all.Given as goal
 
 abbrev pub invariant-sweeps : goal.invariant-sweeps
-invariant-sweeps l = (length l.ends ≡ length l.initial.ends) × (length l.lows ≡ length l.initial.lows) × (length l.highs ≡ length l.initial.highs) × (length l.rows ≡ length l.initial.rows) × (length l.items ≡ length l.initial.items) × (length l.stretches ≡ length l.initial.stretches) × Going (answersIn l.job l.index l.c) l.starts l.names (wholeRun (answersIn l.job l.index l.c) l.starts l.names l.initial.rows l.count l.initial.items l.initial.stretches) (length l.initial.stretches) l.rows l.n (laidOut l.list l.nexts l.heads l.stretches l.items) l.stretches l.ends l.lows l.highs l.joins l.rings l.low l.high l.top × (length l.list ≡ length l.initial.list) × (length l.nexts ≡ length l.initial.nexts) × (length l.heads ≡ length l.initial.heads) × (length l.spots ≡ length l.initial.spots) × (l.items ≡ l.initial.items) × Hung (edgesIn l.rows l.n) (linksOf l.list l.nexts l.heads l.owners l.spots l.stretches)
+invariant-sweeps l =
+    (length l.ends ≡ length l.initial.ends) × (length l.lows ≡ length l.initial.lows) ×
+    (length l.highs ≡ length l.initial.highs) × (length l.rows ≡ length l.initial.rows) ×
+    (length l.items ≡ length l.initial.items) × (length l.stretches ≡ length l.initial.stretches) × Going
+    (answersIn l.job l.index l.c) l.starts l.names (wholeRun (answersIn l.job l.index l.c) l.starts l.names
+    l.initial.rows l.count l.initial.items l.initial.stretches) (length l.initial.stretches) l.rows l.n
+    (laidOut l.list l.nexts l.heads l.stretches l.items) l.stretches l.ends l.lows l.highs l.joins l.rings l.low
+    l.high l.top × (length l.list ≡ length l.initial.list) × (length l.nexts ≡ length l.initial.nexts) ×
+    (length l.heads ≡ length l.initial.heads) × (length l.spots ≡ length l.initial.spots) ×
+    (l.items ≡ l.initial.items) × Hung (edgesIn l.rows l.n)
+    (linksOf l.list l.nexts l.heads l.owners l.spots l.stretches)
 
 abbrev pub decreases-sweeps : goal.decreases-sweeps
 decreases-sweeps l = length (keep (twoEnds (edgesIn l.rows l.n)) l.names)

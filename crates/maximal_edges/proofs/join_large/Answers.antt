@@ -9,8 +9,18 @@ use Rattle.maximal_edges.proofs.join_large.Goals as goal
 pub join_with-requires : goal.join_with-requires
 join_with-requires c =
     let a = c.args in
-    let pre = c.requires in
-    (pre.0, pre.1, pre.2, pre.3, pre.4, λ v m. omega (arith, pre.5 v m, length-replicate {A = ℕ} 2048 0), blank 2048 (omega arith), refl, blank-fit a.rows.now a.count a.items.now a.stretches.now 2048 (omega arith) pre.6)
+    let pre = c.requires in (
+      pre.0,
+      pre.1,
+      pre.2,
+      pre.3,
+      pre.4,
+      λ v m. omega (arith, pre.5 v m, length-replicate {A = ℕ} 2048 0),
+      blank 2048
+          (omega arith),
+      refl,
+      blank-fit a.rows.now a.count a.items.now a.stretches.now 2048 (omega arith) pre.6,
+    )
 
 pub returns : goal.returns
 returns c = c.join_with.ensures

@@ -24,15 +24,32 @@ rank-requires c =
 pub link_loops-requires : goal.link_loops-requires
 link_loops-requires c =
     let a = c.args in
-    let pre = c.requires in
-    (can-link a.rows.now a.count a.items.now a.stretches.now a.list.now a.nexts.now a.heads.now a.owners.now a.spots.now (omega (arith, pre.1)) pre.3 pre.8, pre.8.heads-fit, pre.8.short)
+    let pre = c.requires in (
+      can-link a.rows.now a.count a.items.now a.stretches.now a.list.now a.nexts.now a.heads.now a.owners.now a.spots.now
+          (omega (arith, pre.1)) pre.3 pre.8,
+      pre.8.heads-fit,
+      pre.8.short,
+    )
 
 pub join_all-requires : goal.join_all-requires
 join_all-requires c =
     let a = c.args in
     let pre = c.requires in
-    let start = linked-start a.rows.now a.count a.items.now a.stretches.now a.list.now a.nexts.now a.heads.now a.owners.now a.spots.now (omega (arith, pre.1)) pre.3 pre.8 c.link_loops.new.list c.link_loops.new.nexts c.link_loops.new.heads c.link_loops.new.owners c.link_loops.new.spots c.link_loops.auto.spots c.link_loops.ensures in
-    (pre.0, pre.1, pre.2, pre.3, c.count_ends.ensures, pre.4, λ v m. omega (arith, pre.5 v m, c.count_ends.auto.ends), c.rank.ensures, start.0, start.1)
+    let start = linked-start a.rows.now a.count a.items.now a.stretches.now a.list.now a.nexts.now a.heads.now
+    a.owners.now a.spots.now (omega (arith, pre.1)) pre.3 pre.8 c.link_loops.new.list c.link_loops.new.nexts
+    c.link_loops.new.heads c.link_loops.new.owners c.link_loops.new.spots c.link_loops.auto.spots
+    c.link_loops.ensures in (
+      pre.0,
+      pre.1,
+      pre.2,
+      pre.3,
+      c.count_ends.ensures,
+      pre.4,
+      λ v m. omega (arith, pre.5 v m, c.count_ends.auto.ends),
+      c.rank.ensures,
+      start.0,
+      start.1,
+    )
 
 pub returns : goal.returns
 returns c = c.join_all.ensures

@@ -6,4 +6,12 @@ pub returns : goal.returns
 unfolding joinedEdge
 returns c =
     let a = c.args in
-    λ i. record { curve = a.a.curve; sense = c.joined_sense-sense.ensures i; start = c.far_end-start.ensures i; end = c.far_end-end.ensures i; faces = a.a.faces; active = true }
+    λ i. record {
+      curve = a.a.curve;
+      sense = c.joined_sense-sense.ensures i;
+      start = c.far_end-start.ensures i;
+      end =
+          c.far_end-end.ensures i;
+      faces = a.a.faces;
+      active = true;
+    }

@@ -3,8 +3,20 @@ use Rattle.maximal_edges.proofs.maximal_edges.Goals as goal
 pub join_small-requires : goal.join_small-requires
 join_small-requires c =
     let pre = c.requires in
-    let small = c.is_small.ensures c.if-is_small.true in
-    (pre.0, pre.1, pre.2, pre.3, pre.4, small.0, record { sound = pre.6.sound; edges-few = small.1; items-few = small.2; stretches-few = small.3 })
+    let small = c.is_small.ensures c.if-is_small.true in (
+      pre.0,
+      pre.1,
+      pre.2,
+      pre.3,
+      pre.4,
+      small.0,
+      record {
+        sound = pre.6.sound;
+        edges-few = small.1;
+        items-few = small.2;
+        stretches-few = small.3;
+      },
+    )
 
 pub returns-then-is_small : goal.returns-then-is_small
 returns-then-is_small c = c.join_small.ensures

@@ -14,9 +14,11 @@ returns-then-i-high c =
 pub returns-then-i-top : goal.returns-then-i-top
 returns-then-i-top c =
     let a = c.args in
-    sym (cond-false (ltb a.i a.high) a.high (cond (ltb a.i a.top) a.top (a.i + 1)) (le-ltb a.i a.high c.if-i-high.false) ∙ cond-true (ltb a.i a.top) a.top (a.i + 1) (lt-ltb a.i a.top c.if-i-top.true))
+    sym (cond-false (ltb a.i a.high) a.high (cond (ltb a.i a.top) a.top (a.i + 1)) (le-ltb a.i a.high c.if-i-high.false)
+    ∙ cond-true (ltb a.i a.top) a.top (a.i + 1) (lt-ltb a.i a.top c.if-i-top.true))
 
 pub returns : goal.returns
 returns c =
     let a = c.args in
-    sym (cond-false (ltb a.i a.high) a.high (cond (ltb a.i a.top) a.top (a.i + 1)) (le-ltb a.i a.high c.if-i-high.false) ∙ cond-false (ltb a.i a.top) a.top (a.i + 1) (le-ltb a.i a.top c.if-i-top.false))
+    sym (cond-false (ltb a.i a.high) a.high (cond (ltb a.i a.top) a.top (a.i + 1)) (le-ltb a.i a.high c.if-i-high.false)
+    ∙ cond-false (ltb a.i a.top) a.top (a.i + 1) (le-ltb a.i a.top c.if-i-top.false))

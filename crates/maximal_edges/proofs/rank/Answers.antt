@@ -19,8 +19,13 @@ loop-i-preserved c =
     let names = c.args.names.now in
     let l = c.loop-i in
     let pre = c.requires in
-    let inside = pre.2 c.get.result (subst (λ x. x ∈ names) (sym c.get.ensures.0) (getD-in names l.i 0 c.loop-i-test.true)) in
-    (omega arith, c.put.auto.t ∙ l.invariant.1, ranked-more names l.ranks c.put.new.t l.i c.get.result pre.0 c.loop-i-test.true c.get.ensures.0 (omega (arith, inside, l.invariant.1)) c.put.ensures l.invariant.2)
+    let inside = pre.2 c.get.result (subst (λ x. x ∈ names) (sym c.get.ensures.0)
+    (getD-in names l.i 0 c.loop-i-test.true)) in (
+      omega arith,
+      c.put.auto.t ∙ l.invariant.1,
+      ranked-more names l.ranks c.put.new.t l.i c.get.result pre.0
+          c.loop-i-test.true c.get.ensures.0 (omega (arith, inside, l.invariant.1)) c.put.ensures l.invariant.2,
+    )
 
 pub returns : goal.returns
 returns c = λ k h. c.loop-i.invariant.2 k (omega (arith, c.loop-i-test.false))

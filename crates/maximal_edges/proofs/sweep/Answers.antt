@@ -10,8 +10,12 @@ use Rattle.maximal_edges.proofs.sweep.Goals as goal
 
 pub corners-init : goal.corners-init
 corners-init c =
-    let a = c.args in
-    (refl, omega arith, still-first (answersIn a.job.now a.index.now a.c) a.starts.now a.names.now (rowsIn a.rows.now) a.low a.high a.top c.requires.3)
+    let a = c.args in (
+      refl,
+      omega arith,
+      still-first (answersIn a.job.now a.index.now a.c) a.starts.now a.names.now (rowsIn a.rows.now)
+          a.low a.high a.top c.requires.3,
+    )
 
 pub edges-init : goal.edges-init
 edges-init c =
@@ -19,7 +23,9 @@ edges-init c =
     let v = c.get-v.result in
     let es = rowsIn a.rows.now in
     let high = get_or a.highs.now v 0 in
-    let pair = corner-pair es a.ends.now a.lows.now a.highs.now a.names.now c.requires.1 c.requires.2 c.corners.i v c.corners-test.true c.get-v.ensures.0 c.get.result c.get-a.result high c.get.ensures.0 c.if-get-eq2.true c.get-a.ensures.0 refl in
+    let pair = corner-pair es a.ends.now a.lows.now a.highs.now a.names.now c.requires.1 c.requires.2 c.corners.i v
+    c.corners-test.true c.get-v.ensures.0 c.get.result c.get-a.result high c.get.ensures.0 c.if-get-eq2.true
+    c.get-a.ensures.0 refl in
     scan-start es v c.get-a.result high pair
 
 pub overflow_add-seen : goal.overflow_add-seen
@@ -31,7 +37,12 @@ edges-smaller c =
     let v = c.get-v.result in
     let scan = c.edges in
     let ends = c.ends_of-seen in
-    omega (arith, c.edges-test.true, scan-more (rowsIn a.rows.now) v c.get-a.result (get_or a.highs.now v 0) scan.seen scan.e scan.invariant ends.result ends.ensures.0)
+    omega (
+      arith,
+      c.edges-test.true,
+      scan-more (rowsIn a.rows.now) v c.get-a.result (get_or a.highs.now v 0) scan.seen
+          scan.e scan.invariant ends.result ends.ensures.0,
+    )
 
 pub edges-preserved : goal.edges-preserved
 edges-preserved c =
@@ -39,7 +50,8 @@ edges-preserved c =
     let v = c.get-v.result in
     let scan = c.edges in
     let ends = c.ends_of-seen in
-    scan-on (rowsIn a.rows.now) v c.get-a.result (get_or a.highs.now v 0) scan.seen scan.e scan.invariant ends.result ends.ensures.0 c.if-seen-ne2.true c.get-e.result c.get-e.ensures.0
+    scan-on (rowsIn a.rows.now) v c.get-a.result (get_or a.highs.now v 0) scan.seen scan.e scan.invariant ends.result
+    ends.ensures.0 c.if-seen-ne2.true c.get-e.result c.get-e.ensures.0
 
 pub corners-preserved-then-stays : goal.corners-preserved-then-stays
 corners-preserved-then-stays c =
@@ -54,12 +66,16 @@ corners-preserved-then-stays c =
     let answers = answersIn a.job.now a.index.now a.c in
     let es = rowsIn a.rows.now in
     let names = a.names.now in
-    let pair = scan-both es v low (get_or a.highs.now v 0) scan.seen scan.e scan.invariant ends.result ends.ensures.0 c.if-seen-ne2.false in
+    let pair = scan-both es v low (get_or a.highs.now v 0) scan.seen scan.e scan.invariant ends.result ends.ensures.0
+    c.if-seen-ne2.false in
     let stays = sym c.stays.ensures ∙ c.if-stays.true in
-    let still = subst (Still answers a.starts.now es) c.get-v.ensures.0 (tried-still answers a.starts.now es v low scan.e tried.result pair tried.ensures stays) in (
+    let still = subst (Still answers a.starts.now es) c.get-v.ensures.0
+    (tried-still answers a.starts.now es v low scan.e tried.result pair tried.ensures stays) in (
       still-unchanged tried.result stays,
       omega (arith, next-more a.high a.top i, c.next_after-i.ensures, corners.invariant.1),
-      subst (AllStill answers a.starts.now names es) (sym c.next_after-i.ensures) (still-next answers a.starts.now names es a.low a.high a.top c.requires.3 i corners.invariant.1 corners.invariant.2 still),
+      subst (AllStill answers a.starts.now names es) (sym c.next_after-i.ensures)
+          (still-next answers a.starts.now names es a.low a.high a.top c.requires.3 i corners.invariant.1
+          corners.invariant.2 still),
     )
 
 pub corners-preserved : goal.corners-preserved
@@ -71,18 +87,23 @@ corners-preserved c =
     let answers = answersIn a.job.now a.index.now a.c in
     let es = rowsIn a.rows.now in
     let names = a.names.now in
-    let count = corner-count es a.ends.now a.lows.now a.highs.now names c.requires.1 c.requires.2 i v c.corners-test.true c.get-v.ensures.0 c.get.result c.get.ensures.0 in
-    let still = subst (Still answers a.starts.now es) c.get-v.ensures.0 (idle-still answers a.starts.now es v (λ q. c.if-get-eq2.false (count ∙ q))) in (
+    let count = corner-count es a.ends.now a.lows.now a.highs.now names c.requires.1 c.requires.2 i v
+    c.corners-test.true c.get-v.ensures.0 c.get.result c.get.ensures.0 in
+    let still = subst (Still answers a.starts.now es) c.get-v.ensures.0
+    (idle-still answers a.starts.now es v (λ q. c.if-get-eq2.false (count ∙ q))) in (
       corners.invariant.0,
       omega (arith, next-more a.high a.top i, c.next_after-i.ensures, corners.invariant.1),
-      subst (AllStill answers a.starts.now names es) (sym c.next_after-i.ensures) (still-next answers a.starts.now names es a.low a.high a.top c.requires.3 i corners.invariant.1 corners.invariant.2 still),
+      subst (AllStill answers a.starts.now names es) (sym c.next_after-i.ensures)
+          (still-next answers a.starts.now names es a.low a.high a.top c.requires.3 i corners.invariant.1
+          corners.invariant.2 still),
     )
 
 pub returns-after-corners : goal.returns-after-corners
 returns-after-corners c =
     let a = c.args in
     let corners = c.corners in
-    swept-none (answersIn a.job.now a.index.now a.c) a.starts.now a.names.now (rowsIn a.rows.now) a.high a.top corners.i corners.change corners.invariant.2 c.corners-test.false corners.invariant.0
+    swept-none (answersIn a.job.now a.index.now a.c) a.starts.now a.names.now (rowsIn a.rows.now) a.high a.top corners.i
+    corners.change corners.invariant.2 c.corners-test.false corners.invariant.0
 
 pub returns-else-stays : goal.returns-else-stays
 returns-else-stays c =
@@ -95,5 +116,8 @@ returns-else-stays c =
     let tried = c.try_corner-change in
     let answers = answersIn a.job.now a.index.now a.c in
     let es = rowsIn a.rows.now in
-    let pair = scan-both es v low (get_or a.highs.now v 0) scan.seen scan.e scan.invariant ends.result ends.ensures.0 c.if-seen-ne2.false in
-    swept-here answers a.starts.now a.names.now es a.low a.high a.top corners.i v low scan.e tried.result c.requires.3 corners.invariant.1 corners.invariant.2 c.corners-test.true c.get-v.ensures.0 pair tried.ensures (sym c.stays.ensures ∙ c.if-stays.false)
+    let pair = scan-both es v low (get_or a.highs.now v 0) scan.seen scan.e scan.invariant ends.result ends.ensures.0
+    c.if-seen-ne2.false in
+    swept-here answers a.starts.now a.names.now es a.low a.high a.top corners.i v low scan.e tried.result c.requires.3
+    corners.invariant.1 corners.invariant.2 c.corners-test.true c.get-v.ensures.0 pair tried.ensures
+    (sym c.stays.ensures ∙ c.if-stays.false)

@@ -12,7 +12,8 @@ abbrev pub invariant-edges : goal.invariant-edges
 invariant-edges l = Scan (rowsIn l.rows) l.v l.a (get_or l.highs l.v 0) l.seen l.e
 
 abbrev pub invariant-corners : goal.invariant-corners
-invariant-corners l = (l.change ≡ Unchanged) × (l.low ≤ l.i) × AllStill (answersIn l.job l.index l.c) l.starts l.names (rowsIn l.rows) l.i
+invariant-corners l =
+    (l.change ≡ Unchanged) × (l.low ≤ l.i) × AllStill (answersIn l.job l.index l.c) l.starts l.names (rowsIn l.rows) l.i
 
 abbrev pub decreases-edges : goal.decreases-edges
 decreases-edges l = 2 - l.seen

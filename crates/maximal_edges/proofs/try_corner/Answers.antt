@@ -11,7 +11,8 @@ returns-in-Refused c =
     let may-change-call = c.may_change-t in
     let answers = answersIn a.job.now a.index.now a.c in
     let es = rowsIn a.rows.now in
-    tried-at answers a.starts.now es a.v a.a a.b get-call.result may-change-call.result _ get-call.ensures.0 may-change-call.ensures (sym (ap (λ t. changeBy t (changeAt a.v a.a a.b)) c.in-Refused.is))
+    tried-at answers a.starts.now es a.v a.a a.b get-call.result may-change-call.result _ get-call.ensures.0
+    may-change-call.ensures (sym (ap (λ t. changeBy t (changeAt a.v a.a a.b)) c.in-Refused.is))
 
 pub returns-in-No : goal.returns-in-No
 returns-in-No c =
@@ -20,7 +21,8 @@ returns-in-No c =
     let may-change-call = c.may_change-t in
     let answers = answersIn a.job.now a.index.now a.c in
     let es = rowsIn a.rows.now in
-    tried-at answers a.starts.now es a.v a.a a.b get-call.result may-change-call.result _ get-call.ensures.0 may-change-call.ensures (sym (ap (λ t. changeBy t (changeAt a.v a.a a.b)) c.in-No.is))
+    tried-at answers a.starts.now es a.v a.a a.b get-call.result may-change-call.result _ get-call.ensures.0
+    may-change-call.ensures (sym (ap (λ t. changeBy t (changeAt a.v a.a a.b)) c.in-No.is))
 
 pub returns-in-Yes : goal.returns-in-Yes
 returns-in-Yes c =
@@ -29,4 +31,5 @@ returns-in-Yes c =
     let may-change-call = c.may_change-t in
     let answers = answersIn a.job.now a.index.now a.c in
     let es = rowsIn a.rows.now in
-    tried-at answers a.starts.now es a.v a.a a.b get-call.result may-change-call.result _ get-call.ensures.0 may-change-call.ensures (c.change_at.ensures ∙ sym (ap (λ t. changeBy t (changeAt a.v a.a a.b)) c.in-Yes.is))
+    tried-at answers a.starts.now es a.v a.a a.b get-call.result may-change-call.result _ get-call.ensures.0
+    may-change-call.ensures (c.change_at.ensures ∙ sym (ap (λ t. changeBy t (changeAt a.v a.a a.b)) c.in-Yes.is))

@@ -10,4 +10,5 @@ returns c = let a = c.args in
     let alone = c.new-alone in
     let joined = c.join_pairs-joined in
     let count = c.count in
-    boundaries-are (usesIn a.uses.now) a.twins.now n (256 - n) count.result alone.result.parents joined.result.parents c.labels_of.new.labels alone.ensures joined.ensures count.ensures c.labels_of.ensures
+    boundaries-are (usesIn a.uses.now) a.twins.now n (256 - n) count.result alone.result.parents joined.result.parents
+    c.labels_of.new.labels alone.ensures joined.ensures count.ensures c.labels_of.ensures

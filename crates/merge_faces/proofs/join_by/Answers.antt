@@ -14,7 +14,8 @@ returns-in-Refused c =
     let t = c.stored_sense-other in
     let e = c.same_sense-equal in
     let j = c.joins_faces-j in
-    λ g st. answer-refuses fs a.a a.b a.v g _ _ (joining-is fs a.a a.b a.v s.result t.result e.result (toldOf j.result) s.ensures
+    λ g st. answer-refuses fs a.a a.b a.v g _ _ (joining-is fs a.a a.b a.v s.result t.result e.result (toldOf j.result)
+    s.ensures
     t.ensures e.ensures j.ensures ∙ ap toldOf c.in-Refused.is)
 
 pub returns-in-No : goal.returns-in-No
@@ -45,7 +46,8 @@ returns-in-Yes c =
     let k = c.counted in
     λ g st. (
       joined g.groups a.a a.b,
-      answer-joins fs a.a a.b a.v g joins.result k.result (joining-is fs a.a a.b a.v s.result t.result e.result (toldOf j.result)
+      answer-joins fs a.a a.b a.v g joins.result k.result (joining-is fs a.a a.b a.v s.result t.result e.result
+          (toldOf j.result)
           s.ensures t.ensures e.ensures j.ensures ∙ ap toldOf c.in-Yes.is) (joins.ensures.1 g.groups st) k.ensures,
       joins.ensures.0.stands g.groups st,
       one-at-most joins.result k.result k.ensures,

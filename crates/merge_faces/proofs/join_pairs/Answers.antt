@@ -11,7 +11,8 @@ pub loop-h-preserved : goal.loop-h-preserved
 loop-h-preserved c =
     let l = c.loop-h in (
       omega arith,
-      pairs-more (usesIn c.args.uses.now) c.args.twins.now c.args.g.parents l.groups.parents _ l.h c.sides-s.result.face c.sides-s.result.other
+      pairs-more (usesIn c.args.uses.now) c.args.twins.now c.args.g.parents l.groups.parents _ l.h c.sides-s.result.face
+          c.sides-s.result.other
           l.invariant.1 c.sides-s.ensures.0 c.sides-s.ensures.1 c.join-separate.ensures.0,
     )
 
@@ -19,4 +20,5 @@ pub returns : goal.returns
 returns c =
     let l = c.loop-h in
     let e : l.h ≡ c.args.n = omega arith in
-    subst (λ n. JoinedPairs (usesIn c.args.uses.now) c.args.twins.now n c.args.g.parents l.groups.parents) e l.invariant.1
+    subst (λ n. JoinedPairs (usesIn c.args.uses.now) c.args.twins.now n c.args.g.parents l.groups.parents) e
+    l.invariant.1

@@ -11,20 +11,24 @@ loop-h-init c =
     let a = c.args in (
       omega arith,
       refl,
-      merging-start (answersIn a.job.now a.index.now a.c) (facesIn a.job.now a.index.now a.c) (usesIn a.uses.now) a.twins.now
-          c.alone.new.parents (length a.labels.now) (c.requires.2 ∙ sym (length-faces a.job.now a.index.now a.c)) c.alone.ensures.1,
+      merging-start (answersIn a.job.now a.index.now a.c) (facesIn a.job.now a.index.now a.c) (usesIn a.uses.now)
+          a.twins.now
+          c.alone.new.parents (length a.labels.now) (c.requires.2 ∙ sym (length-faces a.job.now a.index.now a.c))
+          c.alone.ensures.1,
     )
 
 pub merge_use-r-requires : goal.merge_use-r-requires
 merge_use-r-requires c =
-    let l = c.loop-h in (c.requires.0, c.requires.1, omega (arith, c.count-n.ensures, c.requires.3), l.invariant.2.stands.ordered)
+    let l = c.loop-h in
+    (c.requires.0, c.requires.1, omega (arith, c.count-n.ensures, c.requires.3), l.invariant.2.stands.ordered)
 
 pub returns-in-Refused : goal.returns-in-Refused
 returns-in-Refused c =
     let l = c.loop-h in
     let a = c.args in
     let u = c.merge_use-r in
-    merging-stop (answersIn a.job.now a.index.now a.c) (facesIn a.job.now a.index.now a.c) (usesIn a.uses.now) a.twins.now l.labels
+    merging-stop (answersIn a.job.now a.index.now a.c) (facesIn a.job.now a.index.now a.c) (usesIn a.uses.now)
+    a.twins.now l.labels
     u.new.labels l.joins l.h l.invariant.2 (omega (arith, c.count-n.ensures)) u.result _ _ c.in-Refused.is u.ensures
 
 pub overflow_add-joins : goal.overflow_add-joins
@@ -34,7 +38,8 @@ overflow_add-joins c =
     let u = c.merge_use-r in
     omega (
       arith,
-      merging-few (answersIn a.job.now a.index.now a.c) (facesIn a.job.now a.index.now a.c) (usesIn a.uses.now) a.twins.now
+      merging-few (answersIn a.job.now a.index.now a.c) (facesIn a.job.now a.index.now a.c) (usesIn a.uses.now)
+          a.twins.now
           l.labels u.new.labels l.joins l.h l.invariant.2 u.result _ c.in-Done.is u.ensures,
       c.count-n.ensures,
       c.requires.3,
@@ -47,7 +52,8 @@ loop-h-preserved c =
     let u = c.merge_use-r in (
       omega arith,
       c.labels-in-loop-h-1.given ∙ l.invariant.1,
-      merging-step (answersIn a.job.now a.index.now a.c) (facesIn a.job.now a.index.now a.c) (usesIn a.uses.now) a.twins.now l.labels
+      merging-step (answersIn a.job.now a.index.now a.c) (facesIn a.job.now a.index.now a.c) (usesIn a.uses.now)
+          a.twins.now l.labels
           u.new.labels l.joins l.h l.invariant.2 (omega (arith, c.count-n.ensures)) u.result _ c.in-Done.is u.ensures,
     )
 
@@ -55,5 +61,6 @@ pub returns : goal.returns
 returns c =
     let l = c.loop-h in
     let a = c.args in
-    merging-end (answersIn a.job.now a.index.now a.c) (facesIn a.job.now a.index.now a.c) (usesIn a.uses.now) a.twins.now l.labels
+    merging-end (answersIn a.job.now a.index.now a.c) (facesIn a.job.now a.index.now a.c) (usesIn a.uses.now)
+    a.twins.now l.labels
     c.settle.new.parents l.joins l.h l.invariant.2 (omega (arith, c.count-n.ensures)) c.settle.ensures

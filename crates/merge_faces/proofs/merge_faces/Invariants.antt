@@ -7,7 +7,9 @@ use Prim.Native.Nat.{◌-◌, ◌≤◌}
 use Rattle.merge_faces.proofs.merge_faces.Given as goal
 
 abbrev pub invariant-loop-h : goal.invariant-loop-h
-invariant-loop-h l = (l.h ≤ l.n) × (length l.labels ≡ length l.initial.labels) × MergingAt (answersIn l.job l.index l.c) (facesIn l.job l.index l.c) (usesIn l.uses) l.twins l.labels l.joins l.h
+invariant-loop-h l =
+    (l.h ≤ l.n) × (length l.labels ≡ length l.initial.labels) × MergingAt (answersIn l.job l.index l.c)
+    (facesIn l.job l.index l.c) (usesIn l.uses) l.twins l.labels l.joins l.h
 
 abbrev pub decreases-loop-h : goal.decreases-loop-h
 decreases-loop-h l = l.n - l.h

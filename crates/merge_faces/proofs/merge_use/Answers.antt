@@ -12,7 +12,12 @@ returns-then-t-h c =
     let ans = answersIn a.job.now a.index.now a.c in
     let fs = facesIn a.job.now a.index.now a.c in
     let us = usesIn a.uses.now in
-    λ g st. (g.groups, use-higher ans fs us a.twins.now a.h c.get-t.result c.get-t.ensures.0 c.if-t-h.true g, st, zero-le)
+    λ g st. (
+      g.groups,
+      use-higher ans fs us a.twins.now a.h c.get-t.result c.get-t.ensures.0 c.if-t-h.true g,
+      st,
+      zero-le,
+    )
 
 pub returns-then-a-b : goal.returns-then-a-b
 returns-then-a-b c =
@@ -34,8 +39,10 @@ returns-in_default c =
     let ans = answersIn a.job.now a.index.now a.c in
     let fs = facesIn a.job.now a.index.now a.c in
     let us = usesIn a.uses.now in
-    λ g st. use-missing ans fs us a.twins.now a.h c.get-t.result c.get-t.ensures.0 c.use_face-a.result c.use_face-b.result
-    c.use_face-a.ensures.0 c.use_face-b.ensures.0 c.if-t-h.false c.if-a-b.false g c.ask_surface.result c.ask_surface.ensures
+    λ g st. use-missing ans fs us a.twins.now a.h c.get-t.result c.get-t.ensures.0 c.use_face-a.result
+    c.use_face-b.result
+    c.use_face-a.ensures.0 c.use_face-b.ensures.0 c.if-t-h.false c.if-a-b.false g c.ask_surface.result
+    c.ask_surface.ensures
     c.in_default.is
 
 pub returns : goal.returns
@@ -46,7 +53,8 @@ returns c =
     let us = usesIn a.uses.now in
     λ g st.
     subst (MergedTo c.join_by.result c.join_by.new.labels g)
-    (sym (use-answered ans fs us a.twins.now a.h c.get-t.result c.get-t.ensures.0 c.use_face-a.result c.use_face-b.result
+    (sym (use-answered ans fs us a.twins.now a.h c.get-t.result c.get-t.ensures.0 c.use_face-a.result
+    c.use_face-b.result
     c.use_face-a.ensures.0 c.use_face-b.ensures.0 c.if-t-h.false c.if-a-b.false g c.ask_surface.result c.in-Says.v
     c.ask_surface.ensures c.in-Says.is))
     (c.join_by.ensures g st)

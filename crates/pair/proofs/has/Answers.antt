@@ -17,17 +17,23 @@ returns-then-word-h c =
     let a = c.args in
     let l = c.loop-i in
     let word-call = c.word in
-    found-here a.job.now a.from a.n a.h l.i word-call.result (has a.h (fieldsIn a.n (drop a.from a.job.now))) l.invariant.1 c.loop-i-test.true word-call.ensures.0 c.if-word-h.true
+    found-here a.job.now a.from a.n a.h l.i word-call.result (has a.h (fieldsIn a.n (drop a.from a.job.now)))
+    l.invariant.1 c.loop-i-test.true word-call.ensures.0 c.if-word-h.true
 
 pub loop-i-preserved : goal.loop-i-preserved
 loop-i-preserved c =
     let a = c.args in
     let l = c.loop-i in
-    let word-call = c.word in
-    (omega arith, found-later a.job.now a.from a.n a.h l.i word-call.result (has a.h (fieldsIn a.n (drop a.from a.job.now))) l.invariant.1 c.loop-i-test.true word-call.ensures.0 c.if-word-h.false)
+    let word-call = c.word in (
+      omega arith,
+      found-later a.job.now a.from a.n a.h l.i word-call.result
+          (has a.h (fieldsIn a.n (drop a.from a.job.now))) l.invariant.1 c.loop-i-test.true word-call.ensures.0
+          c.if-word-h.false,
+    )
 
 pub returns : goal.returns
 returns c =
     let a = c.args in
     let l = c.loop-i in
-    found-nowhere a.job.now a.from a.n a.h l.i 0 (has a.h (fieldsIn a.n (drop a.from a.job.now))) l.invariant.1 c.loop-i-test.false
+    found-nowhere a.job.now a.from a.n a.h l.i 0 (has a.h (fieldsIn a.n (drop a.from a.job.now))) l.invariant.1
+    c.loop-i-test.false

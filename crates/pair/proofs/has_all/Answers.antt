@@ -12,7 +12,8 @@ use Rattle.pair.proofs.has_all.Goals as goal
 pub loop-i-init : goal.loop-i-init
 loop-i-init c =
     let a = c.args in
-    ap (λ i. all (λ h. has h (fieldsIn a.n (drop a.from a.job.now))) (chain (nextUse a.nexts.now) i)) (sym c.get-i.ensures.0)
+    ap (λ i. all (λ h. has h (fieldsIn a.n (drop a.from a.job.now))) (chain (nextUse a.nexts.now) i))
+    (sym c.get-i.ensures.0)
 
 pub loop-i-smaller : goal.loop-i-smaller
 loop-i-smaller c = omega (arith, c.requires.2 (c.loop-i.i - 1))
@@ -22,17 +23,24 @@ loop-i-preserved c =
     let a = c.args in
     let l = c.loop-i in
     let has-call = c.has in
-    each-on (nextUse a.nexts.now) c.requires.2 (λ h. has h (fieldsIn a.n (drop a.from a.job.now))) l.i (all (λ h. has h (fieldsIn a.n (drop a.from a.job.now))) (usesOn a.firsts.now a.nexts.now a.e)) l.invariant c.get-i-then-has.result has-call.result c.loop-i-test.true has-call.ensures c.if-has.true c.get-i-then-has.ensures.0
+    each-on (nextUse a.nexts.now) c.requires.2 (λ h. has h (fieldsIn a.n (drop a.from a.job.now))) l.i
+    (all (λ h. has h (fieldsIn a.n (drop a.from a.job.now))) (usesOn a.firsts.now a.nexts.now a.e)) l.invariant
+    c.get-i-then-has.result has-call.result c.loop-i-test.true has-call.ensures c.if-has.true
+    c.get-i-then-has.ensures.0
 
 pub returns-else-has : goal.returns-else-has
 returns-else-has c =
     let a = c.args in
     let l = c.loop-i in
     let has-call = c.has in
-    each-stop (nextUse a.nexts.now) c.requires.2 (λ h. has h (fieldsIn a.n (drop a.from a.job.now))) l.i (all (λ h. has h (fieldsIn a.n (drop a.from a.job.now))) (usesOn a.firsts.now a.nexts.now a.e)) l.invariant has-call.result c.loop-i-test.true has-call.ensures c.if-has.false
+    each-stop (nextUse a.nexts.now) c.requires.2 (λ h. has h (fieldsIn a.n (drop a.from a.job.now))) l.i
+    (all (λ h. has h (fieldsIn a.n (drop a.from a.job.now))) (usesOn a.firsts.now a.nexts.now a.e)) l.invariant
+    has-call.result c.loop-i-test.true has-call.ensures c.if-has.false
 
 pub returns : goal.returns
 returns c =
     let a = c.args in
     let l = c.loop-i in
-    each-done (nextUse a.nexts.now) c.requires.2 (λ h. has h (fieldsIn a.n (drop a.from a.job.now))) l.i (all (λ h. has h (fieldsIn a.n (drop a.from a.job.now))) (usesOn a.firsts.now a.nexts.now a.e)) l.invariant c.loop-i-test.false
+    each-done (nextUse a.nexts.now) c.requires.2 (λ h. has h (fieldsIn a.n (drop a.from a.job.now))) l.i
+    (all (λ h. has h (fieldsIn a.n (drop a.from a.job.now))) (usesOn a.firsts.now a.nexts.now a.e)) l.invariant
+    c.loop-i-test.false

@@ -7,7 +7,9 @@ use mathlib.Core.Path.{◌≡◌}
 use Rattle.pair.proofs.has_all.Given as goal
 
 abbrev pub invariant-loop-i : goal.invariant-loop-i
-invariant-loop-i l = all (λ h. has h (fieldsIn l.n (drop l.from l.job))) (usesOn l.firsts l.nexts l.e) ≡ all (λ h. has h (fieldsIn l.n (drop l.from l.job))) (chain (nextUse l.nexts) l.i)
+invariant-loop-i l =
+    all (λ h. has h (fieldsIn l.n (drop l.from l.job))) (usesOn l.firsts l.nexts l.e) ≡ all
+    (λ h. has h (fieldsIn l.n (drop l.from l.job))) (chain (nextUse l.nexts) l.i)
 
 abbrev pub decreases-loop-i : goal.decreases-loop-i
 decreases-loop-i l = l.i

@@ -9,13 +9,17 @@ pub returns-then-get-eq-UNSET : goal.returns-then-get-eq-UNSET
 returns-then-get-eq-UNSET c =
     let l = c.loop-h in
     let get-call = c.get in
-    lone-here c.args.twins.now l.h l.invariant.1 get-call.result c.loop-h-test.true get-call.ensures.0 c.if-get-eq-UNSET.true
+    lone-here c.args.twins.now l.h l.invariant.1 get-call.result c.loop-h-test.true get-call.ensures.0
+    c.if-get-eq-UNSET.true
 
 pub loop-h-preserved : goal.loop-h-preserved
 loop-h-preserved c =
     let l = c.loop-h in
-    let get-call = c.get in
-    (omega arith, lone-later c.args.twins.now l.h l.invariant.1 get-call.result get-call.ensures.0 c.if-get-eq-UNSET.false)
+    let get-call = c.get in (
+      omega arith,
+      lone-later c.args.twins.now l.h l.invariant.1 get-call.result get-call.ensures.0
+          c.if-get-eq-UNSET.false,
+    )
 
 pub returns : goal.returns
 returns c =

@@ -20,25 +20,32 @@ returns-in-Refused c =
     let a = c.args in
     let l = c.loop-e in
     let pair-edge-call = c.pair_edge-r in
-    pairing-stop (answersIn a.job.now a.index.now a.c) (usesIn a.uses.now) a.c.edges l.e l.twins l.invariant.1 pair-edge-call.new.twins pair-edge-call.result c.loop-e-test.true pair-edge-call.ensures _ _ c.in-Refused.is
+    pairing-stop (answersIn a.job.now a.index.now a.c) (usesIn a.uses.now) a.c.edges l.e l.twins l.invariant.1
+    pair-edge-call.new.twins pair-edge-call.result c.loop-e-test.true pair-edge-call.ensures _ _ c.in-Refused.is
 
 pub loop-e-preserved : goal.loop-e-preserved
 loop-e-preserved c =
     let a = c.args in
     let l = c.loop-e in
-    let pair-edge-call = c.pair_edge-r in
-    (c.twins-1.given ∙ l.invariant.0, pairing-more (answersIn a.job.now a.index.now a.c) (usesIn a.uses.now) a.c.edges l.e l.twins l.invariant.1 pair-edge-call.new.twins pair-edge-call.result c.loop-e-test.true pair-edge-call.ensures c.in-Done.is)
+    let pair-edge-call = c.pair_edge-r in (
+      c.twins-1.given ∙ l.invariant.0,
+      pairing-more (answersIn a.job.now a.index.now a.c) (usesIn a.uses.now) a.c.edges
+          l.e l.twins l.invariant.1 pair-edge-call.new.twins pair-edge-call.result c.loop-e-test.true
+          pair-edge-call.ensures c.in-Done.is,
+    )
 
 pub returns-then-h-twins : goal.returns-then-h-twins
 returns-then-h-twins c =
     let a = c.args in
     let l = c.loop-e in
     let lone-call = c.lone-h in
-    pairing-lone (answersIn a.job.now a.index.now a.c) (usesIn a.uses.now) a.c.edges l.e l.twins l.invariant.1 c.loop-e-test.false lone-call.result lone-call.ensures c.if-h-twins.true
+    pairing-lone (answersIn a.job.now a.index.now a.c) (usesIn a.uses.now) a.c.edges l.e l.twins l.invariant.1
+    c.loop-e-test.false lone-call.result lone-call.ensures c.if-h-twins.true
 
 pub returns : goal.returns
 returns c =
     let a = c.args in
     let l = c.loop-e in
     let lone-call = c.lone-h in
-    pairing-all (answersIn a.job.now a.index.now a.c) (usesIn a.uses.now) a.c.edges l.e l.twins l.invariant.1 c.loop-e-test.false lone-call.result lone-call.ensures c.if-h-twins.false
+    pairing-all (answersIn a.job.now a.index.now a.c) (usesIn a.uses.now) a.c.edges l.e l.twins l.invariant.1
+    c.loop-e-test.false lone-call.result lone-call.ensures c.if-h-twins.false

@@ -7,7 +7,9 @@ use mathlib.Core.Path.{◌≡◌}
 use Rattle.pair.proofs.pair_edges.Given as goal
 
 abbrev pub invariant-loop-e : goal.invariant-loop-e
-invariant-loop-e l = (length l.twins ≡ length l.initial.twins) × Pairing (answersIn l.job l.index l.c) (usesIn l.uses) l.c.edges l.e l.twins
+invariant-loop-e l =
+    (length l.twins ≡ length l.initial.twins) × Pairing (answersIn l.job l.index l.c) (usesIn l.uses) l.c.edges l.e
+    l.twins
 
 abbrev pub decreases-loop-e : goal.decreases-loop-e
 decreases-loop-e l = l.c.edges - l.e

@@ -13,7 +13,8 @@ pub returns-then-n-k : goal.returns-then-n-k
 returns-then-n-k c =
     let a = c.args in
     let ask-radial-call = c.ask_radial-o in
-    round-other a.job.now (answersIn a.job.now a.index.now a.c) (usesIn a.uses.now) a.e a.twins.now ask-radial-call.result ask-radial-call.ensures.0 _ _ c.in-Uses.is a.k c.requires.4 c.if-n-k.true
+    round-other a.job.now (answersIn a.job.now a.index.now a.c) (usesIn a.uses.now) a.e a.twins.now
+    ask-radial-call.result ask-radial-call.ensures.0 _ _ c.in-Uses.is a.k c.requires.4 c.if-n-k.true
 
 pub has_all-requires : goal.has_all-requires
 has_all-requires c =
@@ -31,13 +32,16 @@ returns-then-has_all c =
     let pre = c.requires in
     let ask-radial-call = c.ask_radial-o in
     let has-all-call = c.has_all in
-    c.take_predecessors.ensures ∙ round-on a.job.now (answersIn a.job.now a.index.now a.c) (usesIn a.uses.now) a.e a.twins.now ask-radial-call.result ask-radial-call.ensures.0 _ _ c.in-Uses.is a.firsts.now a.nexts.now pre.1 pre.2 has-all-call.result has-all-call.ensures c.if-has_all.true a.k pre.4 c.if-n-k.false
+    c.take_predecessors.ensures ∙ round-on a.job.now (answersIn a.job.now a.index.now a.c) (usesIn a.uses.now) a.e
+    a.twins.now ask-radial-call.result ask-radial-call.ensures.0 _ _ c.in-Uses.is a.firsts.now a.nexts.now pre.1
+    pre.2 has-all-call.result has-all-call.ensures c.if-has_all.true a.k pre.4 c.if-n-k.false
 
 pub returns-in-Refused : goal.returns-in-Refused
 returns-in-Refused c =
     let a = c.args in
     let ask-radial-call = c.ask_radial-o in
-    round-refused a.job.now (answersIn a.job.now a.index.now a.c) (usesIn a.uses.now) a.e a.twins.now ask-radial-call.result ask-radial-call.ensures.0 _ _ c.in-Refused.is
+    round-refused a.job.now (answersIn a.job.now a.index.now a.c) (usesIn a.uses.now) a.e a.twins.now
+    ask-radial-call.result ask-radial-call.ensures.0 _ _ c.in-Refused.is
 
 pub returns-else-has_all : goal.returns-else-has_all
 returns-else-has_all c =
@@ -45,4 +49,6 @@ returns-else-has_all c =
     let pre = c.requires in
     let ask-radial-call = c.ask_radial-o in
     let has-all-call = c.has_all in
-    round-lacks a.job.now (answersIn a.job.now a.index.now a.c) (usesIn a.uses.now) a.e a.twins.now ask-radial-call.result ask-radial-call.ensures.0 _ _ c.in-Uses.is a.firsts.now a.nexts.now pre.1 pre.2 has-all-call.result has-all-call.ensures c.if-has_all.false
+    round-lacks a.job.now (answersIn a.job.now a.index.now a.c) (usesIn a.uses.now) a.e a.twins.now
+    ask-radial-call.result ask-radial-call.ensures.0 _ _ c.in-Uses.is a.firsts.now a.nexts.now pre.1 pre.2
+    has-all-call.result has-all-call.ensures c.if-has_all.false

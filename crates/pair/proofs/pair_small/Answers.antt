@@ -25,7 +25,8 @@ returns-in-Refused c =
     let counted = c.count-n in
     let paired = c.pair_edges-r in
     let us = usesIn a.uses.now in (
-      paired-refused 64 us counted.result counted.ensures c.requires.2 paired.new.twins paired.auto.twins (answersIn a.job.now a.index.now a.c) a.c.edges paired.result paired.ensures _ _ c.in-Refused.is,
+      paired-refused 64 us counted.result counted.ensures c.requires.2 paired.new.twins paired.auto.twins
+          (answersIn a.job.now a.index.now a.c) a.c.edges paired.result paired.ensures _ _ c.in-Refused.is,
       part-long 64 us counted.result counted.ensures c.requires.2 paired.new.twins paired.auto.twins,
     )
 
@@ -36,6 +37,7 @@ returns-in-Done c =
     let counted = c.count-n in
     let paired = c.pair_edges-r in
     let us = usesIn a.uses.now in (
-      paired-done 64 us counted.result counted.ensures c.requires.2 paired.new.twins paired.auto.twins (answersIn a.job.now a.index.now a.c) a.c.edges paired.result paired.ensures c.in-Done.is,
+      paired-done 64 us counted.result counted.ensures c.requires.2 paired.new.twins paired.auto.twins
+          (answersIn a.job.now a.index.now a.c) a.c.edges paired.result paired.ensures c.in-Done.is,
       part-long 64 us counted.result counted.ensures c.requires.2 paired.new.twins paired.auto.twins,
     )

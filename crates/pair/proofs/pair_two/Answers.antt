@@ -8,7 +8,9 @@ returns-then-same_sense c =
     let use-sense-call = c.use_sense in
     let use-sense2-call = c.use_sense-2 in
     let same-sense-call = c.same_sense in
-    two-same (usesIn a.uses.now) a.e a.a a.b a.twins.now use-sense-call.result use-sense2-call.result same-sense-call.result use-sense-call.ensures use-sense2-call.ensures same-sense-call.ensures c.if-same_sense.true
+    two-same (usesIn a.uses.now) a.e a.a a.b a.twins.now use-sense-call.result use-sense2-call.result
+    same-sense-call.result use-sense-call.ensures use-sense2-call.ensures same-sense-call.ensures
+    c.if-same_sense.true
 
 pub returns : goal.returns
 returns c =
@@ -17,4 +19,6 @@ returns c =
     let use-sense2-call = c.use_sense-2 in
     let same-sense-call = c.same_sense in
     let twin-call = c.twin in
-    two-other (usesIn a.uses.now) a.e a.a a.b a.twins.now use-sense-call.result use-sense2-call.result same-sense-call.result use-sense-call.ensures use-sense2-call.ensures same-sense-call.ensures c.if-same_sense.false twin-call.new.twins twin-call.ensures
+    two-other (usesIn a.uses.now) a.e a.a a.b a.twins.now use-sense-call.result use-sense2-call.result
+    same-sense-call.result use-sense-call.ensures use-sense2-call.ensures same-sense-call.ensures
+    c.if-same_sense.false twin-call.new.twins twin-call.ensures

@@ -7,7 +7,8 @@ returns-then-is_same-2 c =
     let a = c.args in
     let is-same-call = c.is_same in
     let is-same2-call = c.is_same-then-is_same in
-    take-stop (usesIn a.uses.now) a.e a.p a.h a.twins.now is-same-call.result is-same-call.ensures is-same2-call.result is-same2-call.ensures c.if-is_same.true c.if-is_same-2.true
+    take-stop (usesIn a.uses.now) a.e a.p a.h a.twins.now is-same-call.result is-same-call.ensures is-same2-call.result
+    is-same2-call.ensures c.if-is_same.true c.if-is_same-2.true
 
 pub returns-then-is_same : goal.returns-then-is_same
 returns-then-is_same c =
@@ -15,7 +16,8 @@ returns-then-is_same c =
     let is-same-call = c.is_same in
     let is-same2-call = c.is_same-then-is_same in
     let twin-call = c.twin in
-    take-one (usesIn a.uses.now) a.e a.p a.h a.twins.now is-same-call.result is-same-call.ensures is-same2-call.result twin-call.new.twins is-same2-call.ensures c.if-is_same.true c.if-is_same-2.false twin-call.ensures
+    take-one (usesIn a.uses.now) a.e a.p a.h a.twins.now is-same-call.result is-same-call.ensures is-same2-call.result
+    twin-call.new.twins is-same2-call.ensures c.if-is_same.true c.if-is_same-2.false twin-call.ensures
 
 pub returns : goal.returns
 returns c =

@@ -8,7 +8,11 @@ use mathlib.Core.Path.{◌≡◌}
 use Rattle.pair.proofs.take_predecessors.Given as goal
 
 abbrev pub invariant-loop-i : goal.invariant-loop-i
-invariant-loop-i l = (l.i ≤ l.n) × (l.p < 4294967296) × (length l.twins ≡ length l.initial.twins) × (takePredecessors (usesIn l.uses) l.e (lastOf 0 (fieldsIn l.n (drop l.from l.job))) (fieldsIn l.n (drop l.from l.job)) l.initial.twins ≡ takePredecessors (usesIn l.uses) l.e l.p (rest l.job l.from l.n l.i) l.twins)
+invariant-loop-i l =
+    (l.i ≤ l.n) × (l.p < 4294967296) × (length l.twins ≡ length l.initial.twins) ×
+    (takePredecessors (usesIn l.uses) l.e (lastOf 0 (fieldsIn l.n (drop l.from l.job)))
+    (fieldsIn l.n (drop l.from l.job)) l.initial.twins ≡ takePredecessors (usesIn l.uses) l.e l.p
+    (rest l.job l.from l.n l.i) l.twins)
 
 abbrev pub decreases-loop-i : goal.decreases-loop-i
 decreases-loop-i l = l.n - l.i

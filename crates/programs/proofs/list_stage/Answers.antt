@@ -12,8 +12,11 @@ returns-then-stage-eq0 c =
 
 pub returns-then-stage-gt11 : goal.returns-then-stage-gt11
 returns-then-stage-gt11 c =
-    let past : 11 < c.args.stage = omega (arith, c.if-stage-gt11.true) in
-    (stays c.args.stage c.args.job.now c.args.out.now (inr past), lists-none c.args.stage c.args.job.now c.args.page.now (inr past))
+    let past : 11 < c.args.stage = omega (arith, c.if-stage-gt11.true) in (
+      stays c.args.stage c.args.job.now c.args.out.now (inr past),
+      lists-none c.args.stage c.args.job.now c.args.page.now
+          (inr past),
+    )
 
 pub returns : goal.returns
 returns c =
@@ -23,6 +26,7 @@ returns c =
     let bytes = bytes-below a.job.now (λ i. (c.type_inv.job i).fits) in
     let after = c.operate-ending.new.out in (
       runs a.stage a.job.now a.out.now after c.operate-ending.result some most c.operate-ending.ensures,
-      lists-stage a.stage a.job.now a.out.now after a.page.now c.put_stage.new.page c.put_stage.result c.operate-ending.result some most
+      lists-stage a.stage a.job.now a.out.now after a.page.now c.put_stage.new.page c.put_stage.result
+          c.operate-ending.result some most
           bytes c.told-out c.operate-ending.ensures c.put_stage.ensures,
     )

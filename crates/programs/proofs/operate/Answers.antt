@@ -27,7 +27,8 @@ pub returns-in-4 : goal.returns-in-4
 returns-in-4 c =
     let a = c.args in
     let s = c.vertex_loop_stage in
-    ends-by a.number (vertexLoopStage ordinary) a.job.now a.out.now s.new.out s.result (is-4 a.number c.in-4.is) s.ensures
+    ends-by a.number (vertexLoopStage ordinary) a.job.now a.out.now s.new.out s.result (is-4 a.number c.in-4.is)
+    s.ensures
 
 pub returns-in-5 : goal.returns-in-5
 returns-in-5 c =

@@ -5,7 +5,8 @@ pub returns-then-loop_kind-eq5 : goal.returns-then-loop_kind-eq5
 returns-then-loop_kind-eq5 c =
     let a = c.args in
     let loop-kind-call = c.loop_kind in
-    count-items a.job.now a.index.now a.l loop-kind-call.result c.loop_size.result loop-kind-call.ensures c.loop_size.ensures.0 c.if-loop_kind-eq5.true
+    count-items a.job.now a.index.now a.l loop-kind-call.result c.loop_size.result loop-kind-call.ensures
+    c.loop_size.ensures.0 c.if-loop_kind-eq5.true
 
 pub returns : goal.returns
 returns c =

@@ -7,7 +7,9 @@ use Prim.Native.Nat.{◌-◌, ◌≤◌}
 use Rattle.read.proofs.read_loop.Given as goal
 
 abbrev pub invariant-loop-i : goal.invariant-loop-i
-invariant-loop-i l = (l.i ≤ l.n) × (length l.uses ≡ length l.initial.uses) × Seated l.initial.uses l.uses l.first l.i (loopUses l.face l.first l.first (traversed l.selected (itemsIn l.job l.at l.n)))
+invariant-loop-i l =
+    (l.i ≤ l.n) × (length l.uses ≡ length l.initial.uses) × Seated l.initial.uses l.uses l.first l.i
+    (loopUses l.face l.first l.first (traversed l.selected (itemsIn l.job l.at l.n)))
 
 abbrev pub decreases-loop-i : goal.decreases-loop-i
 decreases-loop-i l = l.n - l.i

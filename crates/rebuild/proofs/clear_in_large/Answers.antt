@@ -20,8 +20,12 @@ use Rattle.rebuild.proofs.clear_in_large.Goals as goal
 
 pub clear_linked-requires : goal.clear_linked-requires
 unfolding zeros
-clear_linked-requires c = chain-room c.args.edges c.count-n.result 1024 2048 (usesIn c.args.uses.now) c.args.labels.now c.requires.0 (omega arith) c.count-n.ensures c.requires.1 (omega arith) c.requires.2
+clear_linked-requires c =
+    chain-room c.args.edges c.count-n.result 1024 2048 (usesIn c.args.uses.now) c.args.labels.now c.requires.0
+    (omega arith) c.count-n.ensures c.requires.1 (omega arith) c.requires.2
 
 pub returns : goal.returns
 unfolding zeros
-returns c = c.clear_linked.ensures ∙ ap (edgesClear c.args.number (usesIn c.args.uses.now) c.args.twins.now c.args.labels.now) (sym (part-size c.args.edges 1024 c.requires.0))
+returns c =
+    c.clear_linked.ensures ∙ ap (edgesClear c.args.number (usesIn c.args.uses.now) c.args.twins.now c.args.labels.now)
+    (sym (part-size c.args.edges 1024 c.requires.0))

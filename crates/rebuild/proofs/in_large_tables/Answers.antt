@@ -77,4 +77,14 @@ slice_bounds-make_fans-end-9 c = part-size (length c.args.twins.now) 2048 (settl
 
 pub make_fans-requires : goal.make_fans-requires
 unfolding zeros
-make_fans-requires c = (c.requires, sym (part-size (length c.args.twins.now) 2048 (settled-room c.requires)), sym (part-size (length c.args.twins.now) 2048 (settled-room c.requires)), sym (part-size (length c.args.twins.now) 2048 (settled-room c.requires)), roomy (length c.args.twins.now) 2048 14336 4096 (settled-room c.requires) (omega (arith, settled-room c.requires)) (omega (arith, settled-room c.requires)))
+make_fans-requires c = (
+  c.requires,
+  sym (part-size (length c.args.twins.now) 2048 (settled-room c.requires)),
+  sym
+      (part-size (length c.args.twins.now) 2048 (settled-room c.requires)),
+  sym
+      (part-size (length c.args.twins.now) 2048 (settled-room c.requires)),
+  roomy (length c.args.twins.now) 2048 14336
+      4096 (settled-room c.requires) (omega (arith, settled-room c.requires))
+      (omega (arith, settled-room c.requires)),
+)

@@ -44,4 +44,13 @@ slice_bounds-make_fans-end-9 c = part-size (length c.args.twins.now) 64 c.requir
 
 pub make_fans-requires : goal.make_fans-requires
 unfolding zeros
-make_fans-requires c = (c.requires.0, sym (part-size (length c.args.twins.now) 64 c.requires.1), sym (part-size (length c.args.twins.now) 64 c.requires.1), sym (part-size (length c.args.twins.now) 64 c.requires.1), roomy (length c.args.twins.now) 64 448 128 c.requires.1 (omega (arith, c.requires.1)) (omega (arith, c.requires.1)))
+make_fans-requires c = (
+  c.requires.0,
+  sym (part-size (length c.args.twins.now) 64 c.requires.1),
+  sym
+      (part-size (length c.args.twins.now) 64 c.requires.1),
+  sym
+      (part-size (length c.args.twins.now) 64 c.requires.1),
+  roomy (length c.args.twins.now) 64 448 128 c.requires.1
+      (omega (arith, c.requires.1)) (omega (arith, c.requires.1)),
+)

@@ -10,11 +10,19 @@ returns-then-stage-eq-EDGES c =
     let a = c.args in
     let written = c.write_joining in
     let state = stateIn a.rows.now a.count a.items.now a.stretches.now a.faces.now 0 0 in
-    λ f H. edges-written a.job.now a.index.now H a.stage a.out.now state written.new.out written.result c.if-stage-eq-EDGES.true written.ensures
+    λ f H. edges-written a.job.now a.index.now H a.stage a.out.now state written.new.out written.result
+    c.if-stage-eq-EDGES.true written.ensures
 
 pub maximal_edges-r-requires : goal.maximal_edges-r-requires
-maximal_edges-r-requires c =
-    (c.requires.0.indexed, c.requires.3, c.requires.2, c.requires.1.laid, c.requires.0.nodup, names-low c.requires.0, c.requires.5)
+maximal_edges-r-requires c = (
+  c.requires.0.indexed,
+  c.requires.3,
+  c.requires.2,
+  c.requires.1.laid,
+  c.requires.0.nodup,
+  names-low c.requires.0,
+  c.requires.5,
+)
 
 pub on_joined-requires : goal.on_joined-requires
 on_joined-requires c =
@@ -25,10 +33,15 @@ on_joined-requires c =
     let items = run.new.items in
     let stretches = run.new.stretches in
     let tables =
-    joined-tables a.job.now a.index.now a.c a.starts.now a.names.now a.rows.now rows a.count a.items.now items a.stretches.now stretches a.faces.now run.result
+    joined-tables a.job.now a.index.now a.c a.starts.now a.names.now a.rows.now rows a.count a.items.now items
+    a.stretches.now stretches a.faces.now run.result
     c.in-Done.k (names-low pre.0) pre.1 run.auto.items run.auto.stretches
-    (run.ensures.0 a.faces.now pre.1.loops) run.ensures.1 c.in-Done.is in
-    (pre.0, tables, spare-same (length (usesIn a.uses.now)) a.rows.now rows a.numbers.now a.vertices.now pre.4 run.auto.rows)
+    (run.ensures.0 a.faces.now pre.1.loops) run.ensures.1 c.in-Done.is in (
+      pre.0,
+      tables,
+      spare-same (length (usesIn a.uses.now)) a.rows.now rows a.numbers.now a.vertices.now pre.4
+          run.auto.rows,
+    )
 
 pub returns-in-Refused : goal.returns-in-Refused
 returns-in-Refused c =
@@ -39,7 +52,8 @@ returns-in-Refused c =
     let items = run.new.items in
     let stretches = run.new.stretches in
     let ran = run.ensures.0 a.faces.now c.requires.1.loops in
-    λ f H. edges-refused a.job.now a.index.now H a.stage a.out.now state rows items stretches a.faces.now run.result ran c.if-stage-eq-EDGES.false
+    λ f H. edges-refused a.job.now a.index.now H a.stage a.out.now state rows items stretches a.faces.now run.result ran
+    c.if-stage-eq-EDGES.false
     c.in-Refused.number c.in-Refused.place c.in-Refused.is
 
 pub returns-in-Done : goal.returns-in-Done
@@ -52,5 +66,6 @@ returns-in-Done c =
     let items = run.new.items in
     let stretches = run.new.stretches in
     let ran = run.ensures.0 a.faces.now c.requires.1.loops in
-    λ f H. edges-joined a.job.now a.index.now H a.stage a.out.now state rows items stretches a.faces.now run.result ran c.if-stage-eq-EDGES.false
+    λ f H. edges-joined a.job.now a.index.now H a.stage a.out.now state rows items stretches a.faces.now run.result ran
+    c.if-stage-eq-EDGES.false
     c.in-Done.k next.new.out next.result c.in-Done.is (next.ensures f H)

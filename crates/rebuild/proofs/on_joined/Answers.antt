@@ -9,28 +9,49 @@ pub returns-then-stage-eq-JOINING : goal.returns-then-stage-eq-JOINING
 returns-then-stage-eq-JOINING c =
     let a = c.args in
     let pre = c.requires in
-    λ f H. joining-written a.job.now a.index.now H a.stage a.out.now (stateIn a.rows.now a.k.edges a.items.now a.stretches.now a.faces.now a.k.joins a.k.rings) c.write_joining.new.out c.write_joining.result c.if-stage-eq-JOINING.true c.write_joining.ensures
+    λ f H. joining-written a.job.now a.index.now H a.stage a.out.now
+    (stateIn a.rows.now a.k.edges a.items.now a.stretches.now a.faces.now a.k.joins a.k.rings)
+    c.write_joining.new.out c.write_joining.result c.if-stage-eq-JOINING.true c.write_joining.ensures
 
 pub make_shells-r-requires : goal.make_shells-r-requires
 unfolding zeros
 make_shells-r-requires c =
     let Z = c.requires.0 in
-    record { indexed = Z.indexed; size = zeros-size 1024; faces = Z.limited.faces; faces-room = faces-room Z; merged = Z.merged; merged-room = members-room Z }
+    record {
+      indexed = Z.indexed;
+      size = zeros-size 1024;
+      faces = Z.limited.faces;
+      faces-room = faces-room Z;
+      merged =
+          Z.merged;
+      merged-room = members-room Z;
+    }
 
 pub on_shelled-requires : goal.on_shelled-requires
 on_shelled-requires c =
     let a = c.args in
-    let pre = c.requires in
-    (pre.0, pre.1, stands (boundariesIn a.c a.m) (membersIn a.m) c.make_shells-r.new.table c.make_shells-r.result c.in-Done.n c.make_shells-r.ensures.1 c.in-Done.is, pre.2)
+    let pre = c.requires in (
+      pre.0,
+      pre.1,
+      stands (boundariesIn a.c a.m) (membersIn a.m) c.make_shells-r.new.table c.make_shells-r.result
+          c.in-Done.n c.make_shells-r.ensures.1 c.in-Done.is,
+      pre.2,
+    )
 
 pub returns-in-Refused : goal.returns-in-Refused
 returns-in-Refused c =
     let a = c.args in
     let pre = c.requires in
-    λ f H. joining-refused a.job.now a.index.now H a.stage a.out.now (stateIn a.rows.now a.k.edges a.items.now a.stretches.now a.faces.now a.k.joins a.k.rings) c.make_shells-r.new.table c.make_shells-r.result c.make_shells-r.ensures.0 c.if-stage-eq-JOINING.false c.in-Refused.number c.in-Refused.place c.in-Refused.is
+    λ f H. joining-refused a.job.now a.index.now H a.stage a.out.now
+    (stateIn a.rows.now a.k.edges a.items.now a.stretches.now a.faces.now a.k.joins a.k.rings)
+    c.make_shells-r.new.table c.make_shells-r.result c.make_shells-r.ensures.0 c.if-stage-eq-JOINING.false
+    c.in-Refused.number c.in-Refused.place c.in-Refused.is
 
 pub returns-in-Done : goal.returns-in-Done
 returns-in-Done c =
     let a = c.args in
     let pre = c.requires in
-    λ f H. joining-on a.job.now a.index.now H a.stage a.out.now (stateIn a.rows.now a.k.edges a.items.now a.stretches.now a.faces.now a.k.joins a.k.rings) c.make_shells-r.new.table c.make_shells-r.result c.make_shells-r.ensures.0 c.if-stage-eq-JOINING.false c.in-Done.n c.on_shelled.new.out c.on_shelled.result c.in-Done.is (c.on_shelled.ensures f H)
+    λ f H. joining-on a.job.now a.index.now H a.stage a.out.now
+    (stateIn a.rows.now a.k.edges a.items.now a.stretches.now a.faces.now a.k.joins a.k.rings)
+    c.make_shells-r.new.table c.make_shells-r.result c.make_shells-r.ensures.0 c.if-stage-eq-JOINING.false
+    c.in-Done.n c.on_shelled.new.out c.on_shelled.result c.in-Done.is (c.on_shelled.ensures f H)

@@ -20,7 +20,9 @@ pub returns-then-stage-eq-LUMPS : goal.returns-then-stage-eq-LUMPS
 returns-then-stage-eq-LUMPS c =
     let a = c.args in
     let pre = c.requires in
-    λ f H. lumps-written a.job.now a.index.now H a.stage a.out.now a.rows.now a.k a.items.now a.stretches.now a.faces.now a.n a.table.now c.write_lumps.new.out c.write_lumps.result c.if-stage-eq-LUMPS.true c.write_lumps.ensures
+    λ f H. lumps-written a.job.now a.index.now H a.stage a.out.now a.rows.now a.k a.items.now a.stretches.now
+    a.faces.now a.n a.table.now c.write_lumps.new.out c.write_lumps.result c.if-stage-eq-LUMPS.true
+    c.write_lumps.ensures
 
 pub lumps_clear-t-requires : goal.lumps_clear-t-requires
 lumps_clear-t-requires c =
@@ -32,7 +34,9 @@ pub returns-in-Refused : goal.returns-in-Refused
 returns-in-Refused c =
     let a = c.args in
     let pre = c.requires in
-    λ f H. lumps-refused a.job.now a.index.now H a.stage a.out.now a.rows.now a.k a.items.now a.stretches.now a.faces.now a.n a.table.now pre.2 c.lumps_clear-t.result c.lumps_clear-t.ensures c.if-stage-eq-LUMPS.false c.in-Refused.number c.in-Refused.place c.in-Refused.is
+    λ f H. lumps-refused a.job.now a.index.now H a.stage a.out.now a.rows.now a.k a.items.now a.stretches.now
+    a.faces.now a.n a.table.now pre.2 c.lumps_clear-t.result c.lumps_clear-t.ensures c.if-stage-eq-LUMPS.false
+    c.in-Refused.number c.in-Refused.place c.in-Refused.is
 
 -- no goal for slice-aggregate-put-body
 -- -- old need: slice-aggregate-put-body
@@ -61,10 +65,13 @@ pub put_body-requires : goal.put_body-requires
 put_body-requires c =
     let a = c.args in
     let pre = c.requires in
-    body-sized pre.0 a.rows.now a.k.edges a.items.now a.stretches.now a.faces.now a.n a.table.now a.numbers.now a.vertices.now pre.1 pre.2 pre.4
+    body-sized pre.0 a.rows.now a.k.edges a.items.now a.stretches.now a.faces.now a.n a.table.now a.numbers.now
+    a.vertices.now pre.1 pre.2 pre.4
 
 pub returns : goal.returns
 returns c =
     let a = c.args in
     let pre = c.requires in
-    λ f H. lumps-on a.job.now a.index.now H a.stage a.out.now a.rows.now a.k a.items.now a.stretches.now a.faces.now a.n a.table.now pre.2 c.lumps_clear-t.result c.lumps_clear-t.ensures c.if-stage-eq-LUMPS.false c.count.result c.count.ensures c.put_body.new.out c.put_body.result c.in-Done.is c.put_body.ensures
+    λ f H. lumps-on a.job.now a.index.now H a.stage a.out.now a.rows.now a.k a.items.now a.stretches.now a.faces.now a.n
+    a.table.now pre.2 c.lumps_clear-t.result c.lumps_clear-t.ensures c.if-stage-eq-LUMPS.false c.count.result
+    c.count.ensures c.put_body.new.out c.put_body.result c.in-Done.is c.put_body.ensures

@@ -10,7 +10,9 @@ pub word-requires : goal.word-requires
 word-requires c = omega arith
 
 pub returns-then-count-word : goal.returns-then-count-word
-returns-then-count-word c = sym (c.loop-left.invariant.1 ∙ exist-not c.loop-left.left c.args.count c.args.job.now c.loop-left.p c.word.result c.loop-left-test.true c.word.ensures.0 c.if-count-word.true)
+returns-then-count-word c =
+    sym (c.loop-left.invariant.1 ∙ exist-not c.loop-left.left c.args.count c.args.job.now c.loop-left.p c.word.result
+    c.loop-left-test.true c.word.ensures.0 c.if-count-word.true)
 
 pub overflow_add-p : goal.overflow_add-p
 overflow_add-p c = omega arith
@@ -22,7 +24,13 @@ pub loop-left-smaller : goal.loop-left-smaller
 loop-left-smaller c = omega arith
 
 pub loop-left-preserved : goal.loop-left-preserved
-loop-left-preserved c = (omega arith, c.loop-left.invariant.1 ∙ exist-on c.loop-left.left c.args.count c.args.job.now c.loop-left.p c.word.result c.loop-left-test.true c.word.ensures.0 c.if-count-word.false)
+loop-left-preserved c = (
+  omega arith,
+  c.loop-left.invariant.1 ∙ exist-on c.loop-left.left c.args.count c.args.job.now c.loop-left.p
+      c.word.result c.loop-left-test.true c.word.ensures.0 c.if-count-word.false,
+)
 
 pub returns : goal.returns
-returns c = sym (c.loop-left.invariant.1 ∙ exist-none c.loop-left.left c.args.count c.args.job.now c.loop-left.p c.loop-left-test.false)
+returns c =
+    sym (c.loop-left.invariant.1 ∙ exist-none c.loop-left.left c.args.count c.args.job.now c.loop-left.p
+    c.loop-left-test.false)

@@ -5,4 +5,11 @@ pub returns-then-word-gt1 : goal.returns-then-word-gt1
 returns-then-word-gt1 c = simp (lt-leb _ _ c.if-word-gt1.true, ← c.word.ensures.0)
 
 pub returns : goal.returns
-returns c = simp (← c.ends_permitted.ensures, ← c.word-end.ensures.0, ← c.word-start.ensures.0, le-leb _ _ c.if-word-gt1.false, ← c.word.ensures.0)
+returns c =
+    simp (
+      ← c.ends_permitted.ensures,
+      ← c.word-end.ensures.0,
+      ← c.word-start.ensures.0,
+      le-leb _ _ c.if-word-gt1.false,
+      ← c.word.ensures.0,
+    )

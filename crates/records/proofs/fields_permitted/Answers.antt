@@ -9,56 +9,84 @@ radial_permitted-requires c = let e = radial-some c.args.kind c.args.n c.in-Radi
 
 pub returns-in-Unknown : goal.returns-in-Unknown
 unfolding permittedAt
-returns-in-Unknown c = sym (permitted-as c.args.kind _ c.args.c c.args.job.now c.args.body c.args.n c.in-Unknown.is c.requires.0 ∙ sym (refl))
+returns-in-Unknown c =
+    sym (permitted-as c.args.kind _ c.args.c c.args.job.now c.args.body c.args.n c.in-Unknown.is c.requires.0 ∙ sym
+    (refl))
 
 pub returns-in-Head : goal.returns-in-Head
 unfolding permittedAt
-returns-in-Head c = sym (permitted-as c.args.kind _ c.args.c c.args.job.now c.args.body c.args.n c.in-Head.is c.requires.0 ∙ sym (ap (λ v. leb v 1) c.word.ensures.0))
+returns-in-Head c =
+    sym (permitted-as c.args.kind _ c.args.c c.args.job.now c.args.body c.args.n c.in-Head.is c.requires.0 ∙ sym
+    (ap (λ v. leb v 1) c.word.ensures.0))
 
 pub returns-in-Vertex : goal.returns-in-Vertex
 unfolding permittedAt
-returns-in-Vertex c = sym (permitted-as c.args.kind _ c.args.c c.args.job.now c.args.body c.args.n c.in-Vertex.is c.requires.0 ∙ sym (refl))
+returns-in-Vertex c =
+    sym (permitted-as c.args.kind _ c.args.c c.args.job.now c.args.body c.args.n c.in-Vertex.is c.requires.0 ∙ sym
+    (refl))
 
 pub returns-in-EdgeRecord : goal.returns-in-EdgeRecord
 unfolding permittedAt
-returns-in-EdgeRecord c = sym (permitted-as c.args.kind _ c.args.c c.args.job.now c.args.body c.args.n c.in-EdgeRecord.is c.requires.0 ∙ sym c.edge_permitted.ensures)
+returns-in-EdgeRecord c =
+    sym (permitted-as c.args.kind _ c.args.c c.args.job.now c.args.body c.args.n c.in-EdgeRecord.is c.requires.0 ∙ sym
+    c.edge_permitted.ensures)
 
 pub returns-in-FaceRecord : goal.returns-in-FaceRecord
 unfolding permittedAt
-returns-in-FaceRecord c = sym (permitted-as c.args.kind _ c.args.c c.args.job.now c.args.body c.args.n c.in-FaceRecord.is c.requires.0 ∙ sym c.face_permitted.ensures)
+returns-in-FaceRecord c =
+    sym (permitted-as c.args.kind _ c.args.c c.args.job.now c.args.body c.args.n c.in-FaceRecord.is c.requires.0 ∙ sym
+    c.face_permitted.ensures)
 
 pub returns-in-LoopRecord : goal.returns-in-LoopRecord
 unfolding permittedAt
-returns-in-LoopRecord c = sym (permitted-as c.args.kind _ c.args.c c.args.job.now c.args.body c.args.n c.in-LoopRecord.is c.requires.0 ∙ sym c.items_permitted.ensures)
+returns-in-LoopRecord c =
+    sym (permitted-as c.args.kind _ c.args.c c.args.job.now c.args.body c.args.n c.in-LoopRecord.is c.requires.0 ∙ sym
+    c.items_permitted.ensures)
 
 pub returns-in-VertexLoop : goal.returns-in-VertexLoop
 unfolding permittedAt
-returns-in-VertexLoop c = sym (permitted-as c.args.kind _ c.args.c c.args.job.now c.args.body c.args.n c.in-VertexLoop.is c.requires.0 ∙ sym (ap (λ v. ltb v c.args.c.vertices) c.word-in-VertexLoop.ensures.0))
+returns-in-VertexLoop c =
+    sym (permitted-as c.args.kind _ c.args.c c.args.job.now c.args.body c.args.n c.in-VertexLoop.is c.requires.0 ∙ sym
+    (ap (λ v. ltb v c.args.c.vertices) c.word-in-VertexLoop.ensures.0))
 
 pub returns-in-Radial : goal.returns-in-Radial
 unfolding permittedAt
-returns-in-Radial c = sym (permitted-as c.args.kind _ c.args.c c.args.job.now c.args.body c.args.n c.in-Radial.is c.requires.0 ∙ sym c.radial_permitted.ensures)
+returns-in-Radial c =
+    sym (permitted-as c.args.kind _ c.args.c c.args.job.now c.args.body c.args.n c.in-Radial.is c.requires.0 ∙ sym
+    c.radial_permitted.ensures)
 
 pub returns-in-Surface : goal.returns-in-Surface
 unfolding permittedAt
-returns-in-Surface c = sym (permitted-as c.args.kind _ c.args.c c.args.job.now c.args.body c.args.n c.in-Surface.is c.requires.0 ∙ sym c.valued_permitted.ensures)
+returns-in-Surface c =
+    sym (permitted-as c.args.kind _ c.args.c c.args.job.now c.args.body c.args.n c.in-Surface.is c.requires.0 ∙ sym
+    c.valued_permitted.ensures)
 
 pub returns-in-Points : goal.returns-in-Points
 unfolding permittedAt
-returns-in-Points c = sym (permitted-as c.args.kind _ c.args.c c.args.job.now c.args.body c.args.n c.in-Points.is c.requires.0 ∙ sym c.different_permitted.ensures)
+returns-in-Points c =
+    sym (permitted-as c.args.kind _ c.args.c c.args.job.now c.args.body c.args.n c.in-Points.is c.requires.0 ∙ sym
+    c.different_permitted.ensures)
 
 pub returns-in-Curves : goal.returns-in-Curves
 unfolding permittedAt
-returns-in-Curves c = sym (permitted-as c.args.kind _ c.args.c c.args.job.now c.args.body c.args.n c.in-Curves.is c.requires.0 ∙ sym c.different_permitted-in-Curves.ensures)
+returns-in-Curves c =
+    sym (permitted-as c.args.kind _ c.args.c c.args.job.now c.args.body c.args.n c.in-Curves.is c.requires.0 ∙ sym
+    c.different_permitted-in-Curves.ensures)
 
 pub returns-in-Singular : goal.returns-in-Singular
 unfolding permittedAt
-returns-in-Singular c = sym (permitted-as c.args.kind _ c.args.c c.args.job.now c.args.body c.args.n c.in-Singular.is c.requires.0 ∙ sym c.singular_permitted.ensures)
+returns-in-Singular c =
+    sym (permitted-as c.args.kind _ c.args.c c.args.job.now c.args.body c.args.n c.in-Singular.is c.requires.0 ∙ sym
+    c.singular_permitted.ensures)
 
 pub returns-in-Orientation : goal.returns-in-Orientation
 unfolding permittedAt
-returns-in-Orientation c = sym (permitted-as c.args.kind _ c.args.c c.args.job.now c.args.body c.args.n c.in-Orientation.is c.requires.0 ∙ sym c.valued_permitted-in-Orientation.ensures)
+returns-in-Orientation c =
+    sym (permitted-as c.args.kind _ c.args.c c.args.job.now c.args.body c.args.n c.in-Orientation.is c.requires.0 ∙ sym
+    c.valued_permitted-in-Orientation.ensures)
 
 pub returns-in-Inside : goal.returns-in-Inside
 unfolding permittedAt
-returns-in-Inside c = sym (permitted-as c.args.kind _ c.args.c c.args.job.now c.args.body c.args.n c.in-Inside.is c.requires.0 ∙ sym c.inside_permitted.ensures)
+returns-in-Inside c =
+    sym (permitted-as c.args.kind _ c.args.c c.args.job.now c.args.body c.args.n c.in-Inside.is c.requires.0 ∙ sym
+    c.inside_permitted.ensures)

@@ -3,4 +3,6 @@ use Rattle.job.specs.Lists.{edgesIn}
 use Rattle.records.proofs.is_ring.Goals as goal
 
 pub returns : goal.returns
-returns c = item-ring (edgesIn c.args.job.now c.args.c) c.args.job.now c.args.p c.word-e.result c.edge_start-start.result c.word-e.ensures.0 c.edge_start-start.ensures.0
+returns c =
+    item-ring (edgesIn c.args.job.now c.args.c) c.args.job.now c.args.p c.word-e.result c.edge_start-start.result
+    c.word-e.ensures.0 c.edge_start-start.ensures.0

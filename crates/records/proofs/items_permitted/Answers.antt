@@ -10,7 +10,9 @@ pub word-requires : goal.word-requires
 word-requires c = omega arith
 
 pub returns-then-edges-word : goal.returns-then-edges-word
-returns-then-edges-word c = sym (c.loop-left.invariant.1 ∙ permit-edge c.loop-left.left c.args.edges c.args.job.now c.loop-left.p c.word.result c.loop-left-test.true c.word.ensures.0 c.if-edges-word.true)
+returns-then-edges-word c =
+    sym (c.loop-left.invariant.1 ∙ permit-edge c.loop-left.left c.args.edges c.args.job.now c.loop-left.p c.word.result
+    c.loop-left-test.true c.word.ensures.0 c.if-edges-word.true)
 
 pub overflow_add-p : goal.overflow_add-p
 overflow_add-p c = omega arith
@@ -19,7 +21,9 @@ pub word-requires-in-loop-left : goal.word-requires-in-loop-left
 word-requires-in-loop-left c = omega arith
 
 pub returns-then-word-gt1 : goal.returns-then-word-gt1
-returns-then-word-gt1 c = sym (c.loop-left.invariant.1 ∙ permit-sense c.loop-left.left c.args.edges c.args.job.now c.loop-left.p c.word-in-loop-left.result c.loop-left-test.true c.word-in-loop-left.ensures.0 c.if-word-gt1.true)
+returns-then-word-gt1 c =
+    sym (c.loop-left.invariant.1 ∙ permit-sense c.loop-left.left c.args.edges c.args.job.now c.loop-left.p
+    c.word-in-loop-left.result c.loop-left-test.true c.word-in-loop-left.ensures.0 c.if-word-gt1.true)
 
 pub overflow_add-p-in-loop-left : goal.overflow_add-p-in-loop-left
 overflow_add-p-in-loop-left c = omega arith
@@ -31,7 +35,14 @@ pub loop-left-smaller : goal.loop-left-smaller
 loop-left-smaller c = omega arith
 
 pub loop-left-preserved : goal.loop-left-preserved
-loop-left-preserved c = (omega arith, c.loop-left.invariant.1 ∙ permit-on c.loop-left.left c.args.edges c.args.job.now c.loop-left.p c.word.result c.word-in-loop-left.result c.loop-left-test.true c.word.ensures.0 c.if-edges-word.false c.word-in-loop-left.ensures.0 c.if-word-gt1.false)
+loop-left-preserved c = (
+  omega arith,
+  c.loop-left.invariant.1 ∙ permit-on c.loop-left.left c.args.edges c.args.job.now c.loop-left.p
+      c.word.result c.word-in-loop-left.result c.loop-left-test.true c.word.ensures.0 c.if-edges-word.false
+      c.word-in-loop-left.ensures.0 c.if-word-gt1.false,
+)
 
 pub returns : goal.returns
-returns c = sym (c.loop-left.invariant.1 ∙ permit-none c.loop-left.left c.args.edges c.args.job.now c.loop-left.p c.loop-left-test.false)
+returns c =
+    sym (c.loop-left.invariant.1 ∙ permit-none c.loop-left.left c.args.edges c.args.job.now c.loop-left.p
+    c.loop-left-test.false)

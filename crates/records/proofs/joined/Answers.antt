@@ -41,14 +41,16 @@ pub returns-then-next : goal.returns-then-next
 returns-then-next c =
     let a = c.args in
     let l = c.loop-left in
-    sym (l.invariant.3 ∙ joints-ring (pointsIn a.job.now a.c) (edgesIn a.job.now a.c) a.job.now a.body l.p l.left l.end l.invariant.1 l.invariant.2
+    sym (l.invariant.3 ∙ joints-ring (pointsIn a.job.now a.c) (edgesIn a.job.now a.c) a.job.now a.body l.p l.left l.end
+    l.invariant.1 l.invariant.2
     c.item_ends-next.result c.loop-left-test.true c.item_ends-next.ensures c.if-next.true)
 
 pub returns-then-next-end : goal.returns-then-next-end
 returns-then-next-end c =
     let a = c.args in
     let l = c.loop-left in
-    sym (l.invariant.3 ∙ joints-apart (pointsIn a.job.now a.c) (edgesIn a.job.now a.c) a.job.now a.body l.p l.left l.end l.invariant.1 l.invariant.2
+    sym (l.invariant.3 ∙ joints-apart (pointsIn a.job.now a.c) (edgesIn a.job.now a.c) a.job.now a.body l.p l.left l.end
+    l.invariant.1 l.invariant.2
     c.item_ends-next.result c.loop-left-test.true c.item_ends-next.ensures c.if-next.false c.if-next-end.true)
 
 pub overflow_sub-left-in-loop-left : goal.overflow_sub-left-in-loop-left
@@ -65,7 +67,8 @@ loop-left-preserved c =
       omega arith,
       sym (ap (λ (x : Ends). x.ring) are) ∙ c.if-next.false,
       ap (λ (x : Ends). x.end) are,
-      l.invariant.3 ∙ joints-on (pointsIn a.job.now a.c) (edgesIn a.job.now a.c) a.job.now a.body l.p l.left l.end l.invariant.1 l.invariant.2
+      l.invariant.3 ∙ joints-on (pointsIn a.job.now a.c) (edgesIn a.job.now a.c) a.job.now a.body l.p l.left l.end
+          l.invariant.1 l.invariant.2
           c.item_ends-next.result c.loop-left-test.true are c.if-next.false c.if-next-end.false,
     )
 
@@ -73,5 +76,6 @@ pub returns : goal.returns
 returns c =
     let a = c.args in
     let l = c.loop-left in
-    sym (l.invariant.3 ∙ joints-last (pointsIn a.job.now a.c) (edgesIn a.job.now a.c) a.job.now a.body l.p l.left l.end l.invariant.1 l.invariant.2
+    sym (l.invariant.3 ∙ joints-last (pointsIn a.job.now a.c) (edgesIn a.job.now a.c) a.job.now a.body l.p l.left l.end
+    l.invariant.1 l.invariant.2
     c.item_ends-first.result c.loop-left-test.false c.item_ends-first.ensures c.if-first.false)

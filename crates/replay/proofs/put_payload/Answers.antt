@@ -4,4 +4,5 @@ use native.Mathlib.Omega.{arith}
 use Rattle.replay.proofs.put_payload.Goals as goal
 
 pub put_text-requires : goal.put_text-requires
-put_text-requires c = omega (arith, ap length c.front.ensures, length-take (length c.args.job.now) c.loop_payload-payload.result.now)
+put_text-requires c =
+    omega (arith, ap length c.front.ensures, length-take (length c.args.job.now) c.loop_payload-payload.result.now)

@@ -6,4 +6,5 @@ pub put_word-requires : goal.put_word-requires
 put_word-requires c = omega (arith, c.put_word-p.ensures.1, length-bytes32 c.args.a)
 
 pub returns : goal.returns
-returns c = omega (arith, c.put_word-p.ensures.1, length-bytes32 c.args.a, c.put_word.ensures.1, length-bytes32 c.args.b)
+returns c =
+    omega (arith, c.put_word-p.ensures.1, length-bytes32 c.args.a, c.put_word.ensures.1, length-bytes32 c.args.b)

@@ -5,16 +5,50 @@ use native.Mathlib.Omega.{arith}
 use Rattle.result_out.proofs.put_edge.Goals as goal
 
 pub put_two-q-requires : goal.put_two-q-requires
-put_two-q-requires c = let a = c.args in omega (arith, c.requires, place-after (c.wide.result ∷ c.sense_number-sense.result ∷ []) a.out.now c.put_two-p.new.out a.at c.put_two-p.result c.put_two-p.ensures)
+put_two-q-requires c =
+    let a = c.args in
+    omega (
+      arith,
+      c.requires,
+      place-after (c.wide.result ∷ c.sense_number-sense.result ∷ []) a.out.now
+          c.put_two-p.new.out a.at c.put_two-p.result c.put_two-p.ensures,
+    )
 
 pub put_two-r-requires : goal.put_two-r-requires
-put_two-r-requires c = let a = c.args in omega (arith, c.requires, place-after (c.wide.result ∷ c.sense_number-sense.result ∷ []) a.out.now c.put_two-p.new.out a.at c.put_two-p.result c.put_two-p.ensures, place-after (c.wide-2.result ∷ c.wide-3.result ∷ []) c.put_two-p.new.out c.put_two-q.new.out c.put_two-p.result c.put_two-q.result c.put_two-q.ensures)
+put_two-r-requires c =
+    let a = c.args in
+    omega (
+      arith,
+      c.requires,
+      place-after (c.wide.result ∷ c.sense_number-sense.result ∷ []) a.out.now
+          c.put_two-p.new.out a.at c.put_two-p.result c.put_two-p.ensures,
+      place-after
+          (c.wide-2.result ∷ c.wide-3.result ∷ []) c.put_two-p.new.out c.put_two-q.new.out c.put_two-p.result
+          c.put_two-q.result c.put_two-q.ensures,
+    )
 
 pub put_word-requires : goal.put_word-requires
-put_word-requires c = let a = c.args in omega (arith, c.requires, place-after (c.wide.result ∷ c.sense_number-sense.result ∷ []) a.out.now c.put_two-p.new.out a.at c.put_two-p.result c.put_two-p.ensures, place-after (c.wide-2.result ∷ c.wide-3.result ∷ []) c.put_two-p.new.out c.put_two-q.new.out c.put_two-p.result c.put_two-q.result c.put_two-q.ensures, place-after (c.wide-low.result ∷ c.wide-high.result ∷ []) c.put_two-q.new.out c.put_two-r.new.out c.put_two-q.result c.put_two-r.result c.put_two-r.ensures)
+put_word-requires c =
+    let a = c.args in
+    omega (
+      arith,
+      c.requires,
+      place-after (c.wide.result ∷ c.sense_number-sense.result ∷ []) a.out.now
+          c.put_two-p.new.out a.at c.put_two-p.result c.put_two-p.ensures,
+      place-after
+          (c.wide-2.result ∷ c.wide-3.result ∷ []) c.put_two-p.new.out c.put_two-q.new.out c.put_two-p.result
+          c.put_two-q.result c.put_two-q.ensures,
+      place-after (c.wide-low.result ∷ c.wide-high.result ∷ [])
+          c.put_two-q.new.out c.put_two-r.new.out c.put_two-q.result c.put_two-r.result c.put_two-r.ensures,
+    )
 
 pub returns : goal.returns
 returns c =
     let a = c.args in
     let x = c.edge_at-x.result in
-    edge-row a.rows.now a.out.now c.put_two-p.new.out c.put_two-q.new.out c.put_two-r.new.out c.put_word.new.out a.at c.put_two-p.result c.put_two-q.result c.put_two-r.result c.put_word.result a.e c.wide.result c.sense_number-sense.result c.wide-2.result c.wide-3.result c.wide-low.result c.wide-high.result c.flag_number-active.result x c.edge_at-x.ensures c.wide.ensures c.sense_number-sense.ensures.0 c.wide-2.ensures c.wide-3.ensures c.wide-low.ensures c.wide-high.ensures c.flag_number-active.ensures.0 c.put_two-p.ensures c.put_two-q.ensures c.put_two-r.ensures c.put_word.ensures
+    edge-row a.rows.now a.out.now c.put_two-p.new.out c.put_two-q.new.out c.put_two-r.new.out c.put_word.new.out a.at
+    c.put_two-p.result c.put_two-q.result c.put_two-r.result c.put_word.result a.e c.wide.result
+    c.sense_number-sense.result c.wide-2.result c.wide-3.result c.wide-low.result c.wide-high.result
+    c.flag_number-active.result x c.edge_at-x.ensures c.wide.ensures c.sense_number-sense.ensures.0 c.wide-2.ensures
+    c.wide-3.ensures c.wide-low.ensures c.wide-high.ensures c.flag_number-active.ensures.0 c.put_two-p.ensures
+    c.put_two-q.ensures c.put_two-r.ensures c.put_word.ensures

@@ -6,7 +6,8 @@ use native.Mathlib.Omega.{arith}
 use Rattle.result_out.proofs.put_faces_of.Goals as goal
 
 pub loop-f-init : goal.loop-f-init
-loop-f-init c = let a = c.args in (omega arith, rowed-start (faceOr a.boundaries.now a.members.now a.b) 1 a.out.now a.at)
+loop-f-init c =
+    let a = c.args in (omega arith, rowed-start (faceOr a.boundaries.now a.members.now a.b) 1 a.out.now a.at)
 
 pub put_face-p-requires : goal.put_face-p-requires
 put_face-p-requires c = omega (arith, c.requires.0, c.requires.1, c.loop-f.invariant.0, c.loop-f.invariant.1.small)
@@ -16,11 +17,14 @@ loop-f-preserved c =
     let a = c.args in
     let l = c.loop-f in (
       omega arith,
-      rowed-step (faceOr a.boundaries.now a.members.now a.b) 1 a.out.now a.at l.out c.put_face-p.new.out l.p l.f c.put_face-p.result (face-short a.boundaries.now a.members.now a.b l.f) l.invariant.1 c.put_face-p.ensures,
+      rowed-step (faceOr a.boundaries.now a.members.now a.b) 1 a.out.now a.at l.out c.put_face-p.new.out l.p l.f
+          c.put_face-p.result (face-short a.boundaries.now a.members.now a.b l.f) l.invariant.1 c.put_face-p.ensures,
     )
 
 pub returns : goal.returns
 returns c =
     let a = c.args in
     let l = c.loop-f in
-    rowed-end (faceOr a.boundaries.now a.members.now a.b) 1 a.out.now a.at (shellFaces a.boundaries.now a.members.now a.b) l.out l.p l.f (face-rows a.boundaries.now a.members.now a.b l.f (omega arith)) l.invariant.1
+    rowed-end (faceOr a.boundaries.now a.members.now a.b) 1 a.out.now a.at
+    (shellFaces a.boundaries.now a.members.now a.b) l.out l.p l.f
+    (face-rows a.boundaries.now a.members.now a.b l.f (omega arith)) l.invariant.1

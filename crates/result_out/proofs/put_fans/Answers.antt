@@ -7,11 +7,25 @@ use Rattle.result_out.proofs.put_fans.Goals as goal
 
 pub loop-h-init : goal.loop-h-init
 loop-h-init c =
-    let a = c.args in
-    (c.count-n.ensures, omega arith, rowed-start (fanOr (edgesIn a.job.now a.c) (usesIn a.uses.now) a.removed.now a.fans.now a.starts.now) 3 a.out.now 0)
+    let a = c.args in (
+      c.count-n.ensures,
+      omega arith,
+      rowed-start (fanOr (edgesIn a.job.now a.c) (usesIn a.uses.now) a.removed.now
+          a.fans.now a.starts.now) 3 a.out.now 0,
+    )
 
 pub put_fan-p-requires : goal.put_fan-p-requires
-put_fan-p-requires c = (c.requires.0, c.requires.1, omega (arith, c.requires.2, c.loop-h.invariant.0, c.loop-h.invariant.1, c.loop-h.invariant.2.small))
+put_fan-p-requires c = (
+  c.requires.0,
+  c.requires.1,
+  omega (
+    arith,
+    c.requires.2,
+    c.loop-h.invariant.0,
+    c.loop-h.invariant.1,
+    c.loop-h.invariant.2.small,
+  ),
+)
 
 pub loop-h-preserved : goal.loop-h-preserved
 loop-h-preserved c =
@@ -19,13 +33,17 @@ loop-h-preserved c =
     let l = c.loop-h in (
       l.invariant.0,
       omega arith,
-      rowed-step (fanOr (edgesIn a.job.now a.c) (usesIn a.uses.now) a.removed.now a.fans.now a.starts.now) 3 a.out.now 0 l.out c.put_fan-p.new.out l.p l.h c.put_fan-p.result
-          (fan-short (edgesIn a.job.now a.c) (usesIn a.uses.now) a.removed.now a.fans.now a.starts.now l.h) l.invariant.2 c.put_fan-p.ensures,
+      rowed-step (fanOr (edgesIn a.job.now a.c) (usesIn a.uses.now) a.removed.now a.fans.now a.starts.now) 3 a.out.now 0
+          l.out c.put_fan-p.new.out l.p l.h c.put_fan-p.result
+          (fan-short (edgesIn a.job.now a.c) (usesIn a.uses.now) a.removed.now a.fans.now a.starts.now l.h)
+          l.invariant.2 c.put_fan-p.ensures,
     )
 
 pub returns : goal.returns
 returns c =
     let a = c.args in
     let l = c.loop-h in
-    rowed-end (fanOr (edgesIn a.job.now a.c) (usesIn a.uses.now) a.removed.now a.fans.now a.starts.now) 3 a.out.now 0 (fanRows (edgesIn a.job.now a.c) (usesIn a.uses.now) a.removed.now a.fans.now a.starts.now) l.out l.p l.h
-    (fan-rows-all (edgesIn a.job.now a.c) (usesIn a.uses.now) a.removed.now a.fans.now a.starts.now l.h (omega (arith, l.invariant.0, l.invariant.1))) l.invariant.2
+    rowed-end (fanOr (edgesIn a.job.now a.c) (usesIn a.uses.now) a.removed.now a.fans.now a.starts.now) 3 a.out.now 0
+    (fanRows (edgesIn a.job.now a.c) (usesIn a.uses.now) a.removed.now a.fans.now a.starts.now) l.out l.p l.h
+    (fan-rows-all (edgesIn a.job.now a.c) (usesIn a.uses.now) a.removed.now a.fans.now a.starts.now l.h
+    (omega (arith, l.invariant.0, l.invariant.1))) l.invariant.2

@@ -8,7 +8,9 @@ use Rattle.job.specs.Lists.{edgesIn}
 use Rattle.result_out.proofs.put_fans.Given as goal
 
 abbrev pub invariant-loop-h : goal.invariant-loop-h
-invariant-loop-h l = (l.n ≡ length (usesIn l.uses)) × (l.h ≤ l.n) × RowedFrom (fanOr (edgesIn l.job l.c) (usesIn l.uses) l.removed l.fans l.starts) 3 l.initial.out 0 l.out l.p l.h
+invariant-loop-h l =
+    (l.n ≡ length (usesIn l.uses)) × (l.h ≤ l.n) × RowedFrom
+    (fanOr (edgesIn l.job l.c) (usesIn l.uses) l.removed l.fans l.starts) 3 l.initial.out 0 l.out l.p l.h
 
 abbrev pub decreases-loop-h : goal.decreases-loop-h
 decreases-loop-h l = l.n - l.h

@@ -17,12 +17,15 @@ loop-i-preserved c =
     let a = c.args in
     let l = c.loop-i in (
       omega arith,
-      rowed-step (λ k. itemRow (get_or a.part.now k 0)) 2 a.out.now a.at l.out c.put_two-p.new.out l.p l.i c.put_two-p.result (omega arith) l.invariant.1
-          (item-row a.part.now l.out c.put_two-p.new.out l.p c.put_two-p.result l.i c.get-x.result c.get-x.ensures.0 c.put_two-p.ensures),
+      rowed-step (λ k. itemRow (get_or a.part.now k 0)) 2 a.out.now a.at l.out c.put_two-p.new.out l.p l.i
+          c.put_two-p.result (omega arith) l.invariant.1
+          (item-row a.part.now l.out c.put_two-p.new.out l.p c.put_two-p.result l.i c.get-x.result c.get-x.ensures.0
+          c.put_two-p.ensures),
     )
 
 pub returns : goal.returns
 returns c =
     let a = c.args in
     let l = c.loop-i in
-    rowed-end (λ k. itemRow (get_or a.part.now k 0)) 2 a.out.now a.at (flat_map itemRow a.part.now) l.out l.p l.i (item-rows a.part.now l.i (omega arith)) l.invariant.1
+    rowed-end (λ k. itemRow (get_or a.part.now k 0)) 2 a.out.now a.at (flat_map itemRow a.part.now) l.out l.p l.i
+    (item-rows a.part.now l.i (omega arith)) l.invariant.1

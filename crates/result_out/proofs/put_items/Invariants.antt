@@ -5,7 +5,8 @@ use Prim.Native.Nat.{◌-◌, ◌≤◌}
 use Rattle.result_out.proofs.put_items.Given as goal
 
 abbrev pub invariant-loop-i : goal.invariant-loop-i
-invariant-loop-i l = (l.i ≤ length l.part) × RowedFrom (λ k. itemRow (get_or l.part k 0)) 2 l.initial.out l.at l.out l.p l.i
+invariant-loop-i l =
+    (l.i ≤ length l.part) × RowedFrom (λ k. itemRow (get_or l.part k 0)) 2 l.initial.out l.at l.out l.p l.i
 
 abbrev pub decreases-loop-i : goal.decreases-loop-i
 decreases-loop-i l = length l.part - l.i

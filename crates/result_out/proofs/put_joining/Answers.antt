@@ -11,7 +11,13 @@ use native.Mathlib.Omega.{arith}
 use Rattle.result_out.proofs.put_joining.Goals as goal
 
 pub put_word-q-requires : goal.put_word-q-requires
-put_word-q-requires c = let a = c.args in omega (arith, place-after (a.joins ∷ a.rings ∷ []) a.out.now c.put_two-p.new.out 0 c.put_two-p.result c.put_two-p.ensures)
+put_word-q-requires c =
+    let a = c.args in
+    omega (
+      arith,
+      place-after (a.joins ∷ a.rings ∷ []) a.out.now c.put_two-p.new.out 0 c.put_two-p.result
+          c.put_two-p.ensures,
+    )
 
 -- no goal for slice-aggregate-put-edges
 -- -- old need: slice-aggregate-put-edges
@@ -22,7 +28,13 @@ pub put_edges-r-requires : goal.put_edges-r-requires
 put_edges-r-requires c =
     let a = c.args in (
       omega (arith, c.requires.2, length-take-le (7 * a.n) a.rows.now c.requires.3),
-      omega (arith, place-after (a.joins ∷ a.rings ∷ []) a.out.now c.put_two-p.new.out 0 c.put_two-p.result c.put_two-p.ensures, c.put_word-q.ensures.1, length-bytes32 a.n),
+      omega (
+        arith,
+        place-after (a.joins ∷ a.rings ∷ []) a.out.now c.put_two-p.new.out 0 c.put_two-p.result
+            c.put_two-p.ensures,
+        c.put_word-q.ensures.1,
+        length-bytes32 a.n,
+      ),
     )
 
 pub put_loops-requires : goal.put_loops-requires
@@ -38,7 +50,8 @@ put_loops-requires c =
         place-after (a.joins ∷ a.rings ∷ []) a.out.now c.put_two-p.new.out 0 c.put_two-p.result c.put_two-p.ensures,
         c.put_word-q.ensures.1,
         length-bytes32 a.n,
-        place-after (flat_map edgeFields (rowsIn (take (7 * a.n) a.rows.now))) c.put_word-q.new.out c.put_edges-r.new.out c.put_word-q.result c.put_edges-r.result c.put_edges-r.ensures,
+        place-after (flat_map edgeFields (rowsIn (take (7 * a.n) a.rows.now))) c.put_word-q.new.out
+            c.put_edges-r.new.out c.put_word-q.result c.put_edges-r.result c.put_edges-r.ensures,
         edges-length a.rows.now a.n c.requires.3,
       ),
     )
@@ -46,4 +59,7 @@ put_loops-requires c =
 pub returns : goal.returns
 returns c =
     let a = c.args in
-    joining-wrote a.items.now a.stretches.now a.faces.now a.rows.now a.out.now c.put_two-p.new.out c.put_word-q.new.out c.put_edges-r.new.out c.put_loops.new.out a.n a.joins a.rings c.put_two-p.result c.put_word-q.result c.put_edges-r.result c.put_loops.result c.requires.3 c.put_two-p.ensures c.put_word-q.ensures c.put_edges-r.ensures c.put_loops.ensures
+    joining-wrote a.items.now a.stretches.now a.faces.now a.rows.now a.out.now c.put_two-p.new.out c.put_word-q.new.out
+    c.put_edges-r.new.out c.put_loops.new.out a.n a.joins a.rings c.put_two-p.result c.put_word-q.result
+    c.put_edges-r.result c.put_loops.result c.requires.3 c.put_two-p.ensures c.put_word-q.ensures
+    c.put_edges-r.ensures c.put_loops.ensures

@@ -6,7 +6,19 @@ use native.Mathlib.Omega.{arith}
 use Rattle.result_out.proofs.put_loop.Goals as goal
 
 pub put_items-requires : goal.put_items-requires
-put_items-requires c = let a = c.args in (c.requires.0, omega (arith, c.requires.1, place-after (a.face ∷ length a.part.now ∷ []) a.out.now c.put_two-p.new.out a.at c.put_two-p.result c.put_two-p.ensures))
+put_items-requires c =
+    let a = c.args in (
+      c.requires.0,
+      omega (
+        arith,
+        c.requires.1,
+        place-after (a.face ∷ length a.part.now ∷ []) a.out.now
+            c.put_two-p.new.out a.at c.put_two-p.result c.put_two-p.ensures,
+      ),
+    )
 
 pub returns : goal.returns
-returns c = let a = c.args in loop-row a.face a.part.now a.out.now c.put_two-p.new.out c.put_items.new.out a.at c.put_two-p.result c.put_items.result c.put_two-p.ensures c.put_items.ensures
+returns c =
+    let a = c.args in
+    loop-row a.face a.part.now a.out.now c.put_two-p.new.out c.put_items.new.out a.at c.put_two-p.result
+    c.put_items.result c.put_two-p.ensures c.put_items.ensures

@@ -10,7 +10,9 @@ use native.Mathlib.Omega.{arith}
 use Rattle.result_out.proofs.put_loops.Goals as goal
 
 pub loop-k-init : goal.loop-k-init
-loop-k-init c = let a = c.args in (omega arith, rowed-start (faceLoopRow a.items.now a.stretches.now a.faces.now) 4098 a.out.now a.at)
+loop-k-init c =
+    let a = c.args in
+    (omega arith, rowed-start (faceLoopRow a.items.now a.stretches.now a.faces.now) 4098 a.out.now a.at)
 
 -- no goal for overflow-sub-put-loop
 -- -- old need: overflow-sub-put-loop
@@ -33,21 +35,29 @@ slice_bounds-put_loop-end c =
     omega (arith, c.get-a.ensures.0, c.get-e.ensures.0, c.requires.0.order k b, c.requires.0.inside k b)
 
 pub put_loop-p-requires : goal.put_loop-p-requires
-put_loop-p-requires c = (part-short c.args.items.now (c.get-e.result - c.get-a.result) c.get-a.result c.requires.2, omega (arith, c.requires.3, c.requires.4, c.loop-k.invariant.0, c.loop-k.invariant.1.small))
+put_loop-p-requires c = (
+  part-short c.args.items.now (c.get-e.result - c.get-a.result) c.get-a.result c.requires.2,
+  omega
+      (arith, c.requires.3, c.requires.4, c.loop-k.invariant.0, c.loop-k.invariant.1.small),
+)
 
 pub loop-k-preserved : goal.loop-k-preserved
 loop-k-preserved c =
     let a = c.args in
     let l = c.loop-k in (
       omega arith,
-      rowed-step (faceLoopRow a.items.now a.stretches.now a.faces.now) 4098 a.out.now a.at l.out c.put_loop-p.new.out l.p l.k c.put_loop-p.result
+      rowed-step (faceLoopRow a.items.now a.stretches.now a.faces.now) 4098 a.out.now a.at l.out c.put_loop-p.new.out
+          l.p l.k c.put_loop-p.result
           (loop-short a.items.now a.stretches.now a.faces.now l.k c.requires.2) l.invariant.1
-          (loop-wrote a.items.now a.stretches.now a.faces.now l.out c.put_loop-p.new.out l.p c.put_loop-p.result l.k c.get-face.result c.get-a.result c.get-e.result c.get-face.ensures.0 c.get-a.ensures.0 c.get-e.ensures.0 c.put_loop-p.ensures),
+          (loop-wrote a.items.now a.stretches.now a.faces.now l.out c.put_loop-p.new.out l.p c.put_loop-p.result l.k
+          c.get-face.result c.get-a.result c.get-e.result c.get-face.ensures.0 c.get-a.ensures.0 c.get-e.ensures.0
+          c.put_loop-p.ensures),
     )
 
 pub returns : goal.returns
 returns c =
     let a = c.args in
     let l = c.loop-k in
-    rowed-end (faceLoopRow a.items.now a.stretches.now a.faces.now) 4098 a.out.now a.at (flat_map faceLoopFields (faceLoopsIn a.items.now a.stretches.now a.faces.now)) l.out l.p l.k
+    rowed-end (faceLoopRow a.items.now a.stretches.now a.faces.now) 4098 a.out.now a.at
+    (flat_map faceLoopFields (faceLoopsIn a.items.now a.stretches.now a.faces.now)) l.out l.p l.k
     (loop-rows a.items.now a.stretches.now a.faces.now l.k (omega arith)) l.invariant.1

@@ -20,7 +20,8 @@ put_voids-requires c =
       omega (
         arith,
         c.requires.3,
-        place-after (lumpShellFields a.number (shellFaces a.boundaries.now a.members.now c.shell_boundary-b.result)) a.out.now c.put_shell-p.new.out a.at c.put_shell-p.result c.put_shell-p.ensures,
+        place-after (lumpShellFields a.number (shellFaces a.boundaries.now a.members.now c.shell_boundary-b.result))
+            a.out.now c.put_shell-p.new.out a.at c.put_shell-p.result c.put_shell-p.ensures,
         shell-short a.boundaries.now a.members.now a.number c.shell_boundary-b.result c.requires.0,
       ),
     )
@@ -28,11 +29,14 @@ put_voids-requires c =
 pub returns-then-shell_outer : goal.returns-then-shell_outer
 returns-then-shell_outer c =
     let a = c.args in
-    lump-there a.boundaries.now a.members.now a.table.now a.n a.out.now c.put_shell-p.new.out c.put_voids.new.out a.at c.put_shell-p.result c.put_voids.result a.number a.k c.shell_boundary-b.result c.shell_home-home.result
-    (sym c.shell_outer.ensures ∙ c.if-shell_outer.true) c.shell_boundary-b.ensures.0 c.shell_home-home.ensures.0 c.put_shell-p.ensures c.put_voids.ensures
+    lump-there a.boundaries.now a.members.now a.table.now a.n a.out.now c.put_shell-p.new.out c.put_voids.new.out a.at
+    c.put_shell-p.result c.put_voids.result a.number a.k c.shell_boundary-b.result c.shell_home-home.result
+    (sym c.shell_outer.ensures ∙ c.if-shell_outer.true) c.shell_boundary-b.ensures.0 c.shell_home-home.ensures.0
+    c.put_shell-p.ensures c.put_voids.ensures
 
 pub returns : goal.returns
 returns c =
     let a = c.args in
-    row-none (isOuter a.table.now a.k) (shellRow a.boundaries.now a.members.now a.table.now a.number a.k ++ voidRows a.boundaries.now a.members.now a.table.now a.n (get_or a.table.now (4 * a.k + 3) 0) a.number) a.out.now a.at
+    row-none (isOuter a.table.now a.k) (shellRow a.boundaries.now a.members.now a.table.now a.number a.k ++ voidRows
+    a.boundaries.now a.members.now a.table.now a.n (get_or a.table.now (4 * a.k + 3) 0) a.number) a.out.now a.at
     (sym c.shell_outer.ensures ∙ c.if-shell_outer.false)

@@ -5,9 +5,20 @@ use native.Mathlib.Omega.{arith}
 use Rattle.result_out.proofs.put_shell.Goals as goal
 
 pub put_faces_of-requires : goal.put_faces_of-requires
-put_faces_of-requires c = let a = c.args in (c.requires.0, omega (arith, c.requires.1, place-after (a.number ∷ c.count_faces_of-n.result ∷ []) a.out.now c.put_two-p.new.out a.at c.put_two-p.result c.put_two-p.ensures))
+put_faces_of-requires c =
+    let a = c.args in (
+      c.requires.0,
+      omega (
+        arith,
+        c.requires.1,
+        place-after (a.number ∷ c.count_faces_of-n.result ∷ []) a.out.now
+            c.put_two-p.new.out a.at c.put_two-p.result c.put_two-p.ensures,
+      ),
+    )
 
 pub returns : goal.returns
 returns c =
     let a = c.args in
-    shell-row a.boundaries.now a.members.now a.b a.number c.count_faces_of-n.result a.out.now c.put_two-p.new.out c.put_faces_of.new.out a.at c.put_two-p.result c.put_faces_of.result c.count_faces_of-n.ensures c.put_two-p.ensures c.put_faces_of.ensures
+    shell-row a.boundaries.now a.members.now a.b a.number c.count_faces_of-n.result a.out.now c.put_two-p.new.out
+    c.put_faces_of.new.out a.at c.put_two-p.result c.put_faces_of.result c.count_faces_of-n.ensures
+    c.put_two-p.ensures c.put_faces_of.ensures

@@ -9,7 +9,8 @@ use native.Mathlib.Omega.{arith}
 use Rattle.result_out.proofs.put_shells.Goals as goal
 
 pub loop-k-init : goal.loop-k-init
-loop-k-init c = let a = c.args in (omega arith, rowed-start (shellAt a.boundaries.now a.members.now a.table.now) 258 a.out.now 0)
+loop-k-init c =
+    let a = c.args in (omega arith, rowed-start (shellAt a.boundaries.now a.members.now a.table.now) 258 a.out.now 0)
 
 pub put_shell-p-requires : goal.put_shell-p-requires
 put_shell-p-requires c = (c.requires.1, omega (arith, c.requires.0, c.loop-k.invariant.0, c.loop-k.invariant.1.small))
@@ -19,14 +20,19 @@ loop-k-preserved c =
     let a = c.args in
     let l = c.loop-k in (
       omega arith,
-      rowed-step (shellAt a.boundaries.now a.members.now a.table.now) 258 a.out.now 0 l.out c.put_shell-p.new.out l.p l.k c.put_shell-p.result
-          (shell-short a.boundaries.now a.members.now (bodyKind (isOuter a.table.now l.k)) (boundaryIn a.table.now l.k) c.requires.1) l.invariant.1
-          (shell-wrote a.boundaries.now a.members.now a.table.now l.out c.put_shell-p.new.out l.p c.put_shell-p.result l.k c.shell_boundary-b.result c.flag_number-outer.result c.shell_outer.result c.shell_boundary-b.ensures.0 c.shell_outer.ensures c.flag_number-outer.ensures.0 c.put_shell-p.ensures),
+      rowed-step (shellAt a.boundaries.now a.members.now a.table.now) 258 a.out.now 0 l.out c.put_shell-p.new.out l.p
+          l.k c.put_shell-p.result
+          (shell-short a.boundaries.now a.members.now (bodyKind (isOuter a.table.now l.k)) (boundaryIn a.table.now l.k)
+          c.requires.1) l.invariant.1
+          (shell-wrote a.boundaries.now a.members.now a.table.now l.out c.put_shell-p.new.out l.p c.put_shell-p.result
+          l.k c.shell_boundary-b.result c.flag_number-outer.result c.shell_outer.result c.shell_boundary-b.ensures.0
+          c.shell_outer.ensures c.flag_number-outer.ensures.0 c.put_shell-p.ensures),
     )
 
 pub returns : goal.returns
 returns c =
     let a = c.args in
     let l = c.loop-k in
-    rowed-end (shellAt a.boundaries.now a.members.now a.table.now) 258 a.out.now 0 (flat_map shellFields (shellsIn a.boundaries.now a.members.now a.n a.table.now)) l.out l.p l.k
+    rowed-end (shellAt a.boundaries.now a.members.now a.table.now) 258 a.out.now 0
+    (flat_map shellFields (shellsIn a.boundaries.now a.members.now a.n a.table.now)) l.out l.p l.k
     (shell-rows a.boundaries.now a.members.now a.table.now a.n l.k (omega arith)) l.invariant.1

@@ -13,14 +13,19 @@ pub write_twins-requires : goal.write_twins-requires
 write_twins-requires c =
     let a = c.args in
     let P = c.requires.0 in
-    omega (arith, paired-size a.job.now a.index.now a.c (usesIn a.uses.now) a.twins.now P, (opened-limited a.job.now a.index.now a.c P.opened).uses)
+    omega (
+      arith,
+      paired-size a.job.now a.index.now a.c (usesIn a.uses.now) a.twins.now P,
+      (opened-limited a.job.now a.index.now a.c P.opened).uses,
+    )
 
 pub returns-then-stage-eq-PAIR : goal.returns-then-stage-eq-PAIR
 returns-then-stage-eq-PAIR c =
     let a = c.args in
     let x = c.write_twins in
     ends-staged a.twins.now a.twins.now a.out.now x.new.out x.result refl
-    (pairing-asked a.stage (jobIn a.job.now a.index.now a.c) (usesIn a.uses.now) (length a.out.now) a.twins.now c.if-stage-eq-PAIR.true) x.ensures
+    (pairing-asked a.stage (jobIn a.job.now a.index.now a.c) (usesIn a.uses.now) (length a.out.now) a.twins.now
+    c.if-stage-eq-PAIR.true) x.ensures
 
 pub slice_bounds-groups-end : goal.slice_bounds-groups-end
 slice_bounds-groups-end c =
@@ -38,8 +43,13 @@ unfolding zeros
 merge_faces-r-requires c =
     let a = c.args in
     let P = c.requires.0 in
-    let L = opened-limited a.job.now a.index.now a.c P.opened in
-    (P.opened.indexed, L.faces, sym (part-size a.c.faces 256 L.faces), paired-few a.job.now a.index.now a.c (usesIn a.uses.now) a.twins.now P)
+    let L = opened-limited a.job.now a.index.now a.c P.opened in (
+      P.opened.indexed,
+      L.faces,
+      sym (part-size a.c.faces 256 L.faces),
+      paired-few a.job.now a.index.now a.c
+          (usesIn a.uses.now) a.twins.now P,
+    )
 
 pub faces_of-m-requires : goal.faces_of-m-requires
 unfolding zeros
@@ -52,7 +62,8 @@ faces_of-m-requires c =
     let e = x.auto.labels in (
       L.faces,
       lent-long 256 a.c.faces l e L.faces,
-      groups-lowest a.job.now a.index.now a.c (usesIn a.uses.now) a.twins.now P a.stage (length a.out.now) c.if-stage-eq-PAIR.false x.result l x.ensures
+      groups-lowest a.job.now a.index.now a.c (usesIn a.uses.now) a.twins.now P a.stage (length a.out.now)
+          c.if-stage-eq-PAIR.false x.result l x.ensures
           _ (lent-part 256 a.c.faces l e L.faces) _ c.in-Done.is,
     )
 
@@ -66,8 +77,10 @@ on_merged-requires c =
     let y = c.faces_of-m in
     let l = x.new.labels in
     let e = x.auto.labels in (
-      grouped-from a.job.now a.index.now a.c (usesIn a.uses.now) a.twins.now P a.stage (length a.out.now) c.if-stage-eq-PAIR.false x.result l x.ensures
-          _ (lent-part 256 a.c.faces l e L.faces) _ c.in-Done.is y.result (lent-long 256 a.c.faces l e L.faces) y.ensures,
+      grouped-from a.job.now a.index.now a.c (usesIn a.uses.now) a.twins.now P a.stage (length a.out.now)
+          c.if-stage-eq-PAIR.false x.result l x.ensures
+          _ (lent-part 256 a.c.faces l e L.faces) _ c.in-Done.is y.result (lent-long 256 a.c.faces l e L.faces)
+          y.ensures,
       c.requires.1,
     )
 
@@ -76,7 +89,8 @@ returns-in-Refused c =
     let a = c.args in
     let x = c.merge_faces-r in
     ends-refused _ a.out.now _ _
-    (merge-refused a.job.now a.index.now a.c (usesIn a.uses.now) a.twins.now c.requires.0 a.stage (length a.out.now) c.if-stage-eq-PAIR.false x.result
+    (merge-refused a.job.now a.index.now a.c (usesIn a.uses.now) a.twins.now c.requires.0 a.stage (length a.out.now)
+    c.if-stage-eq-PAIR.false x.result
     x.new.labels x.ensures _ _ c.in-Refused.is)
 
 pub returns-in-Done : goal.returns-in-Done
@@ -91,7 +105,9 @@ returns-in-Done c =
     let l = x.new.labels in
     let e = x.auto.labels in
     let G =
-    grouped-from a.job.now a.index.now a.c (usesIn a.uses.now) a.twins.now P a.stage (length a.out.now) c.if-stage-eq-PAIR.false x.result l x.ensures
+    grouped-from a.job.now a.index.now a.c (usesIn a.uses.now) a.twins.now P a.stage (length a.out.now)
+    c.if-stage-eq-PAIR.false x.result l x.ensures
     _ (lent-part 256 a.c.faces l e L.faces) _ c.in-Done.is y.result (lent-long 256 a.c.faces l e L.faces) y.ensures in
     ends-as _ _ a.out.now z.new.out z.result
-    (sym (merge-on a.job.now a.index.now a.c (usesIn a.uses.now) a.twins.now P a.stage (length a.out.now) c.if-stage-eq-PAIR.false y.result G)) z.ensures
+    (sym (merge-on a.job.now a.index.now a.c (usesIn a.uses.now) a.twins.now P a.stage (length a.out.now)
+    c.if-stage-eq-PAIR.false y.result G)) z.ensures

@@ -33,32 +33,45 @@ slice_bounds-loops-end-2 c = part-size (2 * length c.args.succ.now) 4096 (omega 
 
 pub loops-k-requires : goal.loops-k-requires
 unfolding zeros
-loops-k-requires c = (c.requires.permuted, c.requires.few, sym (part-size (length c.args.succ.now) 2048 c.requires.few), sym (part-size (2 * length c.args.succ.now) 4096 (omega (arith, c.requires.few))))
+loops-k-requires c = (
+  c.requires.permuted,
+  c.requires.few,
+  sym (part-size (length c.args.succ.now) 2048 c.requires.few),
+  sym
+      (part-size (2 * length c.args.succ.now) 4096 (omega (arith, c.requires.few))),
+)
 
 pub slice_bounds-numbers-end : goal.slice_bounds-numbers-end
 slice_bounds-numbers-end c = omega (arith, c.requires.faces, c.requires.numbers-size)
 
 pub slice_bounds-write_loops-end : goal.slice_bounds-write_loops-end
-slice_bounds-write_loops-end c = sym (length-take-le c.args.c.faces c.args.m.numbers (omega (arith, c.requires.faces, c.requires.numbers-size)))
+slice_bounds-write_loops-end c =
+    sym (length-take-le c.args.c.faces c.args.m.numbers (omega (arith, c.requires.faces, c.requires.numbers-size)))
 
 pub slice_bounds-ways-end-2 : goal.slice_bounds-ways-end-2
 unfolding zeros
-slice_bounds-ways-end-2 c = lent-room 2048 (length c.args.succ.now) c.loops-k.new.ways c.loops-k.auto.ways c.requires.few
+slice_bounds-ways-end-2 c =
+    lent-room 2048 (length c.args.succ.now) c.loops-k.new.ways c.loops-k.auto.ways c.requires.few
 
 pub slice_bounds-write_loops-end-2 : goal.slice_bounds-write_loops-end-2
 unfolding zeros
-slice_bounds-write_loops-end-2 c = lent-cut 2048 (length c.args.succ.now) c.loops-k.new.ways c.loops-k.auto.ways c.requires.few
+slice_bounds-write_loops-end-2 c =
+    lent-cut 2048 (length c.args.succ.now) c.loops-k.new.ways c.loops-k.auto.ways c.requires.few
 
 pub overflow_mul-stretches-2 : goal.overflow_mul-stretches-2
 overflow_mul-stretches-2 c = omega (arith, c.requires.few)
 
 pub slice_bounds-stretches-end-2 : goal.slice_bounds-stretches-end-2
 unfolding zeros
-slice_bounds-stretches-end-2 c = lent-room 4096 (2 * length c.args.succ.now) c.loops-k.new.stretches c.loops-k.auto.stretches (omega (arith, c.requires.few))
+slice_bounds-stretches-end-2 c =
+    lent-room 4096 (2 * length c.args.succ.now) c.loops-k.new.stretches c.loops-k.auto.stretches
+    (omega (arith, c.requires.few))
 
 pub slice_bounds-write_loops-end-3 : goal.slice_bounds-write_loops-end-3
 unfolding zeros
-slice_bounds-write_loops-end-3 c = lent-cut 4096 (2 * length c.args.succ.now) c.loops-k.new.stretches c.loops-k.auto.stretches (omega (arith, c.requires.few))
+slice_bounds-write_loops-end-3 c =
+    lent-cut 4096 (2 * length c.args.succ.now) c.loops-k.new.stretches c.loops-k.auto.stretches
+    (omega (arith, c.requires.few))
 
 pub write_loops-requires : goal.write_loops-requires
 unfolding zeros
@@ -67,8 +80,14 @@ write_loops-requires c = let n = length c.args.succ.now in
     let s = c.loops-k.new.stretches in
     let long : 2 * n ≤ 4096 = omega (arith, c.requires.few) in
     let ew = lent-part 2048 n w c.loops-k.auto.ways c.requires.few in
-    let es = lent-part 4096 (2 * n) s c.loops-k.auto.stretches long in
-    (following-back c.loops-k.result (take n (w ++ drop n (zeros 2048))) w (take (2 * n) (s ++ drop (2 * n) (zeros 4096))) s ew es c.loops-k.ensures.2, omega (arith, c.loops-k.ensures.1, c.requires.few), omega (arith, sym (lent-cut 2048 n w c.loops-k.auto.ways c.requires.few), c.requires.few))
+    let es = lent-part 4096 (2 * n) s c.loops-k.auto.stretches long in (
+      following-back c.loops-k.result (take n (w ++ drop n (zeros 2048))) w
+          (take (2 * n) (s ++ drop (2 * n) (zeros 4096))) s ew es c.loops-k.ensures.2,
+      omega
+          (arith, c.loops-k.ensures.1, c.requires.few),
+      omega
+          (arith, sym (lent-cut 2048 n w c.loops-k.auto.ways c.requires.few), c.requires.few),
+    )
 
 pub returns : goal.returns
 unfolding zeros
@@ -79,5 +98,10 @@ returns c = let a = c.args in
     let long : 2 * n ≤ 4096 = omega (arith, c.requires.few) in
     let ew = lent-part 2048 n w c.loops-k.auto.ways c.requires.few in
     let es = lent-part 4096 (2 * n) s c.loops-k.auto.stretches long in
-    ends-staged (roundRows (usesIn a.uses.now) (numbersIn a.c a.m) (loopsIn c.loops-k.result (take n (w ++ drop n (zeros 2048))) (take (2 * n) (s ++ drop (2 * n) (zeros 4096))))) (roundRows (usesIn a.uses.now) (numbersIn a.c a.m) (loopsOf (circuits a.removed.now a.succ.now))) a.out.now c.write_loops.new.out c.write_loops.result
-    (ap (roundRows (usesIn a.uses.now) (numbersIn a.c a.m)) (loops-back c.loops-k.result (take n (w ++ drop n (zeros 2048))) w (take (2 * n) (s ++ drop (2 * n) (zeros 4096))) s ew es ∙ c.loops-k.ensures.0)) refl c.write_loops.ensures
+    ends-staged (roundRows (usesIn a.uses.now) (numbersIn a.c a.m)
+    (loopsIn c.loops-k.result (take n (w ++ drop n (zeros 2048))) (take (2 * n) (s ++ drop (2 * n) (zeros 4096)))))
+    (roundRows (usesIn a.uses.now) (numbersIn a.c a.m) (loopsOf (circuits a.removed.now a.succ.now))) a.out.now
+    c.write_loops.new.out c.write_loops.result
+    (ap (roundRows (usesIn a.uses.now) (numbersIn a.c a.m))
+    (loops-back c.loops-k.result (take n (w ++ drop n (zeros 2048))) w
+    (take (2 * n) (s ++ drop (2 * n) (zeros 4096))) s ew es ∙ c.loops-k.ensures.0)) refl c.write_loops.ensures

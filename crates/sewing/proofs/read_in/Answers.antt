@@ -8,9 +8,16 @@ use Rattle.sewing.proofs.read_in.Goals as goal
 
 pub read-requires : goal.read-requires
 read-requires c = let a = c.args in
-    let limits = opened-limited a.job.now a.index.now a.c c.requires.0 in
-    (limits.loops, limits.faces, limits.uses, c.requires.1, (opened-counted a.job.now a.index.now a.c c.requires.0).uses)
+    let limits = opened-limited a.job.now a.index.now a.c c.requires.0 in (
+      limits.loops,
+      limits.faces,
+      limits.uses,
+      c.requires.1,
+      (opened-counted a.job.now a.index.now a.c c.requires.0).uses,
+    )
 
 pub returns : goal.returns
 returns c = let a = c.args in
-    ends-as _ _ a.out.now c.on_read.new.out c.on_read.result (sym (ap (afterReading a.stage (jobIn a.job.now a.index.now a.c) (length a.out.now)) c.read.ensures)) c.on_read.ensures
+    ends-as _ _ a.out.now c.on_read.new.out c.on_read.result
+    (sym (ap (afterReading a.stage (jobIn a.job.now a.index.now a.c) (length a.out.now)) c.read.ensures))
+    c.on_read.ensures

@@ -22,4 +22,6 @@ slice_bounds-read_in-end-4 c = part-size (2 * c.args.c.loops) 2048 (omega (arith
 
 pub read_in-requires : goal.read_in-requires
 unfolding zeros
-read_in-requires c = let made = tables-made c.args.c 2048 1024 1024 c.requires.1 c.requires.2 c.requires.3 in (c.requires.0, made.0, made.1)
+read_in-requires c =
+    let made = tables-made c.args.c 2048 1024 1024 c.requires.1 c.requires.2 c.requires.3 in
+    (c.requires.0, made.0, made.1)

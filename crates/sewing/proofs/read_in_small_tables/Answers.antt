@@ -22,4 +22,5 @@ slice_bounds-read_in-end-4 c = part-size (2 * c.args.c.loops) 128 (omega (arith,
 
 pub read_in-requires : goal.read_in-requires
 unfolding zeros
-read_in-requires c = let made = tables-made c.args.c 64 64 64 c.requires.1 c.requires.2 c.requires.3 in (c.requires.0, made.0, made.1)
+read_in-requires c =
+    let made = tables-made c.args.c 64 64 64 c.requires.1 c.requires.2 c.requires.3 in (c.requires.0, made.0, made.1)

@@ -13,7 +13,8 @@ sew_loaded-requires c =
 
 pub returns-in-Refused : goal.returns-in-Refused
 returns-in-Refused c = (
-  ends-refused _ c.args.out.now _ _ (sym (stage-body c.args.job.now (length c.args.out.now)) ∙ sew-refused c.args.job.now
+  ends-refused _ c.args.out.now _ _ (sym (stage-body c.args.job.now (length c.args.out.now)) ∙ sew-refused
+      c.args.job.now
       c.load-r.new.index c.load-r.result _ _ _ c.load-r.ensures c.in-Refused.is),
   promises fullTable c.args.job.now,
 )

@@ -6,4 +6,8 @@ use lib.ListN.{length}
 use Rattle.sewing.proofs.walk_stage.Goals as goal
 
 pub returns : goal.returns
-returns c = (ends-as _ _ c.args.out.now c.run.new.out c.run.result (sym (stage-walk c.args.job.now (length c.args.out.now))) c.run.ensures, promised c.args.job.now)
+returns c = (
+  ends-as _ _ c.args.out.now c.run.new.out c.run.result (sym (stage-walk c.args.job.now (length c.args.out.now)))
+      c.run.ensures,
+  promised c.args.job.now,
+)

@@ -9,4 +9,12 @@ slice_bounds-remove-end c = let a = c.args in sym (length-take-le a.c.faces a.m.
 pub returns : goal.returns
 returns c = let removing = c.remove-gone.ensures in
     let walking = c.successors-total.ensures in
-    record { removed = removing.0; follows = walking.0; counts = walking.1; gone = removing.1; passed = walking.2 ∙ ap (sumOf (λ k. k)) walking.1; kept = refl }
+    record {
+      removed = removing.0;
+      follows = walking.0;
+      counts = walking.1;
+      gone = removing.1;
+      passed = walking.2 ∙ ap
+          (sumOf (λ k. k)) walking.1;
+      kept = refl;
+    }

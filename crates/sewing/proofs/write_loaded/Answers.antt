@@ -62,7 +62,13 @@ write_read-requires c =
     let a = c.args in
     let limits = opened-limited a.job.now a.index.now a.c c.requires in
     let part = lent-part 8192 (4 * a.c.uses) c.read.new.uses c.read.auto.uses (omega (arith, limits.uses)) in
-    omega (arith, ap (λ l. length (usesIn l)) part, ap length c.read.ensures, (opened-counted a.job.now a.index.now a.c c.requires).uses, limits.uses)
+    omega (
+      arith,
+      ap (λ l. length (usesIn l)) part,
+      ap length c.read.ensures,
+      (opened-counted a.job.now a.index.now a.c c.requires).uses,
+      limits.uses,
+    )
 
 pub returns : goal.returns
 unfolding zeros
@@ -71,7 +77,8 @@ returns c =
     let limits = opened-limited a.job.now a.index.now a.c c.requires in
     let part = lent-part 8192 (4 * a.c.uses) c.read.new.uses c.read.auto.uses (omega (arith, limits.uses)) in
     let same = ap usesIn part ∙ c.read.ensures in
-    ends-staged _ (flat_map useFields (usesOf (jobIn a.job.now a.index.now a.c))) a.out.now c.write_read.new.out c.write_read.result
+    ends-staged _ (flat_map useFields (usesOf (jobIn a.job.now a.index.now a.c))) a.out.now c.write_read.new.out
+    c.write_read.result
     (ap (flat_map useFields) same)
     (read-written a.job.now a.index.now a.c _ (length a.out.now) (record { opened = c.requires; uses = refl }))
     c.write_read.ensures

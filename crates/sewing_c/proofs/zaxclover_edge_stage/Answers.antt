@@ -6,4 +6,7 @@ use Rattle.sewing_c.specs.ToldLaws.{told}
 use Rattle.sewing_c.proofs.zaxclover_edge_stage.Goals as goal
 
 pub returns : goal.returns
-returns c = told (edgeStage ordinary c.args.job.now (length c.args.out.now)) c.args.out.now c.edge_stage-ending.new.out c.edge_stage-ending.result c.tell.result c.tell.new.value c.edge_stage-ending.ensures c.tell.ensures (edges-numbered ordinary c.args.job.now (length c.args.out.now))
+returns c =
+    told (edgeStage ordinary c.args.job.now (length c.args.out.now)) c.args.out.now c.edge_stage-ending.new.out
+    c.edge_stage-ending.result c.tell.result c.tell.new.value c.edge_stage-ending.ensures c.tell.ensures
+    (edges-numbered ordinary c.args.job.now (length c.args.out.now))

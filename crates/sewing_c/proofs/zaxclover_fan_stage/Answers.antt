@@ -6,4 +6,7 @@ use Rattle.sewing_c.specs.ToldLaws.{told}
 use Rattle.sewing_c.proofs.zaxclover_fan_stage.Goals as goal
 
 pub returns : goal.returns
-returns c = told (fanStage ordinary c.args.job.now (length c.args.out.now)) c.args.out.now c.fan_stage-ending.new.out c.fan_stage-ending.result c.tell.result c.tell.new.value c.fan_stage-ending.ensures c.tell.ensures (fans-numbered ordinary c.args.job.now (length c.args.out.now))
+returns c =
+    told (fanStage ordinary c.args.job.now (length c.args.out.now)) c.args.out.now c.fan_stage-ending.new.out
+    c.fan_stage-ending.result c.tell.result c.tell.new.value c.fan_stage-ending.ensures c.tell.ensures
+    (fans-numbered ordinary c.args.job.now (length c.args.out.now))

@@ -6,4 +6,7 @@ use Rattle.sewing_c.specs.ToldLaws.{told}
 use Rattle.sewing_c.proofs.zaxclover_joining_stage.Goals as goal
 
 pub returns : goal.returns
-returns c = told (joiningStage ordinary c.args.job.now (length c.args.out.now)) c.args.out.now c.joining_stage-ending.new.out c.joining_stage-ending.result c.tell.result c.tell.new.value c.joining_stage-ending.ensures c.tell.ensures (joining-numbered ordinary c.args.job.now (length c.args.out.now))
+returns c =
+    told (joiningStage ordinary c.args.job.now (length c.args.out.now)) c.args.out.now c.joining_stage-ending.new.out
+    c.joining_stage-ending.result c.tell.result c.tell.new.value c.joining_stage-ending.ensures c.tell.ensures
+    (joining-numbered ordinary c.args.job.now (length c.args.out.now))

@@ -8,5 +8,6 @@ put_listing-requires c =
 pub returns : goal.returns
 returns c =
     lists-answer _ _ c.args.out.now c.args.page.now c.put_listing.new.page c.put_listing.result
-    (listed c.args.page.now c.put_listing.new.page _ c.front-body.result.now _ c.ending_of-ending.result c.put_listing.result
+    (listed c.args.page.now c.put_listing.new.page _ c.front-body.result.now _ c.ending_of-ending.result
+    c.put_listing.result
     c.front-body.ensures c.ending_of-ending.ensures c.put_listing.ensures)

@@ -8,7 +8,11 @@ pub overflow_sub-value : goal.overflow_sub-value
 overflow_sub-value c = let w = rw c.in-At.is at c.loop_stretch-s.ensures.1 in omega (arith, w.0)
 
 pub returns-in-Refused : goal.returns-in-Refused
-returns-in-Refused c = loop-refused c.args.job.now (requested c.args.job.now c.args.n) c.loop_stretch-s.result c.loop_stretch-s.ensures.0 (requested-numbered c.args.job.now c.args.n) _ _ c.in-Refused.is
+returns-in-Refused c =
+    loop-refused c.args.job.now (requested c.args.job.now c.args.n) c.loop_stretch-s.result c.loop_stretch-s.ensures.0
+    (requested-numbered c.args.job.now c.args.n) _ _ c.in-Refused.is
 
 pub returns-in-At : goal.returns-in-At
-returns-in-At c = loop-told c.args.job.now (requested c.args.job.now c.args.n) c.loop_stretch-s.result c.loop_stretch-s.ensures.0 (requested-numbered c.args.job.now c.args.n) _ _ c.loop_stretch-s.ensures.1 c.in-At.is
+returns-in-At c =
+    loop-told c.args.job.now (requested c.args.job.now c.args.n) c.loop_stretch-s.result c.loop_stretch-s.ensures.0
+    (requested-numbered c.args.job.now c.args.n) _ _ c.loop_stretch-s.ensures.1 c.in-At.is

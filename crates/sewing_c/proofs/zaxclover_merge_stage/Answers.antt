@@ -6,4 +6,7 @@ use Rattle.sewing_c.specs.ToldLaws.{told}
 use Rattle.sewing_c.proofs.zaxclover_merge_stage.Goals as goal
 
 pub returns : goal.returns
-returns c = told (mergeStage ordinary c.args.job.now (length c.args.out.now)) c.args.out.now c.merge_stage-ending.new.out c.merge_stage-ending.result c.tell.result c.tell.new.value c.merge_stage-ending.ensures c.tell.ensures (merged-numbered ordinary c.args.job.now (length c.args.out.now))
+returns c =
+    told (mergeStage ordinary c.args.job.now (length c.args.out.now)) c.args.out.now c.merge_stage-ending.new.out
+    c.merge_stage-ending.result c.tell.result c.tell.new.value c.merge_stage-ending.ensures c.tell.ensures
+    (merged-numbered ordinary c.args.job.now (length c.args.out.now))

@@ -6,4 +6,7 @@ use Rattle.sewing_c.specs.ToldLaws.{told}
 use Rattle.sewing_c.proofs.zaxclover_shell_stage.Goals as goal
 
 pub returns : goal.returns
-returns c = told (shellStage ordinary c.args.job.now (length c.args.out.now)) c.args.out.now c.shell_stage-ending.new.out c.shell_stage-ending.result c.tell.result c.tell.new.value c.shell_stage-ending.ensures c.tell.ensures (shell-stage-numbered ordinary c.args.job.now (length c.args.out.now))
+returns c =
+    told (shellStage ordinary c.args.job.now (length c.args.out.now)) c.args.out.now c.shell_stage-ending.new.out
+    c.shell_stage-ending.result c.tell.result c.tell.new.value c.shell_stage-ending.ensures c.tell.ensures
+    (shell-stage-numbered ordinary c.args.job.now (length c.args.out.now))

@@ -6,4 +6,9 @@ use Rattle.sewing_c.specs.ToldLaws.{told}
 use Rattle.sewing_c.proofs.zaxclover_walk_stage.Goals as goal
 
 pub returns : goal.returns
-returns c = (told (walkStage ordinary c.args.job.now (length c.args.out.now)) c.args.out.now c.walk_stage-ending.new.out c.walk_stage-ending.result c.tell.result c.tell.new.value c.walk_stage-ending.ensures.0 c.tell.ensures (walks-numbered ordinary c.args.job.now (length c.args.out.now)), c.walk_stage-ending.ensures.1)
+returns c = (
+  told (walkStage ordinary c.args.job.now (length c.args.out.now)) c.args.out.now c.walk_stage-ending.new.out
+      c.walk_stage-ending.result c.tell.result c.tell.new.value c.walk_stage-ending.ensures.0 c.tell.ensures
+      (walks-numbered ordinary c.args.job.now (length c.args.out.now)),
+  c.walk_stage-ending.ensures.1,
+)

@@ -11,7 +11,14 @@ pub put-requires : goal.put-requires
 put-requires c = let l = c.loop-f in omega (arith, l.invariant.within, c.requires.0)
 
 pub loop-f-preserved : goal.loop-f-preserved
-loop-f-preserved c = let a = c.args in let l = c.loop-f in low-step a.boundaries.now a.members.now l.lows c.put.new.t l.f (l.f - 1) c.get.result c.get-in-loop-f.result l.invariant c.loop-f-test.true refl c.get.ensures.0 c.get-in-loop-f.ensures.0 c.put.ensures
+loop-f-preserved c =
+    let a = c.args in
+    let l = c.loop-f in
+    low-step a.boundaries.now a.members.now l.lows c.put.new.t l.f (l.f - 1) c.get.result c.get-in-loop-f.result
+    l.invariant c.loop-f-test.true refl c.get.ensures.0 c.get-in-loop-f.ensures.0 c.put.ensures
 
 pub returns : goal.returns
-returns c = let a = c.args in let l = c.loop-f in low-end a.boundaries.now a.members.now l.lows l.f l.invariant (omega (arith, c.loop-f-test.false))
+returns c =
+    let a = c.args in
+    let l = c.loop-f in
+    low-end a.boundaries.now a.members.now l.lows l.f l.invariant (omega (arith, c.loop-f-test.false))

@@ -5,4 +5,6 @@ pub loop-f-init : goal.loop-f-init
 loop-f-init c = let a = c.args in labels-start a.boundaries.now a.table.now a.labels.now c.requires.0 c.requires.1
 
 pub returns : goal.returns
-returns c = let a = c.args in let l = c.loop-f in labels-end a.boundaries.now a.table.now l.labels l.count l.f l.invariant c.loop-f-test.false
+returns c =
+    let a = c.args in
+    let l = c.loop-f in labels-end a.boundaries.now a.table.now l.labels l.count l.f l.invariant c.loop-f-test.false

@@ -7,7 +7,18 @@ use native.Mathlib.Omega.{arith}
 use Rattle.stages_out.proofs.put_loop.Goals as goal
 
 pub put_table-requires : goal.put_table-requires
-put_table-requires c = omega (arith, c.requires.0, c.requires.1, place-after (c.get-number.result ∷ length c.args.part.now ∷ []) c.args.out.now c.put_two-p.new.out c.args.at c.put_two-p.result c.put_two-p.ensures)
+put_table-requires c =
+    omega (
+      arith,
+      c.requires.0,
+      c.requires.1,
+      place-after (c.get-number.result ∷ length c.args.part.now ∷ [])
+          c.args.out.now c.put_two-p.new.out c.args.at c.put_two-p.result c.put_two-p.ensures,
+    )
 
 pub returns : goal.returns
-returns c = round-row (usesIn c.args.uses.now) c.args.numbers.now c.args.out.now c.put_two-p.new.out c.put_table.new.out c.args.part.now c.args.at c.put_two-p.result c.put_table.result c.get-first.result c.use_face-face.result c.get-number.result c.get-first.ensures.0 c.use_face-face.ensures.0 c.get-number.ensures.0 c.put_two-p.ensures c.put_table.ensures
+returns c =
+    round-row (usesIn c.args.uses.now) c.args.numbers.now c.args.out.now c.put_two-p.new.out c.put_table.new.out
+    c.args.part.now c.args.at c.put_two-p.result c.put_table.result c.get-first.result c.use_face-face.result
+    c.get-number.result c.get-first.ensures.0 c.use_face-face.ensures.0 c.get-number.ensures.0 c.put_two-p.ensures
+    c.put_table.ensures

@@ -18,8 +18,10 @@ loop-h-preserved c =
     let l = c.loop-h in
     let put = c.put_use-p in (
       omega arith,
-      rowed-step (useRow c.args.records) 4 c.args.out.now l.out put.new.out l.p l.h put.result (omega arith) l.invariant.1
-          (subst (λ (u : Use). Wrote l.out l.p (fieldBytes (useFields u)) put.new.out put.result) c.use_at-u.ensures put.ensures),
+      rowed-step (useRow c.args.records) 4 c.args.out.now l.out put.new.out l.p l.h put.result (omega arith)
+          l.invariant.1
+          (subst (λ (u : Use). Wrote l.out l.p (fieldBytes (useFields u)) put.new.out put.result) c.use_at-u.ensures
+          put.ensures),
     )
 
 pub returns : goal.returns

@@ -7,4 +7,6 @@ pub put_word-requires : goal.put_word-requires
 put_word-requires c = omega (arith, c.put_word-p.ensures.1, length-bytes32 c.args.a)
 
 pub returns : goal.returns
-returns c = two-fields c.args.out.now c.put_word-p.new.out c.put_word.new.out c.args.at c.args.a c.args.b c.put_word-p.result c.put_word.result c.put_word-p.ensures c.put_word.ensures
+returns c =
+    two-fields c.args.out.now c.put_word-p.new.out c.put_word.new.out c.args.at c.args.a c.args.b c.put_word-p.result
+    c.put_word.result c.put_word-p.ensures c.put_word.ensures

@@ -18,5 +18,6 @@ returns c =
     let a = c.args in
     let w = c.put_two-p in
     let z = c.put_two in
-    use-fields a.u a.out.now w.new.out z.new.out a.at w.result z.result c.wide.result c.wide-2.result c.sense_number.result
+    use-fields a.u a.out.now w.new.out z.new.out a.at w.result z.result c.wide.result c.wide-2.result
+    c.sense_number.result
     c.wide-3.result c.wide.ensures c.wide-2.ensures c.sense_number.ensures.0 c.wide-3.ensures w.ensures z.ensures

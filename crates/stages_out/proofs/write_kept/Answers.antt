@@ -6,7 +6,12 @@ use native.Mathlib.Omega.{arith}
 use Rattle.stages_out.proofs.write_kept.Goals as goal
 
 pub returns-then-out-needed : goal.returns-then-out-needed
-returns-then-out-needed c = staged-short (keptRows c.args.kept.now c.args.k) c.args.out.now (8 * c.args.k) (omega (arith, kept-rows-length c.args.kept.now c.args.k)) c.if-out-needed.true
+returns-then-out-needed c =
+    staged-short (keptRows c.args.kept.now c.args.k) c.args.out.now (8 * c.args.k)
+    (omega (arith, kept-rows-length c.args.kept.now c.args.k)) c.if-out-needed.true
 
 pub returns : goal.returns
-returns c = staged-written (keptRows c.args.kept.now c.args.k) c.args.out.now c.put_kept.new.out (8 * c.args.k) c.put_kept.result (omega (arith, kept-rows-length c.args.kept.now c.args.k)) c.if-out-needed.false c.put_kept.ensures
+returns c =
+    staged-written (keptRows c.args.kept.now c.args.k) c.args.out.now c.put_kept.new.out (8 * c.args.k)
+    c.put_kept.result (omega (arith, kept-rows-length c.args.kept.now c.args.k)) c.if-out-needed.false
+    c.put_kept.ensures

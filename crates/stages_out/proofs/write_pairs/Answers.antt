@@ -7,7 +7,13 @@ use native.Mathlib.Omega.{arith}
 use Rattle.stages_out.proofs.write_pairs.Goals as goal
 
 pub returns-then-out-needed : goal.returns-then-out-needed
-returns-then-out-needed c = staged-short (pairRows c.args.boundaries.now c.args.groups.now) c.args.out.now (8 * length c.args.boundaries.now) (omega (arith, pair-rows-length c.args.boundaries.now c.args.groups.now)) c.if-out-needed.true
+returns-then-out-needed c =
+    staged-short (pairRows c.args.boundaries.now c.args.groups.now) c.args.out.now (8 * length c.args.boundaries.now)
+    (omega (arith, pair-rows-length c.args.boundaries.now c.args.groups.now)) c.if-out-needed.true
 
 pub returns : goal.returns
-returns c = staged-written (pairRows c.args.boundaries.now c.args.groups.now) c.args.out.now c.put_pairs.new.out (8 * length c.args.boundaries.now) c.put_pairs.result (omega (arith, pair-rows-length c.args.boundaries.now c.args.groups.now)) c.if-out-needed.false c.put_pairs.ensures
+returns c =
+    staged-written (pairRows c.args.boundaries.now c.args.groups.now) c.args.out.now c.put_pairs.new.out
+    (8 * length c.args.boundaries.now) c.put_pairs.result
+    (omega (arith, pair-rows-length c.args.boundaries.now c.args.groups.now)) c.if-out-needed.false
+    c.put_pairs.ensures

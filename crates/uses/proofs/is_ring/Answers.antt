@@ -5,4 +5,6 @@ use mathlib.Core.Path.{ap, ◌∙◌}
 use Rattle.uses.proofs.is_ring.Goals as goal
 
 pub returns : goal.returns
-returns c = ap (λ v. eqb v 4294967295) (c.edge_start.ensures.0 ∙ ap (λ e. (edgeAt (edgesIn c.args.job.now c.args.c) e).start) c.use_edge-e.ensures.0)
+returns c =
+    ap (λ v. eqb v 4294967295) (c.edge_start.ensures.0 ∙ ap (λ e. (edgeAt (edgesIn c.args.job.now c.args.c) e).start)
+    c.use_edge-e.ensures.0)

@@ -5,4 +5,9 @@ use mathlib.Core.Path.{ap, ◌∙◌}
 use Rattle.uses.proofs.start_point.Goals as goal
 
 pub returns : goal.returns
-returns c = (c.point.ensures.0 ∙ ap (λ v. get_or (pointsIn c.args.job.now c.args.c) v 0) (c.start_by-v.ensures.0 ∙ (λ i. startBy (c.use_sense-s.ensures i) (edgeAt (edgesIn c.args.job.now c.args.c) (c.use_edge-e.ensures.0 i)))), c.point.ensures.1)
+returns c = (
+  c.point.ensures.0 ∙ ap (λ v. get_or (pointsIn c.args.job.now c.args.c) v 0)
+      (c.start_by-v.ensures.0 ∙ (λ i. startBy (c.use_sense-s.ensures i)
+      (edgeAt (edgesIn c.args.job.now c.args.c) (c.use_edge-e.ensures.0 i)))),
+  c.point.ensures.1,
+)

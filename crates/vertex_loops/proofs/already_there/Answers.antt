@@ -6,19 +6,39 @@ use native.Mathlib.Omega.{arith}
 use Rattle.vertex_loops.proofs.already_there.Goals as goal
 
 pub loop-k-init : goal.loop-k-init
-loop-k-init c = let a = c.args in (omega arith, left-start (answersIn a.job.now a.index.now a.c) a.face a.point a.kept.now a.count)
+loop-k-init c =
+    let a = c.args in (omega arith, left-start (answersIn a.job.now a.index.now a.c) a.face a.point a.kept.now a.count)
 
 pub held_against-t-requires : goal.held_against-t-requires
-held_against-t-requires c = let l = c.loop-k in (c.requires.0, omega (arith, c.loop-k-test.true, c.requires.1), c.requires.2)
+held_against-t-requires c =
+    let l = c.loop-k in (c.requires.0, omega (arith, c.loop-k-test.true, c.requires.1), c.requires.2)
 
 pub returns-in-Refused : goal.returns-in-Refused
-returns-in-Refused c = let a = c.args in let l = c.loop-k in left-refused (answersIn a.job.now a.index.now a.c) a.face a.point a.kept.now a.count l.k l.invariant.1 c.loop-k-test.true _ _ (sym c.held_against-t.ensures ∙ ap toldOf c.in-Refused.is)
+returns-in-Refused c =
+    let a = c.args in
+    let l = c.loop-k in
+    left-refused (answersIn a.job.now a.index.now a.c) a.face a.point a.kept.now a.count l.k l.invariant.1
+    c.loop-k-test.true _ _ (sym c.held_against-t.ensures ∙ ap toldOf c.in-Refused.is)
 
 pub returns-in-Yes : goal.returns-in-Yes
-returns-in-Yes c = let a = c.args in let l = c.loop-k in left-found (answersIn a.job.now a.index.now a.c) a.face a.point a.kept.now a.count l.k l.invariant.1 c.loop-k-test.true (sym c.held_against-t.ensures ∙ ap toldOf c.in-Yes.is)
+returns-in-Yes c =
+    let a = c.args in
+    let l = c.loop-k in
+    left-found (answersIn a.job.now a.index.now a.c) a.face a.point a.kept.now a.count l.k l.invariant.1
+    c.loop-k-test.true (sym c.held_against-t.ensures ∙ ap toldOf c.in-Yes.is)
 
 pub loop-k-preserved : goal.loop-k-preserved
-loop-k-preserved c = let a = c.args in let l = c.loop-k in (omega arith, left-step (answersIn a.job.now a.index.now a.c) a.face a.point a.kept.now a.count l.k l.invariant.1 c.loop-k-test.true (sym c.held_against-t.ensures ∙ ap toldOf c.in-No.is))
+loop-k-preserved c =
+    let a = c.args in
+    let l = c.loop-k in (
+      omega arith,
+      left-step (answersIn a.job.now a.index.now a.c) a.face a.point a.kept.now a.count l.k l.invariant.1
+          c.loop-k-test.true (sym c.held_against-t.ensures ∙ ap toldOf c.in-No.is),
+    )
 
 pub returns : goal.returns
-returns c = let a = c.args in let l = c.loop-k in left-end (answersIn a.job.now a.index.now a.c) a.face a.point a.kept.now a.count l.k l.invariant.1 c.loop-k-test.false
+returns c =
+    let a = c.args in
+    let l = c.loop-k in
+    left-end (answersIn a.job.now a.index.now a.c) a.face a.point a.kept.now a.count l.k l.invariant.1
+    c.loop-k-test.false

@@ -6,7 +6,9 @@ use mathlib.Core.Path.{◌≡◌}
 use Rattle.vertex_loops.proofs.vertex_loops.Given as goal
 
 abbrev pub invariant-loop-l : goal.invariant-loop-l
-invariant-loop-l l = (length l.kept ≡ length l.initial.kept) × KeepingAt (answersIn l.job l.index l.c) (pointsIn l.job l.c) l.numbers l.job l.index l.c l.kept l.count l.l
+invariant-loop-l l =
+    (length l.kept ≡ length l.initial.kept) × KeepingAt (answersIn l.job l.index l.c) (pointsIn l.job l.c) l.numbers
+    l.job l.index l.c l.kept l.count l.l
 
 abbrev pub decreases-loop-l : goal.decreases-loop-l
 decreases-loop-l l = l.c.loops - l.l

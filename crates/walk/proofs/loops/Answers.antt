@@ -8,4 +8,5 @@ use Rattle.walk.proofs.loops.Goals as goal
 -- slice-aggregate-walk-all c = blank-length (length c.args.succ.now) c.requires.1
 
 pub walk_all-requires : goal.walk_all-requires
-walk_all-requires c = (c.requires.0, c.requires.1, blank-visited (length c.args.succ.now) c.requires.1, c.requires.2, c.requires.3)
+walk_all-requires c =
+    (c.requires.0, c.requires.1, blank-visited (length c.args.succ.now) c.requires.1, c.requires.2, c.requires.3)

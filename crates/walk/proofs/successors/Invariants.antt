@@ -6,7 +6,8 @@ use Rattle.walk.specs.PassLaws.{Filled}
 use Rattle.walk.proofs.successors.Given as goal
 
 abbrev pub invariant-loop-h : goal.invariant-loop-h
-invariant-loop-h l = Filled (usesIn l.uses) l.twins l.removed l.succ l.passed l.total l.h × (l.n ≡ length (usesIn l.uses))
+invariant-loop-h l =
+    Filled (usesIn l.uses) l.twins l.removed l.succ l.passed l.total l.h × (l.n ≡ length (usesIn l.uses))
 
 abbrev pub decreases-loop-h : goal.decreases-loop-h
 decreases-loop-h l = l.n - l.h
