@@ -21,6 +21,9 @@
 extern "C" {
 #endif
 
+/* Raised when jobs or bodies change. 2: faces have body and source face, and bodies have members. */
+#define ZAXCLOVER_VERSION 2
+
 /* LIMITS */
 
 enum {
@@ -50,7 +53,7 @@ enum zaxclover_job_kind {
     ZAXCLOVER_HEAD = 1,         /* 1 if outer shells are proven, else 0 */
     ZAXCLOVER_VERTEX = 2,       /* point; several vertices may stand on one */
     ZAXCLOVER_EDGE = 3,         /* curve, sense, start vertex, end vertex; none in both: a ring */
-    ZAXCLOVER_FACE = 4,         /* surface, own sense, selected sense */
+    ZAXCLOVER_FACE = 4,         /* surface, own sense, selected sense, body (0 or 1), source face */
     ZAXCLOVER_LOOP = 5,         /* of the latest face, one or more of: edge, sense; each ends at the point where the next starts */
     ZAXCLOVER_VERTEX_LOOP = 6,  /* of the latest face: vertex */
     ZAXCLOVER_RADIAL = 7,       /* edge, then its uses in order round it; no use: undecided */
@@ -67,11 +70,12 @@ enum zaxclover_body_kind {
     ZAXCLOVER_BODY = 21,             /* 0 Empty or 1 Solid, uses, removed, passed in total, joins, rings, face joins */
     ZAXCLOVER_BODY_VERTEX = 22,      /* point */
     ZAXCLOVER_BODY_EDGE = 23,        /* curve, sense, start, end; none in both: a ring */
-    ZAXCLOVER_BODY_FACE = 24,        /* surface, sense */
+    ZAXCLOVER_BODY_FACE = 24,        /* surface, sense; its members, loops and vertex loops follow */
     ZAXCLOVER_BODY_LOOP = 25,        /* edge and sense of each item */
     ZAXCLOVER_BODY_VERTEX_LOOP = 26, /* point */
     ZAXCLOVER_BODY_LUMP = 27,        /* no fields */
-    ZAXCLOVER_BODY_SHELL = 28        /* faces */
+    ZAXCLOVER_BODY_SHELL = 28,       /* faces */
+    ZAXCLOVER_BODY_MEMBERS = 29      /* body and source face of each selected face behind the face before it */
 };
 
 /* REFUSALS. The comment says what the place is. */

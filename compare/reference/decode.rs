@@ -79,6 +79,7 @@ impl Decoded {
         }
     }
 
+    /// Body and source face have no counterpart.
     fn face(&mut self, f: &[u32]) {
         let number = self.surfaces.len();
         self.surfaces.push(f[0]);

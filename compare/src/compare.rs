@@ -53,6 +53,7 @@ fn compare_loaded(bytes: &[u8], job: &Job, room: usize) -> Compared {
     compare_stages(&trail, &verdict.stages, &mut differences);
     let whole = second::sew_output(&trail, usize::MAX).unwrap_or_default();
     differences.extend(unlike_faces(job, &whole));
+    differences.extend(unlike_members(job, &whole));
     let body = second::sew_output(&trail, room);
     let reference = in_room(verdict.body, lacking(&whole), room);
     compare_bodies(&body, reference, &mut differences);
@@ -79,6 +80,23 @@ fn unlike_faces(job: &Job, body: &[u8]) -> Option<String> {
     let written = list.iter().filter(|(kind, _)| *kind == 24).count();
     let told = format!("{selected} faces selected, {joins} face joins, {written} faces written");
     (selected != joins + written).then_some(told)
+}
+
+/// Each face of the body is followed by its members, and each selected face
+/// stands in exactly one such record.
+fn unlike_members(job: &Job, body: &[u8]) -> Option<String> {
+    let (list, _) = records::split(body);
+    let after = |pair: &[records::Record]| (pair[0].0 == 24) == (pair[1].0 == 29);
+    let members = list.iter().filter(|(kind, _)| *kind == 29);
+    let fields = members.flat_map(|(_, fields)| fields.chunks(2));
+    let mut told: Vec<Vec<u32>> = fields.map(<[u32]>::to_vec).collect();
+    let selected = job.faces.iter().map(|face| vec![face.body, face.source]);
+    let mut selected: Vec<Vec<u32>> = selected.collect();
+    let written = !list.is_empty();
+    told.sort_unstable();
+    selected.sort_unstable();
+    let unlike = !list.windows(2).all(after) || (written && told != selected);
+    unlike.then(|| format!("members {told:?} of the faces {selected:?}"))
 }
 
 fn ending(refusal: Refusal) -> Ending {

@@ -1,36 +1,40 @@
-//! What the Rust is compared on. It writes no face joins: they are left out
-//! before a body is held against its, and held against the second
+//! What the Rust is compared on. It writes no face joins and no members: they
+//! are left out before a body is held against its, and held against the second
 //! implementation.
 
 use crate::records;
 use crate::text;
 use reference::Ending;
 
-/// The fields of a record that the Rust has too.
-fn compared_fields<T>(kind: u16, fields: &[T]) -> &[T] {
+/// The fields of a record that the Rust has too; none if it has no such record.
+fn compared_fields<T>(kind: u16, fields: &[T]) -> Option<&[T]> {
     match kind {
         // Face joins come after the six fields of document 01.
-        21 => &fields[..fields.len().min(6)],
-        _ => fields,
+        21 => Some(&fields[..fields.len().min(6)]),
+        // Members are document 02's.
+        29 => None,
+        _ => Some(fields),
     }
 }
 
 /// A body with what the Rust has too.
 pub fn compared(body: &[u8]) -> Vec<u8> {
-    let (mut list, end) = records::split(body);
-    for (kind, fields) in &mut list {
-        *fields = compared_fields(*kind, fields).to_vec();
-    }
-    [&records::to_bytes(&list), &body[end..]].concat()
+    let (list, end) = records::split(body);
+    let kept = list.iter().filter_map(|(kind, fields)| {
+        let fields = compared_fields(*kind, fields)?;
+        Some((*kind, fields.to_vec()))
+    });
+    let kept: Vec<records::Record> = kept.collect();
+    [&records::to_bytes(&kept), &body[end..]].concat()
 }
 
 /// The lines of such a body.
 pub fn compared_lines(listing: &str) -> String {
-    let lines = listing.lines().map(|line| {
+    let lines = listing.lines().filter_map(|line| {
         let words: Vec<&str> = line.split(' ').collect();
         let kind = text::kind_named(words[0]).unwrap_or(0);
-        let fields = compared_fields(kind, &words[1..]);
-        [&words[..1], fields].concat().join(" ") + "\n"
+        let fields = compared_fields(kind, &words[1..])?;
+        Some([&words[..1], fields].concat().join(" ") + "\n")
     });
     lines.collect()
 }

@@ -80,6 +80,7 @@ fn note_faces(job: &Job, trail: &Trail, found: &mut Found) {
         found.note("three face joins or more", merged.joins > 2);
     }
     note_groups(job, trail, found);
+    note_members(job, trail, found);
     if let Some(loops) = &trail.loops {
         let biggest = counts(loops.iter().map(|l| l.face)).into_values().max();
         found.note("several loops in a face", biggest.unwrap_or(0) > 1);
@@ -122,6 +123,30 @@ fn note_groups(job: &Job, trail: &Trail, found: &mut Found) {
         "a face join through two faces that are not lowest",
         both_higher,
     );
+}
+
+/// What the selected faces behind a merged face have as bodies and sources.
+fn note_members(job: &Job, trail: &Trail, found: &mut Found) {
+    let Some(merged) = &trail.merged else {
+        return;
+    };
+    let mut behind: BTreeMap<usize, Vec<(u32, u32)>> = BTreeMap::new();
+    for (face, number) in job.faces.iter().zip(&merged.number) {
+        let members = behind.entry(*number).or_default();
+        members.push((face.body, face.source));
+    }
+    let [mut bodies, mut falls, mut highest] = [false; 3];
+    for members in behind.values() {
+        bodies |= members.iter().any(|member| member.0 != members[0].0);
+        falls |= members.windows(2).any(|pair| pair[1].1 < pair[0].1);
+        highest |= members.iter().any(|member| member.1 == u32::MAX);
+    }
+    found.note("members of both bodies", bodies);
+    found.note("members whose sources do not ascend", falls);
+    found.note("a member of the highest source", highest);
+    let each: BTreeSet<&(u32, u32)> = behind.values().flatten().collect();
+    let twice = each.len() < job.faces.len();
+    found.note("two members of one body and source", twice);
 }
 
 fn note_turns(trail: &Trail, found: &mut Found) {

@@ -111,14 +111,14 @@ fn too_long() -> Row {
 /// A face past the limit, with a sense that is none: the limit comes first.
 fn too_many_faces() -> Row {
     let mut records = vec![(1, vec![0])];
-    records.extend((0..MAX_FACES as u32).map(|surface| (4, vec![surface, 0, 0])));
-    records.push((4, vec![0, 7, 0]));
+    records.extend((0..MAX_FACES as u32).map(|i| (4, vec![i, 0, 0, 0, i])));
+    records.push((4, vec![0, 7, 0, 0, 0]));
     let job = records::to_bytes(&records);
     Row {
         job: list(&job),
         operation: 0,
         room: ROOM,
-        answer: Err(second::refusal::refusal(5, job.len() - 18)),
+        answer: Err(second::refusal::refusal(5, job.len() - 26)),
     }
 }
 

@@ -77,22 +77,37 @@ fn reference_agrees_on_the_parts() {
     }
 }
 
-/// The lines that document 01 itself gives, with the face joins of document 02.
+/// The lines that document 01 itself gives, with the face joins and members of
+/// document 02.
 #[test]
 fn parts_have_the_lines_of_the_paper() {
     let given: [(usize, &[&str]); 9] = [
         (1, &["body 0 0 0 0 0 0 0"]),
-        (2, &["edge 5 0 - -", "shell 0 1"]),
-        (3, &["body 1 2 2 0 0 0 1", "face 7 0"]),
+        (
+            2,
+            &["edge 5 0 - -", "members 0 0", "members 0 1", "shell 0 1"],
+        ),
+        (3, &["body 1 2 2 0 0 0 1", "face 7 0", "members 0 0 0 1"]),
         (4, &["refused 10 0"]),
         (5, &["refused 11 0"]),
-        (6, &["refused 6 50"]),
+        (6, &["refused 6 58"]),
         (
             7,
             &["body 1 4 0 0 1 1 0", "edge 5 1 - -", "loop 0 1", "loop 0 0"],
         ),
         (8, &["edge 5 0 0 0"]),
-        (9, &["body 1 6 2 2 0 0 1", "loop 0 0 1 0", "loop 1 1 0 1"]),
+        (
+            9,
+            &[
+                "body 1 6 2 2 0 0 1",
+                "face 7 0",
+                "members 0 0 0 1",
+                "loop 0 0 1 0",
+                "face 8 0",
+                "members 0 2",
+                "loop 1 1 0 1",
+            ],
+        ),
     ];
     for (number, lines) in given {
         let listing = listing(&part(number).0);
@@ -126,7 +141,7 @@ fn stored_jobs() -> Vec<Vec<u8>> {
 #[test]
 fn stored_jobs_come_back_from_their_text() {
     let jobs = stored_jobs();
-    assert_eq!(jobs.len(), 612);
+    assert_eq!(jobs.len(), 694);
     for job in jobs {
         let text = job_text::show(&job);
         assert_eq!(job_text::assemble(text.as_bytes()), Ok(job));
@@ -221,25 +236,83 @@ fn face_joins_are_met() {
     );
 }
 
-/// The reference is compared on all but the face joins.
+/// Request Seven: merged faces have members of both bodies, and sources in any
+/// order.
 #[test]
-fn a_body_is_compared_without_its_face_joins() {
+fn members_are_met() {
+    assert_met(
+        5,
+        &[
+            "three faces or more merged",
+            "members of both bodies",
+            "members whose sources do not ascend",
+            "a member of the highest source",
+            "two members of one body and source",
+        ],
+    );
+}
+
+/// Faces of three fields, and faces of a body that is neither 0 nor 1, at which
+/// these jobs are refused.
+fn faces_refused(jobs: &[Vec<u8>]) -> [usize; 2] {
+    let [mut short, mut bodies] = [0, 0];
+    for job in jobs {
+        let Err(refusal) = second::load(job) else {
+            continue;
+        };
+        let (list, _) = records::split(job);
+        let mut at = 0;
+        for (kind, fields) in &list {
+            if *kind == 4 && at == refusal.place as usize {
+                let body = fields.get(3).is_some_and(|body| *body > 1);
+                short += usize::from(refusal.number == 3 && fields.len() == 3);
+                bodies += usize::from(refusal.number == 4 && body);
+            }
+            at += records::HEADER + 4 * fields.len();
+        }
+    }
+    [short, bodies]
+}
+
+/// Request Seven: faces of three fields, and bodies that are neither 0 nor 1.
+#[test]
+fn faces_that_do_not_load_are_met() {
+    let drawn: Vec<Vec<u8>> = (0..2_000)
+        .map(|index| generate::sample(1, index).job)
+        .collect();
+    for jobs in [drawn, stored_jobs()] {
+        let [short, bodies] = faces_refused(&jobs);
+        assert!(
+            short >= 2 && bodies >= 2,
+            "{short} short faces, {bodies} bodies"
+        );
+    }
+}
+
+/// The reference is compared on all but the face joins and the members.
+#[test]
+fn a_body_is_compared_without_face_joins_and_members() {
     let (job, _) = part(9);
     let loaded = second::load(&job).expect("P9 loads");
     let trail = second::sew(&loaded, &mut &loaded.answers);
     let body = second::sew_output(&trail, ROOM).expect("P9 is accepted");
-    let lines = text::listing(&body).replace("body 1 6 2 2 0 0 1", "body 1 6 2 2 0 0");
+    let lines = text::listing(&body)
+        .replace("body 1 6 2 2 0 0 1", "body 1 6 2 2 0 0")
+        .replace("members 0 0 0 1\n", "")
+        .replace("members 0 2\n", "");
     assert_eq!(text::listing(&compared(&body)), lines);
     assert_eq!(compared_lines(&text::listing(&body)), lines);
-    assert_eq!(lacking(&body), 4);
+    // The last field of the body, two headers and three members.
+    let lacks = 4 + 2 * 6 + 3 * 8;
+    assert_eq!(lacking(&body), lacks);
     let reference = compared(&body);
     let needed = body.len();
     assert_eq!(
-        in_room(Ok(reference.clone()), 4, needed),
+        in_room(Ok(reference.clone()), lacks, needed),
         Ok(reference.clone())
     );
     assert_eq!(
-        in_room(Ok(reference), 4, needed - 1),
+        in_room(Ok(reference), lacks, needed - 1),
         Err((40, needed as u32))
     );
 }
@@ -248,12 +321,12 @@ fn a_body_is_compared_without_its_face_joins() {
 #[test]
 fn timed_jobs_stay_as_drawn() {
     let drawn = [
-        (1_300, 1_920),
-        (938, 10_440),
-        (1_478, 17_434),
-        (3_279, 34_774),
-        (2_729, 42_976),
-        (3_022, 47_022),
+        (1_300, 2_056),
+        (938, 10_880),
+        (1_478, 18_114),
+        (3_279, 36_822),
+        (2_729, 43_024),
+        (3_022, 47_078),
     ];
     for (index, bytes) in drawn {
         let job = generate::sample(5, index).job;

@@ -3,7 +3,7 @@
 use crate::records;
 
 /// Kinds of body records with their names.
-const KINDS: [(u16, &str); 8] = [
+const KINDS: [(u16, &str); 9] = [
     (21, "body"),
     (22, "vertex"),
     (23, "edge"),
@@ -12,6 +12,7 @@ const KINDS: [(u16, &str); 8] = [
     (26, "vertex-loop"),
     (27, "lump"),
     (28, "shell"),
+    (29, "members"),
 ];
 
 /// The listing of a body.

@@ -86,7 +86,10 @@ fn drawn_jobs(
             if let Some(difference) = compared.differences.first() {
                 return Err(format!("{class} job {i}: {difference}"));
             }
-            let (number, kind) = compared.refusal.map_or((0, 0), sort_of_ending);
+            let ending = compared
+                .refusal
+                .map(|refusal| sort_of_job(&sample.job, refusal));
+            let (number, kind) = ending.unwrap_or((0, 0));
             let small = sample.job.len() <= SMALL;
             let count = kept.entry((small, number, kind)).or_default();
             if *count < most_kept(class, sample.job.len(), number) {
@@ -109,6 +112,7 @@ fn most_kept(class: &str, length: usize, number: u32) -> usize {
         0 => 14,
         20 if class != "missing" => 1,
         21 if class != "undecided" => 1,
+        3 | 4 => 2,
         _ => 4,
     }
 }
@@ -118,6 +122,16 @@ pub fn sort_of_ending(refusal: Refusal) -> (u32, u32) {
     match refusal.number {
         20 | 21 => (refusal.number, refusal.place),
         number => (number, 0),
+    }
+}
+
+/// The same, for refusals 3 and 4 with the kind of the refused record, if it
+/// has one.
+fn sort_of_job(job: &[u8], refusal: Refusal) -> (u32, u32) {
+    let kind = job.get(refusal.place as usize + 4..);
+    match (refusal.number, kind) {
+        (3 | 4, Some([kind @ 1..=13, 0, ..])) => (refusal.number, u32::from(*kind)),
+        _ => sort_of_ending(refusal),
     }
 }
 

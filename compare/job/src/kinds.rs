@@ -27,7 +27,17 @@ pub const JOB: [Kind; 13] = [
     kind(1, "head", &["proven"]),
     kind(2, "vertex", &["point"]),
     kind(3, "edge", &["curve", "sense", "start", "end"]),
-    kind(4, "face", &["surface", "own-sense", "selected-sense"]),
+    kind(
+        4,
+        "face",
+        &[
+            "surface",
+            "own-sense",
+            "selected-sense",
+            "body",
+            "source-face",
+        ],
+    ),
     more(kind(5, "loop", &["edge", "sense"]), &["edge", "sense"]),
     kind(6, "vertex-loop", &["vertex"]),
     more(kind(7, "radial", &["edge"]), &["use"]),
@@ -42,6 +52,9 @@ pub const JOB: [Kind; 13] = [
     kind(12, "orientation", &["lowest-face", "answer"]),
     kind(13, "inside", &["probe", "container", "answer"]),
 ];
+
+/// The kind of faces.
+pub const FACE: u16 = 4;
 
 /// The kind of edges, whose ends may be no vertex.
 pub const EDGE: u16 = 3;

@@ -6,11 +6,13 @@
 //! bytes has a text, which gives exactly these bytes.
 
 mod assemble;
+mod convert;
 pub mod kinds;
 pub mod records;
 mod show;
 
 pub use assemble::{Wrong, assemble};
+pub use convert::convert;
 pub use show::{line, show};
 
 /// No vertex: written `-` at the ends of an edge.

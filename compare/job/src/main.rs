@@ -1,6 +1,7 @@
-//! `job assemble` and `job show`: a job's text to bytes and back.
+//! `job assemble` and `job show`: a job's text to bytes and back; `job convert`:
+//! an older job in the form of today.
 
-use job_text::{assemble, kinds, show};
+use job_text::{assemble, convert, kinds, show};
 use std::ffi::OsString;
 use std::io::{ErrorKind, IsTerminal, Read, Write};
 use std::path::{Path, PathBuf};
@@ -9,6 +10,8 @@ use std::process::ExitCode;
 const USAGE: &str = "\
 usage: job assemble [FILE.txt] [-o FILE.job]    text to bytes
        job show [FILE.job] [-o FILE.txt]        bytes to text
+       job convert [FILE] [-o FILE]             an older job, bytes or text, whose faces have three
+                                                fields: each gets body 0 and its own number
 Without a file, or with `-`, standard input is read; without -o, standard output is written.";
 
 const MORE: &str = "\
@@ -32,6 +35,7 @@ fn main() -> ExitCode {
     let done = match command.to_str() {
         Some("assemble") => parse(rest).and_then(|args| assemble_file(&args)),
         Some("show") => parse(rest).and_then(|args| show_file(&args)),
+        Some("convert") => parse(rest).and_then(|args| convert_file(&args)),
         Some("help" | "--help" | "-h") => put(&Args::none(), help().as_bytes()),
         _ => Err(vec![format!(
             "job: {}: no such command\n{USAGE}",
@@ -81,12 +85,18 @@ fn parse(words: &[OsString]) -> Result<Args, Failed> {
     Ok(args)
 }
 
-fn assemble_file(args: &Args) -> Result<(), Failed> {
+/// Bytes are not for a terminal.
+fn away_from_terminal(args: &Args) -> Result<(), Failed> {
     if args.output.is_none() && std::io::stdout().is_terminal() {
         return Err(vec![
             "job: bytes are not for a terminal: write to a file with -o or >".into(),
         ]);
     }
+    Ok(())
+}
+
+fn assemble_file(args: &Args) -> Result<(), Failed> {
+    away_from_terminal(args)?;
     let name = args.input_name();
     let told = |wrong: job_text::Wrong| format!("{name}:{}: {}", wrong.line, wrong.reason);
     let job = assemble(&get(args)?);
@@ -98,6 +108,14 @@ fn assemble_file(args: &Args) -> Result<(), Failed> {
 
 fn show_file(args: &Args) -> Result<(), Failed> {
     put(args, show(&get(args)?).as_bytes())
+}
+
+fn convert_file(args: &Args) -> Result<(), Failed> {
+    let converted = convert(&get(args)?);
+    if converted.contains(&0) {
+        away_from_terminal(args)?;
+    }
+    put(args, &converted)
 }
 
 fn help() -> String {

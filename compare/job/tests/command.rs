@@ -68,6 +68,7 @@ fn what_cannot_be_done_is_said_in_a_line() {
         &["assemble", "no-such-file.txt"][..],
         &["show", "a", "b"],
         &["show", "--odd"],
+        &["convert", "no-such-file.job"],
         &["assemble", "-o"],
         &["knit"],
         &[],
@@ -77,4 +78,15 @@ fn what_cannot_be_done_is_said_in_a_line() {
         assert!(!output.stderr.is_empty(), "{words:?}");
         assert!(output.stdout.is_empty(), "{words:?}");
     }
+}
+
+#[test]
+fn an_older_job_is_converted() {
+    let older = job(&["assemble"], b"head 1\n4 7 0 0\n").stdout;
+    let output = job(&["convert"], &older);
+    assert_eq!(output.status.code(), Some(0));
+    assert_eq!(
+        job(&["show"], &output.stdout).stdout,
+        b"head 1\nface 7 0 0 0 0\n"
+    );
 }

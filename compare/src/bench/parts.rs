@@ -73,9 +73,9 @@ fn two_faces(edges: u32) -> [Record; 4] {
     let along = (0..edges).flat_map(|i| [i, 0]).collect();
     let back = (0..edges).rev().flat_map(|i| [i, 1]).collect();
     [
-        (4, vec![7, 0, 0]),
+        (4, vec![7, 0, 0, 0, 0]),
         (5, along),
-        (4, vec![8, 0, 0]),
+        (4, vec![8, 0, 0, 0, 1]),
         (5, back),
     ]
 }

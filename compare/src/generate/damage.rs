@@ -62,7 +62,7 @@ fn some_index_of(list: &[Record], kind: u16, rng: &mut Rng) -> Option<usize> {
 /// Damages one record, or the order of records.
 pub fn one_record(draft: &Draft, rng: &mut Rng) -> Damaged {
     let list = draft.records(rng);
-    match rng.below(25) {
+    match rng.below(27) {
         0 | 1 => cut_header(&list, rng),
         2 | 3 => cut_payload(&list, rng),
         4 => long_length(&list, rng),
@@ -81,6 +81,8 @@ pub fn one_record(draft: &Draft, rng: &mut Rng) -> Damaged {
         21 => too_long(&list, rng),
         22 => two_faults(&list, draft.counts, rng),
         23 => moved_vertex(&list, rng),
+        24 => earlier_face(&list, rng),
+        25 => third_body(&list, rng),
         _ => lost(&list, rng),
     }
 }
@@ -153,6 +155,26 @@ fn wrong_length(list: &[Record], rng: &mut Rng) -> Damaged {
     (records::to_bytes(&damaged), refusal)
 }
 
+/// A face of three fields, as before it had body and source.
+fn earlier_face(list: &[Record], rng: &mut Rng) -> Damaged {
+    let Some(index) = some_index_of(list, 4, rng) else {
+        return wrong_length(list, rng);
+    };
+    let mut damaged = list.to_vec();
+    damaged[index].1.truncate(3);
+    (records::to_bytes(&damaged), expected(3, place(list, index)))
+}
+
+/// A face of a body that is neither 0 nor 1.
+fn third_body(list: &[Record], rng: &mut Rng) -> Damaged {
+    let Some(index) = some_index_of(list, 4, rng) else {
+        return wrong_length(list, rng);
+    };
+    let mut damaged = list.to_vec();
+    damaged[index].1[3] = *rng.pick(&[2, 3, 256, 65_536, 1 << 31, u32::MAX]);
+    (records::to_bytes(&damaged), expected(4, place(list, index)))
+}
+
 /// A payload of no whole fields.
 fn odd_length(list: &[Record], rng: &mut Rng) -> Damaged {
     let index = some_index(list, rng);
@@ -200,7 +222,7 @@ fn wrong_place(list: &[Record], rng: &mut Rng) -> Damaged {
         (1, vec![0]),
         (2, vec![0]),
         (3, vec![0, 0, NONE, NONE]),
-        (4, vec![0, 0, 0]),
+        (4, vec![0, 0, 0, 0, 0]),
         (5, vec![0, 0]),
         (6, vec![0]),
     ];
@@ -224,7 +246,7 @@ fn first_bad(kind: u16, field: usize, counts: Counts) -> Option<usize> {
     let by_kind: &[Option<usize>] = match kind {
         1 => &[Some(2)],
         3 => &[None, Some(2), Some(counts.vertices), Some(counts.vertices)],
-        4 => &[None, Some(2), Some(2)],
+        4 => &[None, Some(2), Some(2), Some(2)],
         5 if field.is_multiple_of(2) => return Some(counts.edges),
         5 => return Some(2),
         6 => &[Some(counts.vertices)],

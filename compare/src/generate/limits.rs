@@ -69,8 +69,8 @@ fn any_sense(rng: &mut Rng) -> u32 {
 
 fn bare_faces(rng: &mut Rng) -> AtLimit {
     let mut list = vec![head()];
-    list.extend((0..MAX_FACES).map(|i| (4, vec![i as u32, i as u32 % 2, 0])));
-    at_end(list, (4, vec![0, any_sense(rng), 0]))
+    list.extend((0..MAX_FACES as u32).map(|i| (4, vec![i, i % 2, 0, i % 2, i])));
+    at_end(list, (4, vec![0, any_sense(rng), 0, any_sense(rng), 0]))
 }
 
 fn ring_faces(rng: &mut Rng) -> AtLimit {
@@ -78,20 +78,20 @@ fn ring_faces(rng: &mut Rng) -> AtLimit {
     let rings = MAX_FACES as u32 / 2;
     list.extend((0..rings).map(|i| (3, vec![i, 0, NONE, NONE])));
     for i in 0..rings {
-        list.extend([(4, vec![i, 0, 0]), (5, vec![i, 0])]);
-        list.extend([(4, vec![i, 0, 1]), (5, vec![i, 0])]);
+        list.extend([(4, vec![i, 0, 0, 0, i]), (5, vec![i, 0])]);
+        list.extend([(4, vec![i, 0, 1, 1, i]), (5, vec![i, 0])]);
     }
     let end = list.len();
     list.extend((0..rings).map(|i| (8, vec![2 * i, rng.below(3) as u32])));
-    (list, (end, (4, vec![0, 0, any_sense(rng)])))
+    (list, (end, (4, vec![0, 0, any_sense(rng), 2, 0])))
 }
 
 /// Two faces round a ring, number 0.
 fn ring_between() -> [Record; 4] {
     [
-        (4, vec![7, 0, 0]),
+        (4, vec![7, 0, 0, 0, 0]),
         (5, vec![0, 0]),
-        (4, vec![8, 0, 0]),
+        (4, vec![8, 0, 0, 0, 1]),
         (5, vec![0, 1]),
     ]
 }
@@ -121,9 +121,9 @@ fn used_edges(rng: &mut Rng) -> AtLimit {
     let rings = MAX_LOOPS as u32 / 2;
     let mut list = vec![head()];
     list.extend((0..rings).map(|i| (3, vec![i, 0, NONE, NONE])));
-    list.push((4, vec![1, 0, 0]));
+    list.push((4, vec![1, 0, 0, 0, 0]));
     list.extend((0..rings).map(|i| (5, vec![i, 0])));
-    list.push((4, vec![2, 0, 1]));
+    list.push((4, vec![2, 0, 1, 0, 1]));
     list.extend((0..rings).map(|i| (5, vec![i, 0])));
     let end = list.len();
     list.extend((0..rings).map(|i| (8, vec![i, 0])));
@@ -132,8 +132,8 @@ fn used_edges(rng: &mut Rng) -> AtLimit {
 
 fn vertex_loops(rng: &mut Rng) -> AtLimit {
     let mut list = vec![head(), (2, vec![3]), (2, vec![3]), (2, vec![4])];
-    for _ in 0..4 {
-        list.push((4, vec![0, 0, 0]));
+    for i in 0..4 {
+        list.push((4, vec![0, 0, 0, 0, i]));
         list.extend((0..MAX_LOOPS / 4).map(|_| (6, vec![rng.below(3) as u32])));
     }
     let end = list.len();
@@ -272,7 +272,7 @@ fn faces_of_polygons(vertex_loops: usize) -> Vec<Record> {
     let mut list = Vec::new();
     let mut left = vertex_loops;
     for face in 0..MAX_FACES {
-        list.push((4, vec![7, 0, 0]));
+        list.push((4, vec![7, 0, 0, 1, face as u32]));
         if face < 2 * POLYGONS {
             let sides = (0..SIDES as u32).flat_map(|i| match face % 2 {
                 0 => [i, 0],

@@ -9,6 +9,7 @@ pub mod oracle;
 pub mod rng;
 pub mod shapes;
 pub mod sketch;
+pub mod sources;
 pub mod split;
 
 pub use classes::{CLASSES, sample, sample_of};

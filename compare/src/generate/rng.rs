@@ -13,7 +13,12 @@ impl Rng {
     /// Other numbers, which leave those to come as they are. With these the
     /// jobs that are timed stay as they were first drawn.
     pub fn aside(&self) -> Self {
-        Self::new(self.0, 7)
+        self.apart(7)
+    }
+
+    /// The same for another use.
+    pub fn apart(&self, number: u64) -> Self {
+        Self::new(self.0, number)
     }
 
     fn next(&mut self) -> u64 {

@@ -2,6 +2,7 @@
 //! 2p and 2p + 1 are the two sides of pair p; each leads to its next half.
 
 use super::rng::Rng;
+use super::sources::give_sources;
 use super::split::split_vertices;
 use crate::records::Record;
 use std::collections::BTreeMap;
@@ -184,6 +185,7 @@ pub fn write(sketch: &Sketch, rng: &mut Rng) -> Written {
     }
     if sketch.split > 0 {
         split_vertices(&mut written.records, sketch.split, &mut rng.aside());
+        give_sources(&mut written.records, &mut rng.apart(11));
     }
     written
 }
@@ -356,7 +358,8 @@ fn write_face(
         false => u32::MAX - rng.below(2) as u32,
     };
     written.senses.push(data.own ^ data.selected);
-    let fields = vec![surface, data.own, data.selected];
+    // Body and source are drawn when all faces stand.
+    let fields = vec![surface, data.own, data.selected, 0, 0];
     written.records.push((4, fields));
     let own = starts.iter().filter(|&&h| sketch.face[h] == face);
     let mut loops: Vec<Result<usize, Spot>> = own.copied().map(Ok).collect();

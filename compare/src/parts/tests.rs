@@ -128,7 +128,7 @@ fn a_wrong_place_is_noticed() {
     let at_pairing = "refusal: pair: library refused 11 1, reference refused 11 0";
     assert_eq!(told(&held(5, wrong_place)), [at_pairing]);
     // A job that does not load is held against the second implementation.
-    let at_loading = "refusal: read: library refused 6 51, second refused 6 50";
+    let at_loading = "refusal: read: library refused 6 59, second refused 6 58";
     assert_eq!(told(&held(6, wrong_place)), [at_loading]);
     let refused = "refusal: sewing: library refused 13 0, reference accepted";
     assert_eq!(told(&held(9, refuses_all)), [refused]);
@@ -310,7 +310,7 @@ fn reports_tell_what_differs() {
     let table = csv::table(&run);
     let rows: Vec<&str> = table.split("\r\n").collect();
     assert_eq!(rows.len(), 1 + 6 + 2 + 1, "{table}");
-    assert!(rows[2].starts_with("\"a,\"\"b\"\" <i>.JOB\",110,2,differs,library,accepted,"));
+    assert!(rows[2].starts_with("\"a,\"\"b\"\" <i>.JOB\",126,2,differs,library,accepted,"));
     assert!(rows[3].starts_with("empty.job,0,,same,library,refused 3 0,second,refused 3 0,"));
     assert!(rows[7].starts_with("notes.md,,,odd,"));
 }

@@ -96,12 +96,15 @@ fn edges(parts: &Parts, ends: Vec<[u32; 2]>) -> (Vec<Vec<u32>>, Vec<u32>) {
     (records, numbers)
 }
 
-/// A face has surface and stored sense of its lowest member; its loops follow
-/// it, vertex loops last.
+/// A face has surface and stored sense of its lowest member; its members follow
+/// it, then its loops, vertex loops last.
 fn face_with_loops(parts: &Parts, face: usize, numbers: &[u32]) -> Vec<BodyRecord> {
     let lowest = parts.merged.lowest[face];
     let surface = parts.job.faces[lowest].surface;
-    let mut records = vec![(24, vec![surface, parts.reading.senses[lowest].field()])];
+    let mut records = vec![
+        (24, vec![surface, parts.reading.senses[lowest].field()]),
+        (29, members(parts, face)),
+    ];
     let loops = parts.joined.table.loops.iter();
     for l in loops.filter(|l| l.face == face) {
         let fields = l.items.iter();
@@ -111,6 +114,13 @@ fn face_with_loops(parts: &Parts, face: usize, numbers: &[u32]) -> Vec<BodyRecor
     let of_face = parts.vertex_loops.iter().filter(|v| v.face == face);
     records.extend(of_face.map(|v| (26, vec![v.point])));
     records
+}
+
+/// Body and source of each selected face in a merged face, in the order of the job.
+fn members(parts: &Parts, face: usize) -> Vec<u32> {
+    let selected = parts.job.faces.iter().zip(&parts.merged.number);
+    let members = selected.filter(|(_, number)| **number == face);
+    members.flat_map(|(of, _)| [of.body, of.source]).collect()
 }
 
 /// The bytes of records: length, kind, fields, little-endian.

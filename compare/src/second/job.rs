@@ -69,6 +69,9 @@ pub struct Face {
     pub surface: u32,
     pub own: Sense,
     pub selected: Sense,
+    /// The body that it was selected from, 0 or 1, and its number there.
+    pub body: u32,
+    pub source: u32,
     pub loops: Vec<Loop>,
 }
 

@@ -78,12 +78,11 @@ fn well_formed(record: &Record) -> bool {
     match record.kind {
         1 | 2 | 6 => length == 4,
         3 => length == 16,
-        4 => length == 12,
+        4 | 11 => length == 20,
         5 => length > 0 && length.is_multiple_of(8),
         7 => length > 0 && length.is_multiple_of(4),
         8 | 12 => length == 8,
         9 | 10 | 13 => length == 12,
-        11 => length == 20,
         _ => false,
     }
 }
@@ -135,7 +134,7 @@ fn fields_permitted(record: &Record, job: &Job) -> bool {
     match record.kind {
         1 => f[0] <= 1,
         3 => f[1] <= 1 && (f[2..] == [NONE, NONE] || vertex(f[2]) && vertex(f[3])),
-        4 => f[1] <= 1 && f[2] <= 1,
+        4 => f[1..4].iter().all(|&field| field <= 1),
         5 => f.chunks_exact(2).all(|item| edge(item[0]) && item[1] <= 1),
         6 => vertex(f[0]),
         7 => edge(f[0]) && f[1..].iter().all(|&h| a_use(h)),
@@ -144,7 +143,7 @@ fn fields_permitted(record: &Record, job: &Job) -> bool {
         11 => f[1] < f[2] && face(f[2]) && f[4] <= 2,
         12 => face(f[0]) && f[1] <= 2,
         13 => face(f[0]) && face(f[1]) && f[2] <= 2,
-        // Point, curve and surface numbers may be anything.
+        // Point, curve, surface and source numbers may be anything.
         _ => true,
     }
 }
@@ -227,6 +226,8 @@ fn add(job: &mut Job, record: Record) {
             surface: f[0],
             own: Sense::of(f[1]),
             selected: Sense::of(f[2]),
+            body: f[3],
+            source: f[4],
             loops: Vec::new(),
         }),
         5 => {

@@ -3,11 +3,12 @@ use Prim.Native.Nat.{ℕ, zero, suc, ◌+◌, ◌*◌, ◌-◌, ◌/◌, ◌%◌
 use Rattle.std.proofs.Common.{arith, ◌∙◌, eq-eqb, ne_eqb}
 use Rattle.std.specs.Prelude.{◌≡◌, Bool, true, false, length, get_or, drop, eqb}
 use Rattle.std.proofs.Math.Path.{refl, sym, ap}
-use mathlib.Core.List.{List, [], ◌∷◌, ◌++◌, flat_map}
+use mathlib.Core.List.{List, [], ◌∷◌, ◌++◌, map, flat_map}
 use Rattle.std.proofs.Math.ListN.{take}
 use Rattle.lists.specs.Lists.{below}
 use Rattle.lists.specs.Members.{flatMap-append}
-use Rattle.lists.specs.Rows.{flatMap-places, flatMap-even}
+use Rattle.lists.specs.Rows.{flatMap-places, flatMap-even, flatMap-map, flatMap-keep}
+use Rattle.lists.specs.Tests.{cond-true, cond-false}
 use Rattle.lists.specs.Stretches.{length-stretch}
 use Rattle.rules.specs.declared.EdgeData.{EdgeData}
 use Rattle.rules.specs.declared.Face.{Face}
@@ -18,13 +19,15 @@ use Rattle.rules.specs.Frame.{framed}
 use Rattle.rules.specs.Job.{faceAt}
 use Rattle.rules.specs.Read.{storedSense}
 use Rattle.rules.specs.Join.{edgeDataAt, noEdgeData}
-use Rattle.rules.specs.Body.{rec}
-use Rattle.fields.specs.Wrote.{Wrote, wrote-more}
+use Rattle.rules.specs.Groups.{labelOf, membersOf}
+use Rattle.rules.specs.Body.{rec, memberAt, memberFields}
+use Rattle.fields.specs.Wrote.{Wrote, wrote-none, wrote-more}
+use Rattle.fields.specs.Tabled.{length-field-bytes}
 use Rattle.stages_out.specs.Writing.{wrote-both}
 use Rattle.edges.specs.Table.{loopAt}
 use Rattle.body.specs.Numbers.{numberOf, vertexIn}
 use Rattle.body.specs.Writing.{wrote-as, wrote-if, wrote-not, wrote-record}
-use Rattle.body.specs.Rows.{edgeRow, itemRow, loopRow, loopRows, vertexLoopRow, vertexLoopRows, faceHead, faceRow}
+use Rattle.body.specs.Rows.{edgeRow, itemRow, loopRow, loopRows, vertexLoopRow, vertexLoopRows, faceHead, memberRow, memberRows, groupRecord, faceRow}
 
 -- rows of rows
 pub flatMap-flatMap : {A B C : Type 0} (f : B → List C) (g : A → List B) (l : List A) → flat_map f (flat_map g l) ≡ flat_map (λ x. flat_map f (g x)) l
@@ -122,13 +125,47 @@ face-wrote fs before mid after at p q m surface s sense es et e u w =
     wrote-as (framed (rec 24 (surface ∷ s ∷ []))) (framed (faceHead fs m)) before after at q (λ i. framed (rec 24 (es i ∷ (e ∙ ap senseNumber et) i ∷ [])))
     (wrote-record (surface ∷ s ∷ []) before mid after at p q 24 2 refl u w)
 
-module _ (fs : List Face) (items stretches faces members kept : List ℕ) (k : ℕ) (t : List ℕ) (count : ℕ) where
-  -- merged face f, its loops, its vertex loops
-  pub face-row-wrote : (before mid more after : List ℕ) (at p q r f m : ℕ) → m ≡ get_or members f 0 → Wrote before at (framed (faceHead fs m)) mid p → Wrote mid p (loopRows items stretches faces t count f) more q
-      → Wrote more q (vertexLoopRows kept k f) after r → Wrote before at (faceRow fs items stretches faces members kept k t count f) after r
+-- MEMBERS
+
+module _ (fs : List Face) (groups : List ℕ) (m : ℕ) where
+  pub member-wrote : (before after : List ℕ) (at q i g body source : ℕ) → g ≡ labelOf groups i → g ≡ m → body ≡ (faceAt fs i).body → source ≡ (faceAt fs i).source
+      → Wrote before at (fieldBytes (body ∷ source ∷ [])) after q → Wrote before at (fieldBytes (memberRow fs groups m i)) after q
+  unfolding memberRow
+  member-wrote before after at q i g body source eg own eb es w =
+      let fields : List ℕ = memberFields (memberAt fs i) in
+      let named : fields ≡ memberRow fs groups m i = sym (cond-true (eqb (labelOf groups i) m) fields [] (eq-eqb (labelOf groups i) m (sym eg ∙ own))) in
+      wrote-as (fieldBytes (body ∷ source ∷ [])) (fieldBytes (memberRow fs groups m i)) before after at q (ap fieldBytes ((λ i. eb i ∷ es i ∷ []) ∙ named)) w
+
+  pub member-skipped : (before : List ℕ) (at i g : ℕ) → g ≡ labelOf groups i → (g ≡ m → ⊥) → Wrote before at (fieldBytes (memberRow fs groups m i)) before at
+  unfolding memberRow flat_map
+  member-skipped before at i g eg other =
+      let none : [] ≡ memberRow fs groups m i = sym (cond-false (eqb (labelOf groups i) m) (memberFields (memberAt fs i)) [] (ne_eqb (labelOf groups i) m (λ e. other (eg ∙ e)))) in
+      wrote-as [] (fieldBytes (memberRow fs groups m i)) before before at at (ap fieldBytes none) (wrote-none before at)
+
+  pub member-rows : (n : ℕ) → n ≡ length groups → flat_map (λ i. fieldBytes (memberRow fs groups m i)) (below n) ≡ fieldBytes (memberRows fs groups m)
+  unfolding memberRow
+  member-rows n e =
+      let own : ℕ → Bool = λ i. eqb (labelOf groups i) m in
+      ap (λ k. flat_map (λ i. fieldBytes (memberRow fs groups m i)) (below k)) e
+      ∙ sym (ap fieldBytes (flatMap-map memberFields (memberAt fs) (membersOf groups m) ∙ flatMap-keep (λ i. memberFields (memberAt fs i)) own (below (length groups)))
+      ∙ flatMap-flatMap bytes32 (memberRow fs groups m) (below (length groups)))
+
+  -- the record's header has the size that the members take where there is no room
+  pub members-wrote : (before mid after : List ℕ) (at p q size : ℕ) → size ≡ 0 + length (fieldBytes (memberRows fs groups m)) → Wrote before at (bytes32 (4 * (size / 4)) ++ bytes16 29) mid p
+      → Wrote mid p (fieldBytes (memberRows fs groups m)) after q → Wrote before at (framed (groupRecord fs groups m)) after q
+  members-wrote before mid after at p q size e u w =
+      wrote-record (memberRows fs groups m) before mid after at p q 29 (size / 4) (omega (arith, e, length-field-bytes (memberRows fs groups m))) u w
+
+module _ (fs : List Face) (groups items stretches faces members kept : List ℕ) (k : ℕ) (t : List ℕ) (count : ℕ) where
+  -- merged face f, its members, its loops, its vertex loops
+  pub face-row-wrote : (before a b d after : List ℕ) (at p q r s f m : ℕ) → m ≡ get_or members f 0 → Wrote before at (framed (faceHead fs m)) a p
+      → Wrote a p (framed (groupRecord fs groups m)) b q → Wrote b q (loopRows items stretches faces t count f) d r
+      → Wrote d r (vertexLoopRows kept k f) after s → Wrote before at (faceRow fs groups items stretches faces members kept k t count f) after s
   unfolding faceRow
-  face-row-wrote before mid more after at p q r f m em u v w =
-      let head' : Wrote before at (framed (faceHead fs (get_or members f 0))) mid p = wrote-as (framed (faceHead fs m)) (framed (faceHead fs (get_or members f 0))) before mid at p (ap (λ z. framed (faceHead fs z)) em) u in
+  face-row-wrote before a b d after at p q r s f m em u v w x =
+      let row : ℕ → List ℕ = λ z. framed (faceHead fs z) ++ framed (groupRecord fs groups z) ++ loopRows items stretches faces t count f ++ vertexLoopRows kept k f in
       let loops = loopRows items stretches faces t count f in
-      wrote-more before more after (framed (faceHead fs (get_or members f 0)) ++ loops) (vertexLoopRows kept k f) at q r
-      (wrote-more before mid more (framed (faceHead fs (get_or members f 0))) loops at p q head' v) w
+      let both = wrote-more before a b (framed (faceHead fs m)) (framed (groupRecord fs groups m)) at p q u v in
+      wrote-as (row m) (row (get_or members f 0)) before after at s (ap row em)
+      (wrote-more before d after (framed (faceHead fs m) ++ framed (groupRecord fs groups m) ++ loops) (vertexLoopRows kept k f) at r s
+      (wrote-more before b d (framed (faceHead fs m) ++ framed (groupRecord fs groups m)) loops at q r both w) x)

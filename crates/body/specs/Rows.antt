@@ -10,10 +10,10 @@ use Rattle.rules.specs.Fields.{bytes32}
 use Rattle.rules.specs.Frame.{Record, framed, framedAll}
 use Rattle.rules.specs.Job.{faceAt}
 use Rattle.rules.specs.Read.{storedSense}
-use Rattle.rules.specs.Groups.{labelOf}
+use Rattle.rules.specs.Groups.{labelOf, membersOf}
 use Rattle.rules.specs.Fans.{fanPoint}
 use Rattle.rules.specs.Shells.{shellFaces}
-use Rattle.rules.specs.Body.{Totals as RulesTotals, rec, metFans, stillActive, vertexRecord, edgeRecord, withVertices}
+use Rattle.rules.specs.Body.{Totals as RulesTotals, rec, metFans, stillActive, memberAt, memberFields, membersRecord, vertexRecord, edgeRecord, withVertices}
 use Rattle.edges.specs.Table.{loopAt}
 use Rattle.shells.specs.Table.{boundaryIn}
 use Rattle.body.specs.declared.Totals.{Totals}
@@ -63,9 +63,23 @@ vertexLoopRows kept k f = flat_map (vertexLoopRow kept f) (below k)
 abbrev pub faceHead : List Face → ℕ → Record
 faceHead fs m = rec 24 ((faceAt fs m).surface ∷ senseNumber (storedSense (faceAt fs m)) ∷ [])
 
--- merged face f, its loops, its vertex loops
-unfoldable pub faceRow : List Face → List ℕ → List ℕ → List ℕ → List ℕ → List ℕ → ℕ → List ℕ → ℕ → ℕ → List ℕ
-faceRow fs items stretches faces members kept k t count f = framed (faceHead fs (get_or members f 0)) ++ loopRows items stretches faces t count f ++ vertexLoopRows kept k f
+-- body and source face of selected face i, where it is of the merged group with label m
+unfoldable pub memberRow : List Face → List ℕ → ℕ → ℕ → List ℕ
+memberRow fs groups m i = cond (eqb (labelOf groups i) m) (memberFields (memberAt fs i)) []
+
+-- those of the whole group
+abbrev pub memberRows : List Face → List ℕ → ℕ → List ℕ
+memberRows fs groups m = flat_map memberFields (map (memberAt fs) (membersOf groups m))
+
+-- the members of the merged group with label m
+abbrev pub groupRecord : List Face → List ℕ → ℕ → Record
+groupRecord fs groups m = membersRecord (map (memberAt fs) (membersOf groups m))
+
+-- merged face f, its members, its loops, its vertex loops
+unfoldable pub faceRow : List Face → List ℕ → List ℕ → List ℕ → List ℕ → List ℕ → List ℕ → ℕ → List ℕ → ℕ → ℕ → List ℕ
+faceRow fs groups items stretches faces members kept k t count f =
+    let m = get_or members f 0 in
+    framed (faceHead fs m) ++ framed (groupRecord fs groups m) ++ loopRows items stretches faces t count f ++ vertexLoopRows kept k f
 
 -- SHELLS
 

@@ -13,26 +13,28 @@ pub record LoopsSized (items stretches faces : List ℕ) : Type 0 where
   pub room : 2 * length faces ≤ length stretches
 
 -- the tables of a body of k kept vertex loops and n shells, with room for the numbers of edges and vertices
-pub record BodySized (c : Counts) (rows items stretches faces members : List ℕ) (k n : ℕ) (numbers vertices : List ℕ) : Type 0 where
+pub record BodySized (c : Counts) (groups rows items stretches faces members : List ℕ) (k n : ℕ) (numbers vertices : List ℕ) : Type 0 where
   pub few-faces : c.faces ≤ 256
   pub few-edges : length rows ≤ 14336
   pub ends : EndsOk (length vertices) (rowsIn rows)
   pub room : length rows ≤ 7 * length numbers
   pub loops : LoopsSized items stretches faces
   pub few-members : length members ≤ 256
+  pub few-groups : length groups ≤ 256
   pub few-kept : k ≤ 1024
   pub few-shells : n ≤ 256
 
 -- the same tables with other spare ones of the same lengths
-pub spare-sized : (c : Counts) (rows items stretches faces members : List ℕ) (k n : ℕ) (numbers vertices numbers' vertices' : List ℕ) → BodySized c rows items stretches faces members k n numbers vertices
-    → length numbers' ≡ length numbers → length vertices' ≡ length vertices → BodySized c rows items stretches faces members k n numbers' vertices'
-spare-sized c rows items stretches faces members k n numbers vertices numbers' vertices' B en ev = record {
+pub spare-sized : (c : Counts) (groups rows items stretches faces members : List ℕ) (k n : ℕ) (numbers vertices numbers' vertices' : List ℕ) → BodySized c groups rows items stretches faces members k n numbers vertices
+    → length numbers' ≡ length numbers → length vertices' ≡ length vertices → BodySized c groups rows items stretches faces members k n numbers' vertices'
+spare-sized c groups rows items stretches faces members k n numbers vertices numbers' vertices' B en ev = record {
   few-faces = B.few-faces;
   few-edges = B.few-edges;
   ends = subst (λ size. EndsOk size (rowsIn rows)) (sym ev) B.ends;
   room = omega (arith, B.room, en);
   loops = B.loops;
   few-members = B.few-members;
+  few-groups = B.few-groups;
   few-kept = B.few-kept;
   few-shells = B.few-shells;
 }

@@ -4,12 +4,13 @@
 #![tactic(auto)]
 
 ghost use Rattle.std.specs.Prelude.{◌≡◌, ℕ, ◌+◌, ◌*◌, ◌<◌, ◌≤◌, ◌^◌, length};
-ghost use mathlib.Core.List.{List, [], ◌∷◌, flat_map};
+ghost use mathlib.Core.List.{List, [], ◌∷◌, map, flat_map};
 ghost use Rattle.rules.specs.Fields.{fieldBytes};
 ghost use Rattle.rules.specs.Frame.{framed, framedAll};
 ghost use Rattle.rules.specs.Join.{edgeDataAt, activeEdges};
 ghost use Rattle.rules.specs.Shells.{shellFaces, lumps};
-ghost use Rattle.rules.specs.Body.{rec, stillActive, meet, metFans, bodyFaces, faceRecords, lumpRecords, bodyRecords, emptyBody, solidBody};
+ghost use Rattle.rules.specs.Groups.{membersOf};
+ghost use Rattle.rules.specs.Body.{rec, stillActive, meet, metFans, memberAt, membersRecord, bodyFaces, faceRecords, lumpRecords, bodyRecords, emptyBody, solidBody};
 ghost use Rattle.rules.specs.Sew.{fitting, Ends};
 ghost use Rattle.fields.specs.Wrote.{Wrote};
 ghost use Rattle.job.specs.Lists.{facesIn};
@@ -18,7 +19,7 @@ ghost use Rattle.vertex_loops.specs.Kept.{keptIn};
 ghost use Rattle.shells.specs.Table.{nestedIn};
 ghost use Rattle.body.specs.Numbers.{Blank, Numbering, numberOf, vertexIn};
 ghost use Rattle.body.specs.Vertices.{EndOk, EndsOk, Meeting, metBelow, activeBelow};
-ghost use Rattle.body.specs.Rows.{totalsIn, vertexAndEdgeBytes, edgeRow, itemRow, loopRow, loopRows, vertexLoopRow, vertexLoopRows, faceHead, shellFaceRow, voidRow, voidRows, lumpRow};
+ghost use Rattle.body.specs.Rows.{totalsIn, vertexAndEdgeBytes, edgeRow, itemRow, loopRow, loopRows, vertexLoopRow, vertexLoopRows, faceHead, memberRow, memberRows, shellFaceRow, voidRow, voidRows, lumpRow};
 ghost use Rattle.body.specs.Sized.{LoopsSized, BodySized};
 
 use edges::{edge_active, edge_at, edge_end, edge_start};
@@ -351,11 +352,75 @@ fn put_face(job: &[u8], index: &[u32], c: Counts, r: usize, out: &mut [u8], at: 
     put_two(out, p, surface, sense)
 }
 
-// Kind 24: the merged faces, each with its loops after it, vertex loops last.
+// Body and source face of selected face i where it is of the merged group with label m.
+fn put_member(
+    job: &[u8],
+    index: &[u32],
+    c: Counts,
+    groups: &[u32],
+    m: usize,
+    i: usize,
+    out: &mut [u8],
+    at: usize,
+) -> usize
+    requires { (at < 2 ^ 58) × (c.faces ≤ 256) }
+    ensures { Wrote out.old at (fieldBytes (memberRow (facesIn job.now index.now c) groups.now m i)) out.new result × (result ≤ at + 8) }
+{
+    if get(groups, i) != m {
+        return at;
+    }
+    let body = job::face_body(job, index, c, i);
+    let source = job::face_source(job, index, c, i);
+    put_two(out, at, body, source)
+}
+
+// Body and source face of each selected face of that group, ascending.
+fn put_group(
+    job: &[u8],
+    index: &[u32],
+    c: Counts,
+    groups: &[u32],
+    m: usize,
+    out: &mut [u8],
+    at: usize,
+) -> usize
+    requires { (at < 2 ^ 57) × (c.faces ≤ 256) × (length groups.now ≤ 256) }
+    ensures { Wrote out.old at (fieldBytes (memberRows (facesIn job.now index.now c) groups.now m)) out.new result × (result ≤ at + 2048) }
+{
+    let mut p = at;
+    let mut i: usize = 0;
+    while i < groups.len() {
+        p = put_member(job, index, c, groups, m, i, out, p);
+        i += 1;
+    }
+    p
+}
+
+// Kind 29: the members of the merged group with label m; its size is what they take where there is no room.
+fn put_members(
+    job: &[u8],
+    index: &[u32],
+    c: Counts,
+    groups: &[u32],
+    m: usize,
+    out: &mut [u8],
+    at: usize,
+) -> usize
+    requires { (at < 2 ^ 56) × (c.faces ≤ 256) × (length groups.now ≤ 256) }
+    ensures { Wrote out.old at (framed (membersRecord (map (memberAt (facesIn job.now index.now c)) (membersOf groups.now m)))) out.new result × (result ≤ at + 2054) }
+{
+    let mut none = [0u8; 1];
+    let size = put_group(job, index, c, groups, m, &mut none, 0);
+    let p = put_head(out, at, 29, size / 4);
+    put_group(job, index, c, groups, m, out, p)
+}
+
+// Kind 24: the merged faces, each with its members and its loops after it, vertex loops last.
 fn put_faces(
     job: &[u8],
     index: &[u32],
     c: Counts,
+    groups: &[u32],
     rows: &[u32],
     items: &[u32],
     stretches: &[u32],
@@ -367,8 +432,8 @@ fn put_faces(
     out: &mut [u8],
     at: usize,
 ) -> usize
-    requires { (at < 2 ^ 53) × (c.faces ≤ 256) × (length rows.now ≤ 14336) × (length rows.now ≤ 7 * length numbers.old) × LoopsSized items.now stretches.now faces.now × (k ≤ 1024) × (length members.now ≤ 256) }
-    ensures { Wrote out.old at (framedAll (flat_map faceRecords (bodyFaces (facesIn job.now index.now c) (activeEdges (rowsIn rows.now)) (faceLoopsIn items.now stretches.now faces.now) (keptIn k kept.now) 0 members.now))) out.new result × (result ≤ at + 8595705344) }
+    requires { (at < 2 ^ 53) × (c.faces ≤ 256) × (length rows.now ≤ 14336) × (length rows.now ≤ 7 * length numbers.old) × LoopsSized items.now stretches.now faces.now × (k ≤ 1024) × (length members.now ≤ 256) × (length groups.now ≤ 256) }
+    ensures { Wrote out.old at (framedAll (flat_map faceRecords (bodyFaces (facesIn job.now index.now c) groups.now (activeEdges (rowsIn rows.now)) (faceLoopsIn items.now stretches.now faces.now) (keptIn k kept.now) 0 members.now))) out.new result × (result ≤ at + 8596231168) }
 {
     blank(numbers);
     let count = number_edges(rows, numbers);
@@ -377,7 +442,8 @@ fn put_faces(
     while f < members.len() {
         let m = get(members, f);
         let q = put_face(job, index, c, m, out, p);
-        let s = put_loops(items, stretches, faces, numbers, count, f, out, q);
+        let r = put_members(job, index, c, groups, m, out, q);
+        let s = put_loops(items, stretches, faces, numbers, count, f, out, r);
         p = put_vertex_loops(kept, k, f, out, s);
         f += 1;
     }
@@ -548,6 +614,7 @@ fn put_records(
     job: &[u8],
     index: &[u32],
     c: Counts,
+    groups: &[u32],
     starts: &[u32],
     rows: &[u32],
     items: &[u32],
@@ -563,13 +630,13 @@ fn put_records(
     vertices: &mut [u32],
     out: &mut [u8],
 ) -> usize
-    requires { BodySized c rows.now items.now stretches.now faces.now members.now k n numbers.old vertices.old }
-    ensures { Wrote out.old 0 (framedAll (bodyRecords (solidBody (totalsIn totals) (facesIn job.now index.now c) starts.now (rowsIn rows.now) (faceLoopsIn items.now stretches.now faces.now) members.now (keptIn k kept.now) (lumps (nestedIn boundaries.now members.now n table.now))))) out.new result }
+    requires { BodySized c groups.now rows.now items.now stretches.now faces.now members.now k n numbers.old vertices.old }
+    ensures { Wrote out.old 0 (framedAll (bodyRecords (solidBody (totalsIn totals) (facesIn job.now index.now c) groups.now starts.now (rowsIn rows.now) (faceLoopsIn items.now stretches.now faces.now) members.now (keptIn k kept.now) (lumps (nestedIn boundaries.now members.now n table.now))))) out.new result }
 {
     put_totals(out, 1, totals);
     let p = put_vertices_and_edges(rows, starts, vertices, out);
     let q = put_faces(
-        job, index, c, rows, items, stretches, faces, members, kept, k, numbers, out, p,
+        job, index, c, groups, rows, items, stretches, faces, members, kept, k, numbers, out, p,
     );
     put_lumps(boundaries, members, table, n, out, q)
 }
@@ -600,6 +667,7 @@ pub fn put_body(
     job: &[u8],
     index: &[u32],
     c: Counts,
+    groups: &[u32],
     starts: &[u32],
     rows: &[u32],
     items: &[u32],
@@ -615,20 +683,20 @@ pub fn put_body(
     vertices: &mut [u32],
     out: &mut [u8],
 ) -> Ending
-    requires { BodySized c rows.now items.now stretches.now faces.now members.now k n numbers.old vertices.old }
-    ensures { Ends (fitting (length out.old) (framedAll (bodyRecords (solidBody (totalsIn totals) (facesIn job.now index.now c) starts.now (rowsIn rows.now) (faceLoopsIn items.now stretches.now faces.now) members.now (keptIn k kept.now) (lumps (nestedIn boundaries.now members.now n table.now)))))) out.old out.new result }
+    requires { BodySized c groups.now rows.now items.now stretches.now faces.now members.now k n numbers.old vertices.old }
+    ensures { Ends (fitting (length out.old) (framedAll (bodyRecords (solidBody (totalsIn totals) (facesIn job.now index.now c) groups.now starts.now (rowsIn rows.now) (faceLoopsIn items.now stretches.now faces.now) members.now (keptIn k kept.now) (lumps (nestedIn boundaries.now members.now n table.now)))))) out.old out.new result }
 {
     let mut none = [0u8; 1];
     let needed = put_records(
-        totals, job, index, c, starts, rows, items, stretches, faces, members, kept, k, boundaries,
-        table, n, numbers, vertices, &mut none,
+        totals, job, index, c, groups, starts, rows, items, stretches, faces, members, kept, k,
+        boundaries, table, n, numbers, vertices, &mut none,
     );
     if out.len() < needed {
         return Ending::Refused(40, needed);
     }
     put_records(
-        totals, job, index, c, starts, rows, items, stretches, faces, members, kept, k, boundaries,
-        table, n, numbers, vertices, out,
+        totals, job, index, c, groups, starts, rows, items, stretches, faces, members, kept, k,
+        boundaries, table, n, numbers, vertices, out,
     );
     Ending::Written(needed)
 }

@@ -44,7 +44,13 @@ fieldsAt bytes p = fieldsIn (le32 bytes p / 4) (drop (p + 6) bytes)
 
 -- the face whose record stands at a byte
 unfoldable pub faceIn : List ℕ → ℕ → Face
-faceIn bytes p = record { surface = le32 bytes (p + 6); own = senseOf (le32 bytes (p + 10)); selected = senseOf (le32 bytes (p + 14)) }
+faceIn bytes p = record {
+  surface = le32 bytes (p + 6);
+  own = senseOf (le32 bytes (p + 10));
+  selected = senseOf (le32 bytes (p + 14));
+  body = le32 bytes (p + 18);
+  source = le32 bytes (p + 22);
+}
 
 unfoldable pub facesIn : List ℕ → List ℕ → Counts → List Face
 facesIn bytes ix c = map (λ f. faceIn bytes (faceByte ix f)) (below c.faces)

@@ -218,6 +218,28 @@ pub fn face_selected(job: &[u8], index: &[u32], c: Counts, f: usize) -> Sense
     Sense::Same
 }
 
+// The body that the face was selected on, 0 or 1.
+pub fn face_body(job: &[u8], index: &[u32], c: Counts, f: usize) -> usize
+    requires { c.faces ≤ 256 }
+    ensures { result ≡ (faceAt (facesIn job.now index.now c) f).body }
+{
+    if f < c.faces {
+        return word(job, get(index, FACES + f) + 18);
+    }
+    0
+}
+
+// Its number there.
+pub fn face_source(job: &[u8], index: &[u32], c: Counts, f: usize) -> usize
+    requires { c.faces ≤ 256 }
+    ensures { result ≡ (faceAt (facesIn job.now index.now c) f).source }
+{
+    if f < c.faces {
+        return word(job, get(index, FACES + f) + 22);
+    }
+    0
+}
+
 // Own times selected.
 pub fn stored_sense(job: &[u8], index: &[u32], c: Counts, f: usize) -> Sense
     requires { c.faces ≤ 256 }

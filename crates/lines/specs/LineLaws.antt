@@ -30,6 +30,7 @@ names =
     ∷ (118 ∷ 101 ∷ 114 ∷ 116 ∷ 101 ∷ 120 ∷ 45 ∷ 108 ∷ 111 ∷ 111 ∷ 112 ∷ [])
     ∷ (108 ∷ 117 ∷ 109 ∷ 112 ∷ [])
     ∷ (115 ∷ 104 ∷ 101 ∷ 108 ∷ 108 ∷ [])
+    ∷ (109 ∷ 101 ∷ 109 ∷ 98 ∷ 101 ∷ 114 ∷ 115 ∷ [])
     ∷ []
 
 name-at : (kind : ℕ) → wordOf kind ≡ get_or names (kind - 21) []
@@ -43,12 +44,13 @@ name-first kind h = let e : zero ≡ kind - 21 = omega arith in name-at 21 ∙ a
 pub past : (m kind : ℕ) → m < kind → (kind ≡ suc m → ⊥) → suc m < kind
 past m kind h k = omega (arith, h, k)
 
-past-all : (kind : ℕ) → 28 < kind → [] ≡ wordOf kind
+past-all : (kind : ℕ) → 29 < kind → [] ≡ wordOf kind
 past-all kind h = sym (name-at kind ∙ get_or-eq_default names [] {n = kind - 21} (omega arith))
 
-pub name-none : (kind : ℕ) → 21 < kind → (kind ≡ 22 → ⊥) → (kind ≡ 23 → ⊥) → (kind ≡ 24 → ⊥) → (kind ≡ 25 → ⊥) → (kind ≡ 26 → ⊥) → (kind ≡ 27 → ⊥) → (kind ≡ 28 → ⊥) → [] ≡ wordOf kind
-name-none kind h k₂ k₃ k₄ k₅ k₆ k₇ k₈ =
-    past-all kind (past 27 kind (past 26 kind (past 25 kind (past 24 kind (past 23 kind (past 22 kind (past 21 kind h k₂) k₃) k₄) k₅) k₆) k₇) k₈)
+pub name-none : (kind : ℕ) → 21 < kind → (kind ≡ 22 → ⊥) → (kind ≡ 23 → ⊥) → (kind ≡ 24 → ⊥) → (kind ≡ 25 → ⊥) → (kind ≡ 26 → ⊥) → (kind ≡ 27 → ⊥) → (kind ≡ 28 → ⊥) → (kind ≡ 29 → ⊥)
+    → [] ≡ wordOf kind
+name-none kind h k₂ k₃ k₄ k₅ k₆ k₇ k₈ k₉ =
+    past-all kind (past 28 kind (past 27 kind (past 26 kind (past 25 kind (past 24 kind (past 23 kind (past 22 kind (past 21 kind h k₂) k₃) k₄) k₅) k₆) k₇) k₈) k₉)
 
 short-at : (i : ℕ) → length (get_or names i []) ≤ 11
 short-at zero = omega arith
@@ -59,7 +61,8 @@ short-at (suc (suc (suc (suc zero)))) = omega arith
 short-at (suc (suc (suc (suc (suc zero))))) = omega arith
 short-at (suc (suc (suc (suc (suc (suc zero)))))) = omega arith
 short-at (suc (suc (suc (suc (suc (suc (suc zero))))))) = omega arith
-short-at (suc (suc (suc (suc (suc (suc (suc (suc i)))))))) = omega arith
+short-at (suc (suc (suc (suc (suc (suc (suc (suc zero)))))))) = omega arith
+short-at (suc (suc (suc (suc (suc (suc (suc (suc (suc i))))))))) = omega arith
 
 pub name-short : (kind : ℕ) → length (wordOf kind) ≤ 11
 name-short kind = omega (arith, ap length (name-at kind), short-at (kind - 21))

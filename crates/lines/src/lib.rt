@@ -157,6 +157,7 @@ fn put_name(page: &mut [u8], at: usize, kind: usize) -> usize
         26 => put_text(page, at, b"vertex-loop"),
         27 => put_text(page, at, b"lump"),
         28 => put_text(page, at, b"shell"),
+        29 => put_text(page, at, b"members"),
         _ => at,
     }
 }

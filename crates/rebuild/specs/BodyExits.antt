@@ -39,7 +39,7 @@ use Rattle.body.specs.Sized.{BodySized}
 use Rattle.progress.specs.declared.Faces.{Faces}
 use Rattle.progress.specs.declared.Figures.{Figures}
 use Rattle.progress.specs.Chain.{afterLumps, afterNesting}
-use Rattle.progress.specs.Known.{boundariesIn, membersIn}
+use Rattle.progress.specs.Known.{boundariesIn, groupsIn, membersIn}
 use Rattle.rebuild.specs.Sizes.{Sizes, Holds, Tables, Spare}
 use Rattle.rebuild.specs.Homes.{shelled-count, shelled-few}
 use Rattle.rebuild.specs.Lumped.{shellCount, lumpTests}
@@ -56,6 +56,9 @@ module _ {bytes ix : List ℕ} {c : Counts} {us : List Use} {m : Faces} {names :
 
   pub faces-few : length (boundariesIn c m) ≤ 256
   faces-few = omega (arith, faces-cut, Z.limited.faces)
+
+  groups-few : length (groupsIn c m) ≤ 256
+  groups-few = omega (arith, length-take c.faces m.groups, Z.limited.faces)
 
   pub members-room : m.merged ≤ length m.members
   members-room = omega (arith, Z.merged, Z.members)
@@ -87,7 +90,7 @@ module _ {bytes ix : List ℕ} {c : Counts} {us : List Use} {m : Faces} {names :
   rows-cut rows n items stretches faces T = sym (length-take-le (7 * n) rows (rows-room rows n items stretches faces T))
 
   pub body-sized : (rows : List ℕ) (k : ℕ) (items stretches faces : List ℕ) (n : ℕ) (t numbers vertices : List ℕ) → Tables names rows k items stretches faces → Shelled (boundariesIn c m) (membersIn m) n t
-      → Spare (length us) rows numbers vertices → BodySized c (take (7 * k) rows) items stretches faces (membersIn m) g.kept n numbers vertices
+      → Spare (length us) rows numbers vertices → BodySized c (groupsIn c m) (take (7 * k) rows) items stretches faces (membersIn m) g.kept n numbers vertices
   body-sized rows k items stretches faces n t numbers vertices T S P = record {
     few-faces = Z.limited.faces;
     few-edges = omega (arith, T.few, length-take (7 * k) rows);
@@ -95,6 +98,7 @@ module _ {bytes ix : List ℕ} {c : Counts} {us : List Use} {m : Faces} {names :
     room = omega (arith, P.numbers-room, length-take (7 * k) rows);
     loops = record { laid = T.laid; few-items = T.items-few; few = T.faces-few; room = T.loops };
     few-members = members-few;
+    few-groups = groups-few;
     few-kept = Z.kept;
     few-shells = shells-few n t S;
   }
@@ -148,7 +152,7 @@ module _ (bytes ix : List ℕ) {c : Counts} {us : List Use} {ts : List ℕ} {m :
     module _ (u : ℕ) (eu : u ≡ length us) where
       abbrev body : Body
       body =
-          solidBody (totalsIn (record { uses = u; removed = g.removed; passed = g.passed; joins = k.joins; rings = k.rings; merges = m.joins })) (facesIn bytes ix c) starts (rowsIn (take (7 * k.edges) rows))
+          solidBody (totalsIn (record { uses = u; removed = g.removed; passed = g.passed; joins = k.joins; rings = k.rings; merges = m.joins })) (facesIn bytes ix c) (groupsIn c m) starts (rowsIn (take (7 * k.edges) rows))
           (faceLoopsIn items stretches faces) (membersIn m) (keptIn g.kept kept) (lumps ns)
 
       body-is : body ≡ bodyOf j x ns
@@ -156,7 +160,7 @@ module _ (bytes ix : List ℕ) {c : Counts} {us : List Use} {ts : List ℕ} {m :
       body-is = λ i.
           solidBody
           (record { solid = true; uses = (eu ∙ ap length H.uses) i; removed = H.removed i; passed = H.passed i; joins = k.joins; rings = k.rings; faceJoins = H.face-joins i })
-          (facesIn bytes ix c) (H.starts-are i) (rows_to rows k.edges) (faceLoopsIn items stretches faces) (H.members i) (H.vertices i) (lumps ns)
+          (facesIn bytes ix c) (H.groups i) (H.starts-are i) (rows_to rows k.edges) (faceLoopsIn items stretches faces) (H.members i) (H.vertices i) (lumps ns)
 
       pub lumps-on : (after : List ℕ) (r : Ending) → q ≡ Done → Ends (fitting (length out) (framedAll (bodyRecords body))) out after r → Ends (afterNesting stage j x (length out) ns) out after r
       lumps-on after r d z =

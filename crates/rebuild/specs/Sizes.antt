@@ -25,7 +25,7 @@ use Rattle.edges.specs.Made.{Mated}
 use Rattle.maximal_edges.specs.Joined.{edgesIn as rows_to}
 use Rattle.progress.specs.declared.Faces.{Faces}
 use Rattle.progress.specs.declared.Figures.{Figures}
-use Rattle.progress.specs.Known.{boundariesIn, membersIn, walkedIn, Settled}
+use Rattle.progress.specs.Known.{boundariesIn, groupsIn, membersIn, walkedIn, Settled}
 use Rattle.progress.specs.KnownLaws.{opened-limited, paired-few, paired-twins, bounded-lowest, settled-ground, settled-linked, settled-permuted}
 use Rattle.progress.specs.Parts.{zeros, zeros-first, part-size, part-at}
 use Rattle.rebuild.specs.Lined.{Linable}
@@ -44,6 +44,7 @@ pub record Sizes (bytes ix : List ℕ) (c : Counts) (us : List Use) (m : Faces) 
   pub uses : length us ≤ 2048
   pub lowest : Lowest (boundariesIn c m)
   pub boundaries : length m.boundaries ≡ 256
+  pub groups : length m.groups ≡ 256
   pub members : length m.members ≡ 256
   pub merged : m.merged ≤ 256
   pub kept : g.kept ≤ 1024
@@ -55,6 +56,7 @@ pub record Holds (c : Counts) (us : List Use) (ts : List ℕ) (m : Faces) (kept 
   pub uses : us ≡ f.walk.uses
   pub twins : ts ≡ f.walk.twins
   pub boundaries : boundariesIn c m ≡ f.walk.merge.boundaries
+  pub groups : groupsIn c m ≡ f.walk.merge.groups
   pub members : membersIn m ≡ lowestMembers f.walk.merge.groups
   pub face-joins : m.joins ≡ f.walk.merge.joins
   pub vertices : keptIn g.kept kept ≡ f.walk.vertexLoops
@@ -217,6 +219,7 @@ module _ {bytes ix : List ℕ} {c : Counts} {us : List Use} {ts : List ℕ} {m :
     uses = settled-few S;
     lowest = settled-lowest S;
     boundaries = S.grouped.boundaries-size;
+    groups = S.grouped.groups-size;
     members = S.grouped.members-size;
     merged = S.grouped.few;
     kept = omega (arith, S.few, (settled-limited S).loops);
@@ -230,6 +233,7 @@ module _ {bytes ix : List ℕ} {c : Counts} {us : List Use} {ts : List ℕ} {m :
     uses = refl;
     twins = refl;
     boundaries = refl;
+    groups = refl;
     members = S.grouped.lowest;
     face-joins = refl;
     vertices = refl;

@@ -154,6 +154,7 @@ fn on_nested(
     ensures { (f : Fanned) → Holds c (usesIn uses.now) twins.now m kept.now g names.now starts.now f → Ends (afterNesting stage (jobIn job.now index.now c) (record { fan = f; joining = stateIn rows.now k.edges items.now stretches.now faces.now k.joins k.rings }) (length out.old) (nestedIn (boundariesIn c m) (membersIn m) n table.now)) out.old out.new result }
 {
     let boundaries = m.boundaries;
+    let groups = m.groups;
     let members = m.members;
     if stage == LUMPS {
         return write_lumps(&boundaries[..c.faces], &members[..m.merged], table, n, out);
@@ -178,6 +179,7 @@ fn on_nested(
         job,
         index,
         c,
+        &groups[..c.faces],
         starts,
         &rows[..7 * k.edges],
         items,

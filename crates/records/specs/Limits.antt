@@ -21,7 +21,7 @@ whole-fields Unknown size e = absurd (false≢true e)
 whole-fields Head size e = long size 1 e
 whole-fields Vertex size e = long size 1 e
 whole-fields EdgeRecord size e = long size 4 e
-whole-fields FaceRecord size e = long size 3 e
+whole-fields FaceRecord size e = long size 5 e
 whole-fields LoopRecord size e = let q = eqb-true (size % 8) 0 (and-both (ltb 0 size) (eqb (size % 8) 0) e).1 in omega arith
 whole-fields VertexLoop size e = long size 1 e
 whole-fields Radial size e = let q = eqb-true (size % 4) 0 (and-both (ltb 0 size) (eqb (size % 4) 0) e).1 in omega arith

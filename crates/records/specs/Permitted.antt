@@ -9,7 +9,7 @@ use Rattle.rules.specs.declared.Kind.TheVariants.{Unknown, Head, Vertex, EdgeRec
 use Rattle.rules.specs.declared.Counts.{Counts}
 use Rattle.rules.specs.Fields.{le32, fieldsIn, field}
 use Rattle.rules.specs.FieldLaws.{field-in, fields-first, pair-more}
-use Rattle.rules.specs.Kinds.{isSense, exists, endsPermitted, itemsPermitted, fieldsPermitted, rightLength}
+use Rattle.rules.specs.Kinds.{isSense, isBody, exists, endsPermitted, itemsPermitted, fieldsPermitted, rightLength}
 
 -- the fields of a record with n fields, whose payload stands at p, are permitted
 unfoldable pub permittedAt : Kind → Counts → List ℕ → ℕ → ℕ → Bool
@@ -17,7 +17,7 @@ permittedAt Unknown c s p n = false
 permittedAt Head c s p n = leb (le32 s p) 1
 permittedAt Vertex c s p n = true
 permittedAt EdgeRecord c s p n = isSense (le32 s (p + 4)) && endsPermitted c.vertices (le32 s (p + 8)) (le32 s (p + 12))
-permittedAt FaceRecord c s p n = isSense (le32 s (p + 4)) && isSense (le32 s (p + 8))
+permittedAt FaceRecord c s p n = isSense (le32 s (p + 4)) && (isSense (le32 s (p + 8)) && isBody (le32 s (p + 12)))
 permittedAt LoopRecord c s p n = itemsPermitted c.edges (fieldsIn (2 * (n / 2)) (drop p s))
 permittedAt VertexLoop c s p n = exists c.vertices (le32 s p)
 permittedAt Radial c s p n = exists c.edges (le32 s p) && all (exists c.uses) (fieldsIn (n - 1) (drop (p + 4) s))
@@ -53,7 +53,7 @@ permitted-at Unknown c s p n e = refl
 permitted-at Head c s p n e = let q = long n 1 e in rw (first n s p (omega arith))
 permitted-at Vertex c s p n e = refl
 permitted-at EdgeRecord c s p n e = let q = long n 4 e in rw (later n s p 1 (omega arith), later n s p 2 (omega arith), later n s p 3 (omega arith))
-permitted-at FaceRecord c s p n e = let q = long n 3 e in rw (later n s p 1 (omega arith), later n s p 2 (omega arith))
+permitted-at FaceRecord c s p n e = let q = long n 5 e in rw (later n s p 1 (omega arith), later n s p 2 (omega arith), later n s p 3 (omega arith))
 permitted-at LoopRecord c s p n e =
     let q = and-both (ltb 0 (4 * n)) (eqb (4 * n % 8) 0) e in
     let h = eqb-true (4 * n % 8) 0 q.1 in

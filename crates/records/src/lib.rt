@@ -7,7 +7,7 @@ ghost use Rattle.lists.specs.Lists.{all, neighbours};
 ghost use Rattle.rules.specs.Fields.{le32, fieldsIn};
 ghost use Rattle.rules.specs.FieldLaws.{itemAt, itemsFrom};
 ghost use Rattle.rules.specs.Job.{ofRing};
-ghost use Rattle.rules.specs.Kinds.{isAnswer, inTurn, isSense, exists, endsPermitted, itemsPermitted, fieldsPermitted, rightLength, rightPosition, limitPassed};
+ghost use Rattle.rules.specs.Kinds.{isAnswer, inTurn, isSense, isBody, exists, endsPermitted, itemsPermitted, fieldsPermitted, rightLength, rightPosition, limitPassed};
 ghost use Rattle.rules.specs.Load.{joint, jointed as jointedOf, rightJoints, counted};
 ghost use Rattle.theorems.specs.Sound.{Limited};
 ghost use Rattle.job.specs.Lists.{pointsIn, edgesIn};
@@ -38,7 +38,7 @@ pub fn right_length(kind: Kind, size: usize) -> bool
         Kind::Head => size == 4,
         Kind::Vertex => size == 4,
         Kind::EdgeRecord => size == 16,
-        Kind::FaceRecord => size == 12,
+        Kind::FaceRecord => size == 20,
         Kind::LoopRecord => parts(size, 8),
         Kind::VertexLoop => size == 4,
         Kind::Radial => parts(size, 4),
@@ -266,12 +266,15 @@ fn edge_permitted(job: &[u8], vertices: usize, body: usize) -> bool
 
 fn face_permitted(job: &[u8], body: usize) -> bool
     requires { body < 2 ^ 59 }
-    ensures { result ≡ (isSense (le32 job.now (body + 4)) && isSense (le32 job.now (body + 8))) }
+    ensures { result ≡ (isSense (le32 job.now (body + 4)) && (isSense (le32 job.now (body + 8)) && isBody (le32 job.now (body + 12)))) }
 {
     if 1 < word(job, body + 4) {
         return false;
     }
-    word(job, body + 8) <= 1
+    if 1 < word(job, body + 8) {
+        return false;
+    }
+    word(job, body + 12) <= 1
 }
 
 // Each of n items names an edge and has a sense.

@@ -12,6 +12,7 @@ use Rattle.rules.specs.Sense.{senseNumber}
 use Rattle.rules.specs.Frame.{Record}
 use Rattle.rules.specs.Job.{unset, faceAt}
 use Rattle.rules.specs.Read.{storedSense}
+use Rattle.rules.specs.Groups.{membersOf}
 use Rattle.rules.specs.Fans.{fanPoint}
 use Rattle.rules.specs.Edges.{FaceLoop}
 use Rattle.rules.specs.Join.{activeEdges}
@@ -28,10 +29,16 @@ pub record Totals : Type 0 where
   pub rings : ℕ
   pub faceJoins : ℕ
 
--- Body records, 24 to 26: a face with its loops and the points of its vertex loops
+-- document 02, Seven: a member of a face, by its body and its source face number
+pub record Member : Type 0 where
+  pub body : ℕ
+  pub source : ℕ
+
+-- Body records, 24 to 26: a face with its members, its loops and the points of its vertex loops
 pub record BodyFace : Type 0 where
   pub surface : ℕ
   pub sense : Sense
+  pub members : List Member
   pub loops : List (List Item)
   pub points : List ℕ
 
@@ -71,33 +78,38 @@ loopsIn actives ls f = map (λ l. map (renumbered actives) l.items) (keep (λ l.
 abbrev pub pointsIn : List KeptVertexLoop → ℕ → List ℕ
 pointsIn ks f = map (λ k. k.point) (keep (λ k. eqb k.face f) ks)
 
--- merged face f, with surface and stored sense of its lowest member
-unfoldable pub bodyFace : List Face → List ℕ → List FaceLoop → List KeptVertexLoop → ℕ → ℕ → BodyFace
-bodyFace fs actives ls ks f member = record {
+-- selected face i as a member
+abbrev pub memberAt : List Face → ℕ → Member
+memberAt fs i = record { body = (faceAt fs i).body; source = (faceAt fs i).source }
+
+-- merged face f, with surface and stored sense of its lowest member, and the selected faces of its group, ascending
+unfoldable pub bodyFace : List Face → List ℕ → List ℕ → List FaceLoop → List KeptVertexLoop → ℕ → ℕ → BodyFace
+bodyFace fs groups actives ls ks f member = record {
   surface = (faceAt fs member).surface;
   sense = storedSense (faceAt fs member);
+  members = map (memberAt fs) (membersOf groups member);
   loops = loopsIn actives ls f;
   points = pointsIn ks f;
 }
 
 -- the merged faces, numbered from f, by their lowest members
-unfoldable pub bodyFaces : List Face → List ℕ → List FaceLoop → List KeptVertexLoop → ℕ → List ℕ → List BodyFace
-bodyFaces fs actives ls ks f [] = []
-bodyFaces fs actives ls ks f (member ∷ more) = bodyFace fs actives ls ks f member ∷ bodyFaces fs actives ls ks (suc f) more
+unfoldable pub bodyFaces : List Face → List ℕ → List ℕ → List FaceLoop → List KeptVertexLoop → ℕ → List ℕ → List BodyFace
+bodyFaces fs groups actives ls ks f [] = []
+bodyFaces fs groups actives ls ks f (member ∷ more) = bodyFace fs groups actives ls ks f member ∷ bodyFaces fs groups actives ls ks (suc f) more
 
 -- the active edges
 abbrev pub stillActive : List EdgeData → List EdgeData
 stillActive es = keep (λ e. e.active) es
 
 -- the body of a job with faces
-unfoldable pub solidBody : Totals → List Face → List ℕ → List EdgeData → List FaceLoop → List ℕ → List KeptVertexLoop → List (List (List ℕ)) → Body
-solidBody totals fs starts es ls members ks lumps =
+unfoldable pub solidBody : Totals → List Face → List ℕ → List ℕ → List EdgeData → List FaceLoop → List ℕ → List KeptVertexLoop → List (List (List ℕ)) → Body
+solidBody totals fs groups starts es ls members ks lumps =
     let met = metFans (stillActive es) in
     record {
       totals = totals;
       vertices = map (fanPoint starts) met;
       edges = map (withVertices met) (stillActive es);
-      faces = bodyFaces fs (activeEdges es) ls ks 0 members;
+      faces = bodyFaces fs groups (activeEdges es) ls ks 0 members;
       lumps = lumps;
     }
 
@@ -144,9 +156,16 @@ loopRecord xs = rec 25 (flat_map itemFields xs)
 abbrev pub vertexLoopRecord : ℕ → Record
 vertexLoopRecord point = rec 26 (point ∷ [])
 
--- Body records, 24 Face (surface, sense): a face's loops follow it, vertex loops last
+-- document 02, Seven: 29 Members (body, source face number of each member)
+abbrev pub memberFields : Member → List ℕ
+memberFields m = m.body ∷ m.source ∷ []
+
+abbrev pub membersRecord : List Member → Record
+membersRecord ms = rec 29 (flat_map memberFields ms)
+
+-- Body records, 24 Face (surface, sense): a face's loops follow it, vertex loops last; document 02, Seven: before them, directly, its members
 unfoldable pub faceRecords : BodyFace → List Record
-faceRecords f = rec 24 (f.surface ∷ senseNumber f.sense ∷ []) ∷ (map loopRecord f.loops ++ map vertexLoopRecord f.points)
+faceRecords f = rec 24 (f.surface ∷ senseNumber f.sense ∷ []) ∷ membersRecord f.members ∷ (map loopRecord f.loops ++ map vertexLoopRecord f.points)
 
 -- Body records, 27 Lump, no fields, and 28 Shell (faces): a lump's shells follow it
 unfoldable pub lumpRecords : List (List ℕ) → List Record

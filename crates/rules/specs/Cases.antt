@@ -124,7 +124,7 @@ looseLoop = record {
 unfoldable pub lateFace : Case
 lateFace = record {
   records =
-      rec 1 (1 ∷ []) ∷ rec 9 (1 ∷ 2 ∷ 0 ∷ []) ∷ rec 4 (7 ∷ 0 ∷ 0 ∷ []) ∷ [];
+      rec 1 (1 ∷ []) ∷ rec 9 (1 ∷ 2 ∷ 0 ∷ []) ∷ rec 4 (7 ∷ 0 ∷ 0 ∷ 0 ∷ 0 ∷ []) ∷ [];
   damaged = [];
   room = 65536;
   ending = refuse 3 28;
@@ -134,20 +134,20 @@ lateFace = record {
 unfoldable pub emptyLoop : Case
 emptyLoop = record {
   records =
-      rec 1 (1 ∷ []) ∷ rec 4 (7 ∷ 0 ∷ 0 ∷ []) ∷ rec 5 [] ∷ [];
+      rec 1 (1 ∷ []) ∷ rec 4 (7 ∷ 0 ∷ 0 ∷ 0 ∷ 0 ∷ []) ∷ rec 5 [] ∷ [];
   damaged = [];
   room = 65536;
-  ending = refuse 3 28;
+  ending = refuse 3 36;
 }
 
 -- loop of one field
 unfoldable pub oddLoop : Case
 oddLoop = record {
   records =
-      rec 1 (1 ∷ []) ∷ rec 4 (7 ∷ 0 ∷ 0 ∷ []) ∷ rec 5 (0 ∷ []) ∷ [];
+      rec 1 (1 ∷ []) ∷ rec 4 (7 ∷ 0 ∷ 0 ∷ 0 ∷ 0 ∷ []) ∷ rec 5 (0 ∷ []) ∷ [];
   damaged = [];
   room = 65536;
-  ending = refuse 3 28;
+  ending = refuse 3 36;
 }
 
 -- Head 2
@@ -184,7 +184,7 @@ edgeSense = record {
 unfoldable pub faceSense : Case
 faceSense = record {
   records =
-      rec 1 (1 ∷ []) ∷ rec 4 (7 ∷ 0 ∷ 2 ∷ []) ∷ [];
+      rec 1 (1 ∷ []) ∷ rec 4 (7 ∷ 0 ∷ 2 ∷ 0 ∷ 0 ∷ []) ∷ [];
   damaged = [];
   room = 65536;
   ending = refuse 4 10;
@@ -194,20 +194,20 @@ faceSense = record {
 unfoldable pub loopEdge : Case
 loopEdge = record {
   records =
-      rec 1 (1 ∷ []) ∷ rec 4 (7 ∷ 0 ∷ 0 ∷ []) ∷ rec 5 (0 ∷ 0 ∷ []) ∷ [];
+      rec 1 (1 ∷ []) ∷ rec 4 (7 ∷ 0 ∷ 0 ∷ 0 ∷ 0 ∷ []) ∷ rec 5 (0 ∷ 0 ∷ []) ∷ [];
   damaged = [];
   room = 65536;
-  ending = refuse 4 28;
+  ending = refuse 4 36;
 }
 
 -- no such vertex
 unfoldable pub loopVertex : Case
 loopVertex = record {
   records =
-      rec 1 (1 ∷ []) ∷ rec 4 (7 ∷ 0 ∷ 0 ∷ []) ∷ rec 6 (0 ∷ []) ∷ [];
+      rec 1 (1 ∷ []) ∷ rec 4 (7 ∷ 0 ∷ 0 ∷ 0 ∷ 0 ∷ []) ∷ rec 6 (0 ∷ []) ∷ [];
   damaged = [];
   room = 65536;
-  ending = refuse 4 28;
+  ending = refuse 4 36;
 }
 
 -- equal points
@@ -224,10 +224,10 @@ pointsEqual = record {
 unfoldable pub singularOrder : Case
 singularOrder = record {
   records =
-      rec 1 (1 ∷ []) ∷ rec 4 (7 ∷ 0 ∷ 0 ∷ []) ∷ rec 4 (8 ∷ 0 ∷ 0 ∷ []) ∷ rec 11 (5 ∷ 1 ∷ 1 ∷ 0 ∷ 0 ∷ []) ∷ [];
+      rec 1 (1 ∷ []) ∷ rec 4 (7 ∷ 0 ∷ 0 ∷ 0 ∷ 0 ∷ []) ∷ rec 4 (8 ∷ 0 ∷ 0 ∷ 0 ∷ 1 ∷ []) ∷ rec 11 (5 ∷ 1 ∷ 1 ∷ 0 ∷ 0 ∷ []) ∷ [];
   damaged = [];
   room = 65536;
-  ending = refuse 4 46;
+  ending = refuse 4 62;
 }
 
 -- a question answered before, in the other order
@@ -276,19 +276,20 @@ justRoom = record {
 unfoldable pub brokenJoint : Case
 brokenJoint = record {
   records =
-      rec 1 (1 ∷ []) ∷ rec 2 (0 ∷ []) ∷ rec 2 (1 ∷ []) ∷ rec 3 (5 ∷ 0 ∷ 0 ∷ 1 ∷ []) ∷ rec 3 (5 ∷ 0 ∷ 1 ∷ 0 ∷ []) ∷ rec 4 (7 ∷ 0 ∷ 0 ∷ []) ∷
+      rec 1 (1 ∷ []) ∷ rec 2 (0 ∷ []) ∷ rec 2 (1 ∷ []) ∷ rec 3 (5 ∷ 0 ∷ 0 ∷ 1 ∷ []) ∷ rec 3 (5 ∷ 0 ∷ 1 ∷ 0 ∷ []) ∷ rec 4 (7 ∷ 0 ∷ 0 ∷ 0 ∷ 0 ∷ []) ∷
       rec 5 (0 ∷ 0 ∷ 1 ∷ 1 ∷ []) ∷ [];
   damaged = [];
   room = 65536;
-  ending = refuse 6 92;
+  ending = refuse 6 100;
 }
 
 -- no radial answer
 unfoldable pub radialMissing : Case
 radialMissing = record {
   records =
-      rec 1 (1 ∷ []) ∷ rec 3 (5 ∷ 0 ∷ unset ∷ unset ∷ []) ∷ rec 4 (7 ∷ 0 ∷ 0 ∷ []) ∷ rec 5 (0 ∷ 0 ∷ []) ∷ rec 4 (8 ∷ 0 ∷ 0 ∷ []) ∷ rec 5 (0 ∷ 1 ∷ []) ∷
-      rec 4 (9 ∷ 0 ∷ 0 ∷ []) ∷ rec 5 (0 ∷ 0 ∷ []) ∷ rec 4 (10 ∷ 0 ∷ 0 ∷ []) ∷ rec 5 (0 ∷ 1 ∷ []) ∷ [];
+      rec 1 (1 ∷ []) ∷ rec 3 (5 ∷ 0 ∷ unset ∷ unset ∷ []) ∷ rec 4 (7 ∷ 0 ∷ 0 ∷ 0 ∷ 0 ∷ []) ∷ rec 5 (0 ∷ 0 ∷ []) ∷ rec 4 (8 ∷ 0 ∷ 0 ∷ 0 ∷ 1 ∷ []) ∷
+      rec 5 (0 ∷ 1 ∷ []) ∷
+      rec 4 (9 ∷ 0 ∷ 0 ∷ 0 ∷ 2 ∷ []) ∷ rec 5 (0 ∷ 0 ∷ []) ∷ rec 4 (10 ∷ 0 ∷ 0 ∷ 0 ∷ 3 ∷ []) ∷ rec 5 (0 ∷ 1 ∷ []) ∷ [];
   damaged = [];
   room = 65536;
   ending = refuse 20 7;
@@ -298,8 +299,9 @@ radialMissing = record {
 unfoldable pub radialOpen : Case
 radialOpen = record {
   records =
-      rec 1 (1 ∷ []) ∷ rec 3 (5 ∷ 0 ∷ unset ∷ unset ∷ []) ∷ rec 4 (7 ∷ 0 ∷ 0 ∷ []) ∷ rec 5 (0 ∷ 0 ∷ []) ∷ rec 4 (8 ∷ 0 ∷ 0 ∷ []) ∷ rec 5 (0 ∷ 1 ∷ []) ∷
-      rec 4 (9 ∷ 0 ∷ 0 ∷ []) ∷ rec 5 (0 ∷ 0 ∷ []) ∷ rec 4 (10 ∷ 0 ∷ 0 ∷ []) ∷ rec 5 (0 ∷ 1 ∷ []) ∷ rec 7 (0 ∷ []) ∷ [];
+      rec 1 (1 ∷ []) ∷ rec 3 (5 ∷ 0 ∷ unset ∷ unset ∷ []) ∷ rec 4 (7 ∷ 0 ∷ 0 ∷ 0 ∷ 0 ∷ []) ∷ rec 5 (0 ∷ 0 ∷ []) ∷ rec 4 (8 ∷ 0 ∷ 0 ∷ 0 ∷ 1 ∷ []) ∷
+      rec 5 (0 ∷ 1 ∷ []) ∷
+      rec 4 (9 ∷ 0 ∷ 0 ∷ 0 ∷ 2 ∷ []) ∷ rec 5 (0 ∷ 0 ∷ []) ∷ rec 4 (10 ∷ 0 ∷ 0 ∷ 0 ∷ 3 ∷ []) ∷ rec 5 (0 ∷ 1 ∷ []) ∷ rec 7 (0 ∷ []) ∷ [];
   damaged = [];
   room = 65536;
   ending = refuse 21 7;
@@ -309,8 +311,9 @@ radialOpen = record {
 unfoldable pub radialShort : Case
 radialShort = record {
   records =
-      rec 1 (1 ∷ []) ∷ rec 3 (5 ∷ 0 ∷ unset ∷ unset ∷ []) ∷ rec 4 (7 ∷ 0 ∷ 0 ∷ []) ∷ rec 5 (0 ∷ 0 ∷ []) ∷ rec 4 (8 ∷ 0 ∷ 0 ∷ []) ∷ rec 5 (0 ∷ 1 ∷ []) ∷
-      rec 4 (9 ∷ 0 ∷ 0 ∷ []) ∷ rec 5 (0 ∷ 0 ∷ []) ∷ rec 4 (10 ∷ 0 ∷ 0 ∷ []) ∷ rec 5 (0 ∷ 1 ∷ []) ∷ rec 7 (0 ∷ 0 ∷ 1 ∷ 2 ∷ []) ∷ [];
+      rec 1 (1 ∷ []) ∷ rec 3 (5 ∷ 0 ∷ unset ∷ unset ∷ []) ∷ rec 4 (7 ∷ 0 ∷ 0 ∷ 0 ∷ 0 ∷ []) ∷ rec 5 (0 ∷ 0 ∷ []) ∷ rec 4 (8 ∷ 0 ∷ 0 ∷ 0 ∷ 1 ∷ []) ∷
+      rec 5 (0 ∷ 1 ∷ []) ∷
+      rec 4 (9 ∷ 0 ∷ 0 ∷ 0 ∷ 2 ∷ []) ∷ rec 5 (0 ∷ 0 ∷ []) ∷ rec 4 (10 ∷ 0 ∷ 0 ∷ 0 ∷ 3 ∷ []) ∷ rec 5 (0 ∷ 1 ∷ []) ∷ rec 7 (0 ∷ 0 ∷ 1 ∷ 2 ∷ []) ∷ [];
   damaged = [];
   room = 65536;
   ending = refuse 23 0;
@@ -320,8 +323,9 @@ radialShort = record {
 unfoldable pub radialTwice : Case
 radialTwice = record {
   records =
-      rec 1 (1 ∷ []) ∷ rec 3 (5 ∷ 0 ∷ unset ∷ unset ∷ []) ∷ rec 4 (7 ∷ 0 ∷ 0 ∷ []) ∷ rec 5 (0 ∷ 0 ∷ []) ∷ rec 4 (8 ∷ 0 ∷ 0 ∷ []) ∷ rec 5 (0 ∷ 1 ∷ []) ∷
-      rec 4 (9 ∷ 0 ∷ 0 ∷ []) ∷ rec 5 (0 ∷ 0 ∷ []) ∷ rec 4 (10 ∷ 0 ∷ 0 ∷ []) ∷ rec 5 (0 ∷ 1 ∷ []) ∷ rec 7 (0 ∷ 0 ∷ 1 ∷ 2 ∷ 2 ∷ []) ∷ [];
+      rec 1 (1 ∷ []) ∷ rec 3 (5 ∷ 0 ∷ unset ∷ unset ∷ []) ∷ rec 4 (7 ∷ 0 ∷ 0 ∷ 0 ∷ 0 ∷ []) ∷ rec 5 (0 ∷ 0 ∷ []) ∷ rec 4 (8 ∷ 0 ∷ 0 ∷ 0 ∷ 1 ∷ []) ∷
+      rec 5 (0 ∷ 1 ∷ []) ∷
+      rec 4 (9 ∷ 0 ∷ 0 ∷ 0 ∷ 2 ∷ []) ∷ rec 5 (0 ∷ 0 ∷ []) ∷ rec 4 (10 ∷ 0 ∷ 0 ∷ 0 ∷ 3 ∷ []) ∷ rec 5 (0 ∷ 1 ∷ []) ∷ rec 7 (0 ∷ 0 ∷ 1 ∷ 2 ∷ 2 ∷ []) ∷ [];
   damaged = [];
   room = 65536;
   ending = refuse 23 0;
@@ -331,8 +335,9 @@ radialTwice = record {
 unfoldable pub sameSame : Case
 sameSame = record {
   records =
-      rec 1 (1 ∷ []) ∷ rec 3 (5 ∷ 0 ∷ unset ∷ unset ∷ []) ∷ rec 4 (7 ∷ 0 ∷ 0 ∷ []) ∷ rec 5 (0 ∷ 0 ∷ []) ∷ rec 4 (8 ∷ 0 ∷ 0 ∷ []) ∷ rec 5 (0 ∷ 1 ∷ []) ∷
-      rec 4 (9 ∷ 0 ∷ 0 ∷ []) ∷ rec 5 (0 ∷ 0 ∷ []) ∷ rec 4 (10 ∷ 0 ∷ 0 ∷ []) ∷ rec 5 (0 ∷ 1 ∷ []) ∷ rec 7 (0 ∷ 0 ∷ 2 ∷ 1 ∷ 3 ∷ []) ∷ [];
+      rec 1 (1 ∷ []) ∷ rec 3 (5 ∷ 0 ∷ unset ∷ unset ∷ []) ∷ rec 4 (7 ∷ 0 ∷ 0 ∷ 0 ∷ 0 ∷ []) ∷ rec 5 (0 ∷ 0 ∷ []) ∷ rec 4 (8 ∷ 0 ∷ 0 ∷ 0 ∷ 1 ∷ []) ∷
+      rec 5 (0 ∷ 1 ∷ []) ∷
+      rec 4 (9 ∷ 0 ∷ 0 ∷ 0 ∷ 2 ∷ []) ∷ rec 5 (0 ∷ 0 ∷ []) ∷ rec 4 (10 ∷ 0 ∷ 0 ∷ 0 ∷ 3 ∷ []) ∷ rec 5 (0 ∷ 1 ∷ []) ∷ rec 7 (0 ∷ 0 ∷ 2 ∷ 1 ∷ 3 ∷ []) ∷ [];
   damaged = [];
   room = 65536;
   ending = refuse 12 0;
@@ -342,8 +347,9 @@ sameSame = record {
 unfoldable pub loneUse : Case
 loneUse = record {
   records =
-      rec 1 (1 ∷ []) ∷ rec 3 (5 ∷ 0 ∷ unset ∷ unset ∷ []) ∷ rec 4 (7 ∷ 0 ∷ 0 ∷ []) ∷ rec 5 (0 ∷ 0 ∷ []) ∷ rec 4 (8 ∷ 0 ∷ 0 ∷ []) ∷ rec 5 (0 ∷ 1 ∷ []) ∷
-      rec 4 (9 ∷ 0 ∷ 0 ∷ []) ∷ rec 5 (0 ∷ 1 ∷ []) ∷ rec 4 (10 ∷ 0 ∷ 0 ∷ []) ∷ rec 5 (0 ∷ 1 ∷ []) ∷ rec 7 (0 ∷ 0 ∷ 1 ∷ 2 ∷ 3 ∷ []) ∷ [];
+      rec 1 (1 ∷ []) ∷ rec 3 (5 ∷ 0 ∷ unset ∷ unset ∷ []) ∷ rec 4 (7 ∷ 0 ∷ 0 ∷ 0 ∷ 0 ∷ []) ∷ rec 5 (0 ∷ 0 ∷ []) ∷ rec 4 (8 ∷ 0 ∷ 0 ∷ 0 ∷ 1 ∷ []) ∷
+      rec 5 (0 ∷ 1 ∷ []) ∷
+      rec 4 (9 ∷ 0 ∷ 0 ∷ 0 ∷ 2 ∷ []) ∷ rec 5 (0 ∷ 1 ∷ []) ∷ rec 4 (10 ∷ 0 ∷ 0 ∷ 0 ∷ 3 ∷ []) ∷ rec 5 (0 ∷ 1 ∷ []) ∷ rec 7 (0 ∷ 0 ∷ 1 ∷ 2 ∷ 3 ∷ []) ∷ [];
   damaged = [];
   room = 65536;
   ending = refuse 13 1;
@@ -353,8 +359,9 @@ loneUse = record {
 unfoldable pub threeUses : Case
 threeUses = record {
   records =
-      rec 1 (1 ∷ []) ∷ rec 3 (5 ∷ 0 ∷ unset ∷ unset ∷ []) ∷ rec 4 (7 ∷ 0 ∷ 0 ∷ []) ∷ rec 5 (0 ∷ 0 ∷ []) ∷ rec 4 (8 ∷ 0 ∷ 0 ∷ []) ∷ rec 5 (0 ∷ 1 ∷ []) ∷
-      rec 4 (9 ∷ 0 ∷ 0 ∷ []) ∷ rec 5 (0 ∷ 1 ∷ []) ∷ [];
+      rec 1 (1 ∷ []) ∷ rec 3 (5 ∷ 0 ∷ unset ∷ unset ∷ []) ∷ rec 4 (7 ∷ 0 ∷ 0 ∷ 0 ∷ 0 ∷ []) ∷ rec 5 (0 ∷ 0 ∷ []) ∷ rec 4 (8 ∷ 0 ∷ 0 ∷ 0 ∷ 1 ∷ []) ∷
+      rec 5 (0 ∷ 1 ∷ []) ∷
+      rec 4 (9 ∷ 0 ∷ 0 ∷ 0 ∷ 2 ∷ []) ∷ rec 5 (0 ∷ 1 ∷ []) ∷ [];
   damaged = [];
   room = 65536;
   ending = refuse 11 0;
@@ -364,7 +371,8 @@ threeUses = record {
 unfoldable pub surfaceMissing : Case
 surfaceMissing = record {
   records =
-      rec 1 (1 ∷ []) ∷ rec 3 (5 ∷ 0 ∷ unset ∷ unset ∷ []) ∷ rec 4 (7 ∷ 0 ∷ 0 ∷ []) ∷ rec 5 (0 ∷ 0 ∷ []) ∷ rec 4 (8 ∷ 0 ∷ 0 ∷ []) ∷ rec 5 (0 ∷ 1 ∷ []) ∷ [];
+      rec 1 (1 ∷ []) ∷ rec 3 (5 ∷ 0 ∷ unset ∷ unset ∷ []) ∷ rec 4 (7 ∷ 0 ∷ 0 ∷ 0 ∷ 0 ∷ []) ∷ rec 5 (0 ∷ 0 ∷ []) ∷ rec 4 (8 ∷ 0 ∷ 0 ∷ 0 ∷ 1 ∷ []) ∷
+      rec 5 (0 ∷ 1 ∷ []) ∷ [];
   damaged = [];
   room = 65536;
   ending = refuse 20 8;
@@ -374,7 +382,8 @@ surfaceMissing = record {
 unfoldable pub surfaceOpen : Case
 surfaceOpen = record {
   records =
-      rec 1 (1 ∷ []) ∷ rec 3 (5 ∷ 0 ∷ unset ∷ unset ∷ []) ∷ rec 4 (7 ∷ 0 ∷ 0 ∷ []) ∷ rec 5 (0 ∷ 0 ∷ []) ∷ rec 4 (8 ∷ 0 ∷ 0 ∷ []) ∷ rec 5 (0 ∷ 1 ∷ []) ∷
+      rec 1 (1 ∷ []) ∷ rec 3 (5 ∷ 0 ∷ unset ∷ unset ∷ []) ∷ rec 4 (7 ∷ 0 ∷ 0 ∷ 0 ∷ 0 ∷ []) ∷ rec 5 (0 ∷ 0 ∷ []) ∷ rec 4 (8 ∷ 0 ∷ 0 ∷ 0 ∷ 1 ∷ []) ∷
+      rec 5 (0 ∷ 1 ∷ []) ∷
       rec 8 (0 ∷ 4 ∷ []) ∷ [];
   damaged = [];
   room = 65536;
@@ -385,7 +394,8 @@ surfaceOpen = record {
 unfoldable pub surfaceVanish : Case
 surfaceVanish = record {
   records =
-      rec 1 (1 ∷ []) ∷ rec 3 (5 ∷ 0 ∷ unset ∷ unset ∷ []) ∷ rec 4 (7 ∷ 0 ∷ 0 ∷ []) ∷ rec 5 (0 ∷ 0 ∷ []) ∷ rec 4 (8 ∷ 0 ∷ 0 ∷ []) ∷ rec 5 (0 ∷ 1 ∷ []) ∷
+      rec 1 (1 ∷ []) ∷ rec 3 (5 ∷ 0 ∷ unset ∷ unset ∷ []) ∷ rec 4 (7 ∷ 0 ∷ 0 ∷ 0 ∷ 0 ∷ []) ∷ rec 5 (0 ∷ 0 ∷ []) ∷ rec 4 (8 ∷ 0 ∷ 0 ∷ 0 ∷ 1 ∷ []) ∷
+      rec 5 (0 ∷ 1 ∷ []) ∷
       rec 8 (0 ∷ 3 ∷ []) ∷ [];
   damaged = [];
   room = 65536;
@@ -396,14 +406,18 @@ surfaceVanish = record {
 unfoldable pub twoShells : Case
 twoShells = record {
   records =
-      rec 1 (1 ∷ []) ∷ rec 3 (5 ∷ 0 ∷ unset ∷ unset ∷ []) ∷ rec 4 (7 ∷ 0 ∷ 0 ∷ []) ∷ rec 5 (0 ∷ 0 ∷ []) ∷ rec 4 (8 ∷ 0 ∷ 0 ∷ []) ∷ rec 5 (0 ∷ 1 ∷ []) ∷
-      rec 4 (9 ∷ 0 ∷ 0 ∷ []) ∷ rec 5 (0 ∷ 0 ∷ []) ∷ rec 4 (10 ∷ 0 ∷ 0 ∷ []) ∷ rec 5 (0 ∷ 1 ∷ []) ∷ rec 7 (0 ∷ 0 ∷ 3 ∷ 2 ∷ 1 ∷ []) ∷ rec 8 (0 ∷ 0 ∷ []) ∷
+      rec 1 (1 ∷ []) ∷ rec 3 (5 ∷ 0 ∷ unset ∷ unset ∷ []) ∷ rec 4 (7 ∷ 0 ∷ 0 ∷ 0 ∷ 0 ∷ []) ∷ rec 5 (0 ∷ 0 ∷ []) ∷ rec 4 (8 ∷ 0 ∷ 0 ∷ 0 ∷ 1 ∷ []) ∷
+      rec 5 (0 ∷ 1 ∷ []) ∷
+      rec 4 (9 ∷ 0 ∷ 0 ∷ 0 ∷ 2 ∷ []) ∷ rec 5 (0 ∷ 0 ∷ []) ∷ rec 4 (10 ∷ 0 ∷ 0 ∷ 0 ∷ 3 ∷ []) ∷ rec 5 (0 ∷ 1 ∷ []) ∷ rec 7 (0 ∷ 0 ∷ 3 ∷ 2 ∷ 1 ∷ []) ∷
+      rec 8 (0 ∷ 0 ∷ []) ∷
       rec 8 (2 ∷ 0 ∷ []) ∷ [];
   damaged = [];
   room = 65536;
   ending = ok
       (rec 21 (1 ∷ 4 ∷ 0 ∷ 0 ∷ 0 ∷ 0 ∷ 0 ∷ []) ∷ rec 23 (5 ∷ 0 ∷ unset ∷ unset ∷ []) ∷ rec 23 (5 ∷ 0 ∷ unset ∷ unset ∷ []) ∷ rec 24 (7 ∷ 0 ∷ []) ∷
-      rec 25 (0 ∷ 0 ∷ []) ∷ rec 24 (8 ∷ 0 ∷ []) ∷ rec 25 (0 ∷ 1 ∷ []) ∷ rec 24 (9 ∷ 0 ∷ []) ∷ rec 25 (1 ∷ 0 ∷ []) ∷ rec 24 (10 ∷ 0 ∷ []) ∷
+      rec 29 (0 ∷ 0 ∷ []) ∷
+      rec 25 (0 ∷ 0 ∷ []) ∷ rec 24 (8 ∷ 0 ∷ []) ∷ rec 29 (0 ∷ 1 ∷ []) ∷ rec 25 (0 ∷ 1 ∷ []) ∷ rec 24 (9 ∷ 0 ∷ []) ∷ rec 29 (0 ∷ 2 ∷ []) ∷ rec 25 (1 ∷ 0 ∷ []) ∷
+      rec 24 (10 ∷ 0 ∷ []) ∷ rec 29 (0 ∷ 3 ∷ []) ∷
       rec 25 (1 ∷ 1 ∷ []) ∷ rec 27 [] ∷ rec 28 (0 ∷ 1 ∷ []) ∷ rec 27 [] ∷ rec 28 (2 ∷ 3 ∷ []) ∷ []);
 }
 
@@ -411,8 +425,10 @@ twoShells = record {
 unfoldable pub orientMissing : Case
 orientMissing = record {
   records =
-      rec 1 (0 ∷ []) ∷ rec 3 (5 ∷ 0 ∷ unset ∷ unset ∷ []) ∷ rec 4 (7 ∷ 0 ∷ 0 ∷ []) ∷ rec 5 (0 ∷ 0 ∷ []) ∷ rec 4 (8 ∷ 0 ∷ 0 ∷ []) ∷ rec 5 (0 ∷ 1 ∷ []) ∷
-      rec 4 (9 ∷ 0 ∷ 0 ∷ []) ∷ rec 5 (0 ∷ 0 ∷ []) ∷ rec 4 (10 ∷ 0 ∷ 0 ∷ []) ∷ rec 5 (0 ∷ 1 ∷ []) ∷ rec 7 (0 ∷ 0 ∷ 3 ∷ 2 ∷ 1 ∷ []) ∷ rec 8 (0 ∷ 0 ∷ []) ∷
+      rec 1 (0 ∷ []) ∷ rec 3 (5 ∷ 0 ∷ unset ∷ unset ∷ []) ∷ rec 4 (7 ∷ 0 ∷ 0 ∷ 0 ∷ 0 ∷ []) ∷ rec 5 (0 ∷ 0 ∷ []) ∷ rec 4 (8 ∷ 0 ∷ 0 ∷ 0 ∷ 1 ∷ []) ∷
+      rec 5 (0 ∷ 1 ∷ []) ∷
+      rec 4 (9 ∷ 0 ∷ 0 ∷ 0 ∷ 2 ∷ []) ∷ rec 5 (0 ∷ 0 ∷ []) ∷ rec 4 (10 ∷ 0 ∷ 0 ∷ 0 ∷ 3 ∷ []) ∷ rec 5 (0 ∷ 1 ∷ []) ∷ rec 7 (0 ∷ 0 ∷ 3 ∷ 2 ∷ 1 ∷ []) ∷
+      rec 8 (0 ∷ 0 ∷ []) ∷
       rec 8 (2 ∷ 0 ∷ []) ∷ [];
   damaged = [];
   room = 65536;
@@ -423,8 +439,10 @@ orientMissing = record {
 unfoldable pub orientSecond : Case
 orientSecond = record {
   records =
-      rec 1 (0 ∷ []) ∷ rec 3 (5 ∷ 0 ∷ unset ∷ unset ∷ []) ∷ rec 4 (7 ∷ 0 ∷ 0 ∷ []) ∷ rec 5 (0 ∷ 0 ∷ []) ∷ rec 4 (8 ∷ 0 ∷ 0 ∷ []) ∷ rec 5 (0 ∷ 1 ∷ []) ∷
-      rec 4 (9 ∷ 0 ∷ 0 ∷ []) ∷ rec 5 (0 ∷ 0 ∷ []) ∷ rec 4 (10 ∷ 0 ∷ 0 ∷ []) ∷ rec 5 (0 ∷ 1 ∷ []) ∷ rec 7 (0 ∷ 0 ∷ 3 ∷ 2 ∷ 1 ∷ []) ∷ rec 8 (0 ∷ 0 ∷ []) ∷
+      rec 1 (0 ∷ []) ∷ rec 3 (5 ∷ 0 ∷ unset ∷ unset ∷ []) ∷ rec 4 (7 ∷ 0 ∷ 0 ∷ 0 ∷ 0 ∷ []) ∷ rec 5 (0 ∷ 0 ∷ []) ∷ rec 4 (8 ∷ 0 ∷ 0 ∷ 0 ∷ 1 ∷ []) ∷
+      rec 5 (0 ∷ 1 ∷ []) ∷
+      rec 4 (9 ∷ 0 ∷ 0 ∷ 0 ∷ 2 ∷ []) ∷ rec 5 (0 ∷ 0 ∷ []) ∷ rec 4 (10 ∷ 0 ∷ 0 ∷ 0 ∷ 3 ∷ []) ∷ rec 5 (0 ∷ 1 ∷ []) ∷ rec 7 (0 ∷ 0 ∷ 3 ∷ 2 ∷ 1 ∷ []) ∷
+      rec 8 (0 ∷ 0 ∷ []) ∷
       rec 8 (2 ∷ 0 ∷ []) ∷ rec 12 (0 ∷ 1 ∷ []) ∷ rec 12 (2 ∷ 2 ∷ []) ∷ [];
   damaged = [];
   room = 65536;
@@ -435,8 +453,10 @@ orientSecond = record {
 unfoldable pub voidAlone : Case
 voidAlone = record {
   records =
-      rec 1 (0 ∷ []) ∷ rec 3 (5 ∷ 0 ∷ unset ∷ unset ∷ []) ∷ rec 4 (7 ∷ 0 ∷ 0 ∷ []) ∷ rec 5 (0 ∷ 0 ∷ []) ∷ rec 4 (8 ∷ 0 ∷ 0 ∷ []) ∷ rec 5 (0 ∷ 1 ∷ []) ∷
-      rec 4 (9 ∷ 0 ∷ 0 ∷ []) ∷ rec 5 (0 ∷ 0 ∷ []) ∷ rec 4 (10 ∷ 0 ∷ 0 ∷ []) ∷ rec 5 (0 ∷ 1 ∷ []) ∷ rec 7 (0 ∷ 0 ∷ 3 ∷ 2 ∷ 1 ∷ []) ∷ rec 8 (0 ∷ 0 ∷ []) ∷
+      rec 1 (0 ∷ []) ∷ rec 3 (5 ∷ 0 ∷ unset ∷ unset ∷ []) ∷ rec 4 (7 ∷ 0 ∷ 0 ∷ 0 ∷ 0 ∷ []) ∷ rec 5 (0 ∷ 0 ∷ []) ∷ rec 4 (8 ∷ 0 ∷ 0 ∷ 0 ∷ 1 ∷ []) ∷
+      rec 5 (0 ∷ 1 ∷ []) ∷
+      rec 4 (9 ∷ 0 ∷ 0 ∷ 0 ∷ 2 ∷ []) ∷ rec 5 (0 ∷ 0 ∷ []) ∷ rec 4 (10 ∷ 0 ∷ 0 ∷ 0 ∷ 3 ∷ []) ∷ rec 5 (0 ∷ 1 ∷ []) ∷ rec 7 (0 ∷ 0 ∷ 3 ∷ 2 ∷ 1 ∷ []) ∷
+      rec 8 (0 ∷ 0 ∷ []) ∷
       rec 8 (2 ∷ 0 ∷ []) ∷ rec 12 (0 ∷ 0 ∷ []) ∷ rec 12 (2 ∷ 0 ∷ []) ∷ [];
   damaged = [];
   room = 65536;
@@ -447,8 +467,10 @@ voidAlone = record {
 unfoldable pub insideMissing : Case
 insideMissing = record {
   records =
-      rec 1 (0 ∷ []) ∷ rec 3 (5 ∷ 0 ∷ unset ∷ unset ∷ []) ∷ rec 4 (7 ∷ 0 ∷ 0 ∷ []) ∷ rec 5 (0 ∷ 0 ∷ []) ∷ rec 4 (8 ∷ 0 ∷ 0 ∷ []) ∷ rec 5 (0 ∷ 1 ∷ []) ∷
-      rec 4 (9 ∷ 0 ∷ 0 ∷ []) ∷ rec 5 (0 ∷ 0 ∷ []) ∷ rec 4 (10 ∷ 0 ∷ 0 ∷ []) ∷ rec 5 (0 ∷ 1 ∷ []) ∷ rec 7 (0 ∷ 0 ∷ 3 ∷ 2 ∷ 1 ∷ []) ∷ rec 8 (0 ∷ 0 ∷ []) ∷
+      rec 1 (0 ∷ []) ∷ rec 3 (5 ∷ 0 ∷ unset ∷ unset ∷ []) ∷ rec 4 (7 ∷ 0 ∷ 0 ∷ 0 ∷ 0 ∷ []) ∷ rec 5 (0 ∷ 0 ∷ []) ∷ rec 4 (8 ∷ 0 ∷ 0 ∷ 0 ∷ 1 ∷ []) ∷
+      rec 5 (0 ∷ 1 ∷ []) ∷
+      rec 4 (9 ∷ 0 ∷ 0 ∷ 0 ∷ 2 ∷ []) ∷ rec 5 (0 ∷ 0 ∷ []) ∷ rec 4 (10 ∷ 0 ∷ 0 ∷ 0 ∷ 3 ∷ []) ∷ rec 5 (0 ∷ 1 ∷ []) ∷ rec 7 (0 ∷ 0 ∷ 3 ∷ 2 ∷ 1 ∷ []) ∷
+      rec 8 (0 ∷ 0 ∷ []) ∷
       rec 8 (2 ∷ 0 ∷ []) ∷ rec 12 (0 ∷ 1 ∷ []) ∷ rec 12 (2 ∷ 0 ∷ []) ∷ [];
   damaged = [];
   room = 65536;
@@ -459,8 +481,10 @@ insideMissing = record {
 unfoldable pub notInside : Case
 notInside = record {
   records =
-      rec 1 (0 ∷ []) ∷ rec 3 (5 ∷ 0 ∷ unset ∷ unset ∷ []) ∷ rec 4 (7 ∷ 0 ∷ 0 ∷ []) ∷ rec 5 (0 ∷ 0 ∷ []) ∷ rec 4 (8 ∷ 0 ∷ 0 ∷ []) ∷ rec 5 (0 ∷ 1 ∷ []) ∷
-      rec 4 (9 ∷ 0 ∷ 0 ∷ []) ∷ rec 5 (0 ∷ 0 ∷ []) ∷ rec 4 (10 ∷ 0 ∷ 0 ∷ []) ∷ rec 5 (0 ∷ 1 ∷ []) ∷ rec 7 (0 ∷ 0 ∷ 3 ∷ 2 ∷ 1 ∷ []) ∷ rec 8 (0 ∷ 0 ∷ []) ∷
+      rec 1 (0 ∷ []) ∷ rec 3 (5 ∷ 0 ∷ unset ∷ unset ∷ []) ∷ rec 4 (7 ∷ 0 ∷ 0 ∷ 0 ∷ 0 ∷ []) ∷ rec 5 (0 ∷ 0 ∷ []) ∷ rec 4 (8 ∷ 0 ∷ 0 ∷ 0 ∷ 1 ∷ []) ∷
+      rec 5 (0 ∷ 1 ∷ []) ∷
+      rec 4 (9 ∷ 0 ∷ 0 ∷ 0 ∷ 2 ∷ []) ∷ rec 5 (0 ∷ 0 ∷ []) ∷ rec 4 (10 ∷ 0 ∷ 0 ∷ 0 ∷ 3 ∷ []) ∷ rec 5 (0 ∷ 1 ∷ []) ∷ rec 7 (0 ∷ 0 ∷ 3 ∷ 2 ∷ 1 ∷ []) ∷
+      rec 8 (0 ∷ 0 ∷ []) ∷
       rec 8 (2 ∷ 0 ∷ []) ∷ rec 12 (0 ∷ 1 ∷ []) ∷ rec 12 (2 ∷ 0 ∷ []) ∷ rec 13 (2 ∷ 0 ∷ 0 ∷ []) ∷ [];
   damaged = [];
   room = 65536;
@@ -471,8 +495,10 @@ notInside = record {
 unfoldable pub edgeInLump : Case
 edgeInLump = record {
   records =
-      rec 1 (0 ∷ []) ∷ rec 3 (5 ∷ 0 ∷ unset ∷ unset ∷ []) ∷ rec 4 (7 ∷ 0 ∷ 0 ∷ []) ∷ rec 5 (0 ∷ 0 ∷ []) ∷ rec 4 (8 ∷ 0 ∷ 0 ∷ []) ∷ rec 5 (0 ∷ 1 ∷ []) ∷
-      rec 4 (9 ∷ 0 ∷ 0 ∷ []) ∷ rec 5 (0 ∷ 0 ∷ []) ∷ rec 4 (10 ∷ 0 ∷ 0 ∷ []) ∷ rec 5 (0 ∷ 1 ∷ []) ∷ rec 7 (0 ∷ 0 ∷ 3 ∷ 2 ∷ 1 ∷ []) ∷ rec 8 (0 ∷ 0 ∷ []) ∷
+      rec 1 (0 ∷ []) ∷ rec 3 (5 ∷ 0 ∷ unset ∷ unset ∷ []) ∷ rec 4 (7 ∷ 0 ∷ 0 ∷ 0 ∷ 0 ∷ []) ∷ rec 5 (0 ∷ 0 ∷ []) ∷ rec 4 (8 ∷ 0 ∷ 0 ∷ 0 ∷ 1 ∷ []) ∷
+      rec 5 (0 ∷ 1 ∷ []) ∷
+      rec 4 (9 ∷ 0 ∷ 0 ∷ 0 ∷ 2 ∷ []) ∷ rec 5 (0 ∷ 0 ∷ []) ∷ rec 4 (10 ∷ 0 ∷ 0 ∷ 0 ∷ 3 ∷ []) ∷ rec 5 (0 ∷ 1 ∷ []) ∷ rec 7 (0 ∷ 0 ∷ 3 ∷ 2 ∷ 1 ∷ []) ∷
+      rec 8 (0 ∷ 0 ∷ []) ∷
       rec 8 (2 ∷ 0 ∷ []) ∷ rec 12 (0 ∷ 1 ∷ []) ∷ rec 12 (2 ∷ 0 ∷ []) ∷ rec 13 (2 ∷ 0 ∷ 1 ∷ []) ∷ [];
   damaged = [];
   room = 65536;
@@ -483,9 +509,9 @@ edgeInLump = record {
 unfoldable pub edgeInBound : Case
 edgeInBound = record {
   records =
-      rec 1 (1 ∷ []) ∷ rec 3 (5 ∷ 0 ∷ unset ∷ unset ∷ []) ∷ rec 3 (6 ∷ 0 ∷ unset ∷ unset ∷ []) ∷ rec 4 (7 ∷ 0 ∷ 0 ∷ []) ∷ rec 5 (0 ∷ 0 ∷ []) ∷
-      rec 5 (1 ∷ 0 ∷ []) ∷ rec 4 (8 ∷ 0 ∷ 0 ∷ []) ∷ rec 5 (0 ∷ 1 ∷ []) ∷ rec 4 (9 ∷ 0 ∷ 0 ∷ []) ∷ rec 5 (0 ∷ 0 ∷ []) ∷ rec 5 (1 ∷ 1 ∷ []) ∷
-      rec 4 (10 ∷ 0 ∷ 0 ∷ []) ∷ rec 5 (0 ∷ 1 ∷ []) ∷ rec 7 (0 ∷ 0 ∷ 5 ∷ 3 ∷ 2 ∷ []) ∷ rec 8 (0 ∷ 0 ∷ []) ∷ rec 8 (1 ∷ 0 ∷ []) ∷ rec 8 (3 ∷ 0 ∷ []) ∷ [];
+      rec 1 (1 ∷ []) ∷ rec 3 (5 ∷ 0 ∷ unset ∷ unset ∷ []) ∷ rec 3 (6 ∷ 0 ∷ unset ∷ unset ∷ []) ∷ rec 4 (7 ∷ 0 ∷ 0 ∷ 0 ∷ 0 ∷ []) ∷ rec 5 (0 ∷ 0 ∷ []) ∷
+      rec 5 (1 ∷ 0 ∷ []) ∷ rec 4 (8 ∷ 0 ∷ 0 ∷ 0 ∷ 1 ∷ []) ∷ rec 5 (0 ∷ 1 ∷ []) ∷ rec 4 (9 ∷ 0 ∷ 0 ∷ 0 ∷ 2 ∷ []) ∷ rec 5 (0 ∷ 0 ∷ []) ∷ rec 5 (1 ∷ 1 ∷ []) ∷
+      rec 4 (10 ∷ 0 ∷ 0 ∷ 0 ∷ 3 ∷ []) ∷ rec 5 (0 ∷ 1 ∷ []) ∷ rec 7 (0 ∷ 0 ∷ 5 ∷ 3 ∷ 2 ∷ []) ∷ rec 8 (0 ∷ 0 ∷ []) ∷ rec 8 (1 ∷ 0 ∷ []) ∷ rec 8 (3 ∷ 0 ∷ []) ∷ [];
   damaged = [];
   room = 65536;
   ending = refuse 30 0;
@@ -495,8 +521,8 @@ edgeInBound = record {
 unfoldable pub pointInBound : Case
 pointInBound = record {
   records =
-      rec 1 (1 ∷ []) ∷ rec 2 (4 ∷ []) ∷ rec 2 (4 ∷ []) ∷ rec 3 (5 ∷ 0 ∷ 0 ∷ 0 ∷ []) ∷ rec 3 (6 ∷ 0 ∷ 1 ∷ 1 ∷ []) ∷ rec 4 (7 ∷ 0 ∷ 0 ∷ []) ∷
-      rec 5 (0 ∷ 0 ∷ []) ∷ rec 5 (1 ∷ 0 ∷ []) ∷ rec 4 (8 ∷ 0 ∷ 0 ∷ []) ∷ rec 5 (0 ∷ 1 ∷ []) ∷ rec 5 (1 ∷ 1 ∷ []) ∷ rec 8 (0 ∷ 0 ∷ []) ∷
+      rec 1 (1 ∷ []) ∷ rec 2 (4 ∷ []) ∷ rec 2 (4 ∷ []) ∷ rec 3 (5 ∷ 0 ∷ 0 ∷ 0 ∷ []) ∷ rec 3 (6 ∷ 0 ∷ 1 ∷ 1 ∷ []) ∷ rec 4 (7 ∷ 0 ∷ 0 ∷ 0 ∷ 0 ∷ []) ∷
+      rec 5 (0 ∷ 0 ∷ []) ∷ rec 5 (1 ∷ 0 ∷ []) ∷ rec 4 (8 ∷ 0 ∷ 0 ∷ 0 ∷ 1 ∷ []) ∷ rec 5 (0 ∷ 1 ∷ []) ∷ rec 5 (1 ∷ 1 ∷ []) ∷ rec 8 (0 ∷ 0 ∷ []) ∷
       rec 8 (1 ∷ 0 ∷ []) ∷ [];
   damaged = [];
   room = 65536;
@@ -507,8 +533,9 @@ pointInBound = record {
 unfoldable pub singularMissing : Case
 singularMissing = record {
   records =
-      rec 1 (1 ∷ []) ∷ rec 2 (4 ∷ []) ∷ rec 2 (4 ∷ []) ∷ rec 3 (5 ∷ 0 ∷ 0 ∷ 0 ∷ []) ∷ rec 3 (6 ∷ 0 ∷ 1 ∷ 1 ∷ []) ∷ rec 4 (7 ∷ 0 ∷ 0 ∷ []) ∷
-      rec 5 (0 ∷ 0 ∷ []) ∷ rec 4 (8 ∷ 0 ∷ 0 ∷ []) ∷ rec 5 (0 ∷ 1 ∷ []) ∷ rec 4 (9 ∷ 0 ∷ 0 ∷ []) ∷ rec 5 (1 ∷ 0 ∷ []) ∷ rec 4 (10 ∷ 0 ∷ 0 ∷ []) ∷
+      rec 1 (1 ∷ []) ∷ rec 2 (4 ∷ []) ∷ rec 2 (4 ∷ []) ∷ rec 3 (5 ∷ 0 ∷ 0 ∷ 0 ∷ []) ∷ rec 3 (6 ∷ 0 ∷ 1 ∷ 1 ∷ []) ∷ rec 4 (7 ∷ 0 ∷ 0 ∷ 0 ∷ 0 ∷ []) ∷
+      rec 5 (0 ∷ 0 ∷ []) ∷ rec 4 (8 ∷ 0 ∷ 0 ∷ 0 ∷ 1 ∷ []) ∷ rec 5 (0 ∷ 1 ∷ []) ∷ rec 4 (9 ∷ 0 ∷ 0 ∷ 0 ∷ 2 ∷ []) ∷ rec 5 (1 ∷ 0 ∷ []) ∷
+      rec 4 (10 ∷ 0 ∷ 0 ∷ 0 ∷ 3 ∷ []) ∷
       rec 5 (1 ∷ 1 ∷ []) ∷ rec 8 (0 ∷ 0 ∷ []) ∷ rec 8 (2 ∷ 0 ∷ []) ∷ rec 11 (5 ∷ 0 ∷ 1 ∷ 4 ∷ 0 ∷ []) ∷ [];
   damaged = [];
   room = 65536;
@@ -519,8 +546,9 @@ singularMissing = record {
 unfoldable pub singularOpen : Case
 singularOpen = record {
   records =
-      rec 1 (1 ∷ []) ∷ rec 2 (4 ∷ []) ∷ rec 2 (4 ∷ []) ∷ rec 3 (5 ∷ 0 ∷ 0 ∷ 0 ∷ []) ∷ rec 3 (6 ∷ 0 ∷ 1 ∷ 1 ∷ []) ∷ rec 4 (7 ∷ 0 ∷ 0 ∷ []) ∷
-      rec 5 (0 ∷ 0 ∷ []) ∷ rec 4 (8 ∷ 0 ∷ 0 ∷ []) ∷ rec 5 (0 ∷ 1 ∷ []) ∷ rec 4 (9 ∷ 0 ∷ 0 ∷ []) ∷ rec 5 (1 ∷ 0 ∷ []) ∷ rec 4 (10 ∷ 0 ∷ 0 ∷ []) ∷
+      rec 1 (1 ∷ []) ∷ rec 2 (4 ∷ []) ∷ rec 2 (4 ∷ []) ∷ rec 3 (5 ∷ 0 ∷ 0 ∷ 0 ∷ []) ∷ rec 3 (6 ∷ 0 ∷ 1 ∷ 1 ∷ []) ∷ rec 4 (7 ∷ 0 ∷ 0 ∷ 0 ∷ 0 ∷ []) ∷
+      rec 5 (0 ∷ 0 ∷ []) ∷ rec 4 (8 ∷ 0 ∷ 0 ∷ 0 ∷ 1 ∷ []) ∷ rec 5 (0 ∷ 1 ∷ []) ∷ rec 4 (9 ∷ 0 ∷ 0 ∷ 0 ∷ 2 ∷ []) ∷ rec 5 (1 ∷ 0 ∷ []) ∷
+      rec 4 (10 ∷ 0 ∷ 0 ∷ 0 ∷ 3 ∷ []) ∷
       rec 5 (1 ∷ 1 ∷ []) ∷ rec 8 (0 ∷ 0 ∷ []) ∷ rec 8 (2 ∷ 0 ∷ []) ∷ rec 11 (5 ∷ 0 ∷ 1 ∷ 4 ∷ 1 ∷ []) ∷ rec 11 (6 ∷ 2 ∷ 3 ∷ 4 ∷ 2 ∷ []) ∷ [];
   damaged = [];
   room = 65536;
@@ -531,14 +559,17 @@ singularOpen = record {
 unfoldable pub pointShared : Case
 pointShared = record {
   records =
-      rec 1 (1 ∷ []) ∷ rec 2 (4 ∷ []) ∷ rec 2 (4 ∷ []) ∷ rec 3 (5 ∷ 0 ∷ 0 ∷ 0 ∷ []) ∷ rec 3 (6 ∷ 0 ∷ 1 ∷ 1 ∷ []) ∷ rec 4 (7 ∷ 0 ∷ 0 ∷ []) ∷
-      rec 5 (0 ∷ 0 ∷ []) ∷ rec 4 (8 ∷ 0 ∷ 0 ∷ []) ∷ rec 5 (0 ∷ 1 ∷ []) ∷ rec 4 (9 ∷ 0 ∷ 0 ∷ []) ∷ rec 5 (1 ∷ 0 ∷ []) ∷ rec 4 (10 ∷ 0 ∷ 0 ∷ []) ∷
+      rec 1 (1 ∷ []) ∷ rec 2 (4 ∷ []) ∷ rec 2 (4 ∷ []) ∷ rec 3 (5 ∷ 0 ∷ 0 ∷ 0 ∷ []) ∷ rec 3 (6 ∷ 0 ∷ 1 ∷ 1 ∷ []) ∷ rec 4 (7 ∷ 0 ∷ 0 ∷ 0 ∷ 0 ∷ []) ∷
+      rec 5 (0 ∷ 0 ∷ []) ∷ rec 4 (8 ∷ 0 ∷ 0 ∷ 0 ∷ 1 ∷ []) ∷ rec 5 (0 ∷ 1 ∷ []) ∷ rec 4 (9 ∷ 0 ∷ 0 ∷ 0 ∷ 2 ∷ []) ∷ rec 5 (1 ∷ 0 ∷ []) ∷
+      rec 4 (10 ∷ 0 ∷ 0 ∷ 0 ∷ 3 ∷ []) ∷
       rec 5 (1 ∷ 1 ∷ []) ∷ rec 8 (0 ∷ 0 ∷ []) ∷ rec 8 (2 ∷ 0 ∷ []) ∷ rec 11 (5 ∷ 0 ∷ 1 ∷ 4 ∷ 1 ∷ []) ∷ rec 11 (6 ∷ 2 ∷ 3 ∷ 4 ∷ 0 ∷ []) ∷ [];
   damaged = [];
   room = 65536;
   ending = ok
       (rec 21 (1 ∷ 4 ∷ 0 ∷ 0 ∷ 0 ∷ 1 ∷ 0 ∷ []) ∷ rec 22 (4 ∷ []) ∷ rec 23 (5 ∷ 0 ∷ 0 ∷ 0 ∷ []) ∷ rec 23 (6 ∷ 0 ∷ unset ∷ unset ∷ []) ∷ rec 24 (7 ∷ 0 ∷ []) ∷
-      rec 25 (0 ∷ 0 ∷ []) ∷ rec 24 (8 ∷ 0 ∷ []) ∷ rec 25 (0 ∷ 1 ∷ []) ∷ rec 24 (9 ∷ 0 ∷ []) ∷ rec 25 (1 ∷ 0 ∷ []) ∷ rec 24 (10 ∷ 0 ∷ []) ∷
+      rec 29 (0 ∷ 0 ∷ []) ∷
+      rec 25 (0 ∷ 0 ∷ []) ∷ rec 24 (8 ∷ 0 ∷ []) ∷ rec 29 (0 ∷ 1 ∷ []) ∷ rec 25 (0 ∷ 1 ∷ []) ∷ rec 24 (9 ∷ 0 ∷ []) ∷ rec 29 (0 ∷ 2 ∷ []) ∷ rec 25 (1 ∷ 0 ∷ []) ∷
+      rec 24 (10 ∷ 0 ∷ []) ∷ rec 29 (0 ∷ 3 ∷ []) ∷
       rec 25 (1 ∷ 1 ∷ []) ∷ rec 27 [] ∷ rec 28 (0 ∷ 1 ∷ []) ∷ rec 27 [] ∷ rec 28 (2 ∷ 3 ∷ []) ∷ []);
 }
 
@@ -546,8 +577,9 @@ pointShared = record {
 unfoldable pub pointInLump : Case
 pointInLump = record {
   records =
-      rec 1 (0 ∷ []) ∷ rec 2 (4 ∷ []) ∷ rec 2 (4 ∷ []) ∷ rec 3 (5 ∷ 0 ∷ 0 ∷ 0 ∷ []) ∷ rec 3 (6 ∷ 0 ∷ 1 ∷ 1 ∷ []) ∷ rec 4 (7 ∷ 0 ∷ 0 ∷ []) ∷
-      rec 5 (0 ∷ 0 ∷ []) ∷ rec 4 (8 ∷ 0 ∷ 0 ∷ []) ∷ rec 5 (0 ∷ 1 ∷ []) ∷ rec 4 (9 ∷ 0 ∷ 0 ∷ []) ∷ rec 5 (1 ∷ 0 ∷ []) ∷ rec 4 (10 ∷ 0 ∷ 0 ∷ []) ∷
+      rec 1 (0 ∷ []) ∷ rec 2 (4 ∷ []) ∷ rec 2 (4 ∷ []) ∷ rec 3 (5 ∷ 0 ∷ 0 ∷ 0 ∷ []) ∷ rec 3 (6 ∷ 0 ∷ 1 ∷ 1 ∷ []) ∷ rec 4 (7 ∷ 0 ∷ 0 ∷ 0 ∷ 0 ∷ []) ∷
+      rec 5 (0 ∷ 0 ∷ []) ∷ rec 4 (8 ∷ 0 ∷ 0 ∷ 0 ∷ 1 ∷ []) ∷ rec 5 (0 ∷ 1 ∷ []) ∷ rec 4 (9 ∷ 0 ∷ 0 ∷ 0 ∷ 2 ∷ []) ∷ rec 5 (1 ∷ 0 ∷ []) ∷
+      rec 4 (10 ∷ 0 ∷ 0 ∷ 0 ∷ 3 ∷ []) ∷
       rec 5 (1 ∷ 1 ∷ []) ∷ rec 8 (0 ∷ 0 ∷ []) ∷ rec 8 (2 ∷ 0 ∷ []) ∷ rec 11 (5 ∷ 0 ∷ 1 ∷ 4 ∷ 1 ∷ []) ∷ rec 11 (6 ∷ 2 ∷ 3 ∷ 4 ∷ 1 ∷ []) ∷
       rec 12 (0 ∷ 1 ∷ []) ∷ rec 12 (2 ∷ 0 ∷ []) ∷ rec 13 (2 ∷ 0 ∷ 1 ∷ []) ∷ [];
   damaged = [];
@@ -559,16 +591,18 @@ pointInLump = record {
 unfoldable pub voidInside : Case
 voidInside = record {
   records =
-      rec 1 (0 ∷ []) ∷ rec 2 (4 ∷ []) ∷ rec 2 (5 ∷ []) ∷ rec 3 (5 ∷ 0 ∷ 0 ∷ 0 ∷ []) ∷ rec 3 (6 ∷ 0 ∷ 1 ∷ 1 ∷ []) ∷ rec 4 (7 ∷ 0 ∷ 0 ∷ []) ∷
-      rec 5 (0 ∷ 0 ∷ []) ∷ rec 4 (8 ∷ 0 ∷ 0 ∷ []) ∷ rec 5 (0 ∷ 1 ∷ []) ∷ rec 4 (9 ∷ 0 ∷ 0 ∷ []) ∷ rec 5 (1 ∷ 0 ∷ []) ∷ rec 4 (10 ∷ 0 ∷ 0 ∷ []) ∷
+      rec 1 (0 ∷ []) ∷ rec 2 (4 ∷ []) ∷ rec 2 (5 ∷ []) ∷ rec 3 (5 ∷ 0 ∷ 0 ∷ 0 ∷ []) ∷ rec 3 (6 ∷ 0 ∷ 1 ∷ 1 ∷ []) ∷ rec 4 (7 ∷ 0 ∷ 0 ∷ 0 ∷ 0 ∷ []) ∷
+      rec 5 (0 ∷ 0 ∷ []) ∷ rec 4 (8 ∷ 0 ∷ 0 ∷ 0 ∷ 1 ∷ []) ∷ rec 5 (0 ∷ 1 ∷ []) ∷ rec 4 (9 ∷ 0 ∷ 0 ∷ 0 ∷ 2 ∷ []) ∷ rec 5 (1 ∷ 0 ∷ []) ∷
+      rec 4 (10 ∷ 0 ∷ 0 ∷ 0 ∷ 3 ∷ []) ∷
       rec 5 (1 ∷ 1 ∷ []) ∷ rec 8 (0 ∷ 0 ∷ []) ∷ rec 8 (2 ∷ 0 ∷ []) ∷ rec 11 (5 ∷ 0 ∷ 1 ∷ 4 ∷ 1 ∷ []) ∷ rec 11 (6 ∷ 2 ∷ 3 ∷ 5 ∷ 1 ∷ []) ∷
       rec 12 (0 ∷ 1 ∷ []) ∷ rec 12 (2 ∷ 0 ∷ []) ∷ rec 13 (2 ∷ 0 ∷ 1 ∷ []) ∷ [];
   damaged = [];
   room = 65536;
   ending = ok
       (rec 21 (1 ∷ 4 ∷ 0 ∷ 0 ∷ 0 ∷ 0 ∷ 0 ∷ []) ∷ rec 22 (4 ∷ []) ∷ rec 22 (5 ∷ []) ∷ rec 23 (5 ∷ 0 ∷ 0 ∷ 0 ∷ []) ∷ rec 23 (6 ∷ 0 ∷ 1 ∷ 1 ∷ []) ∷
-      rec 24 (7 ∷ 0 ∷ []) ∷ rec 25 (0 ∷ 0 ∷ []) ∷ rec 24 (8 ∷ 0 ∷ []) ∷ rec 25 (0 ∷ 1 ∷ []) ∷ rec 24 (9 ∷ 0 ∷ []) ∷ rec 25 (1 ∷ 0 ∷ []) ∷
-      rec 24 (10 ∷ 0 ∷ []) ∷ rec 25 (1 ∷ 1 ∷ []) ∷ rec 27 [] ∷ rec 28 (0 ∷ 1 ∷ []) ∷ rec 28 (2 ∷ 3 ∷ []) ∷ []);
+      rec 24 (7 ∷ 0 ∷ []) ∷ rec 29 (0 ∷ 0 ∷ []) ∷ rec 25 (0 ∷ 0 ∷ []) ∷ rec 24 (8 ∷ 0 ∷ []) ∷ rec 29 (0 ∷ 1 ∷ []) ∷ rec 25 (0 ∷ 1 ∷ []) ∷ rec 24 (9 ∷ 0 ∷ []) ∷
+      rec 29 (0 ∷ 2 ∷ []) ∷ rec 25 (1 ∷ 0 ∷ []) ∷
+      rec 24 (10 ∷ 0 ∷ []) ∷ rec 29 (0 ∷ 3 ∷ []) ∷ rec 25 (1 ∷ 1 ∷ []) ∷ rec 27 [] ∷ rec 28 (0 ∷ 1 ∷ []) ∷ rec 28 (2 ∷ 3 ∷ []) ∷ []);
 }
 
 -- a seam goes without a surface question
@@ -576,13 +610,16 @@ unfoldable pub seam : Case
 seam = record {
   records =
       rec 1 (1 ∷ []) ∷ rec 2 (0 ∷ []) ∷ rec 2 (1 ∷ []) ∷ rec 3 (5 ∷ 0 ∷ 0 ∷ 0 ∷ []) ∷ rec 3 (6 ∷ 0 ∷ 1 ∷ 1 ∷ []) ∷ rec 3 (9 ∷ 0 ∷ 0 ∷ 1 ∷ []) ∷
-      rec 4 (7 ∷ 0 ∷ 0 ∷ []) ∷ rec 5 (0 ∷ 0 ∷ 2 ∷ 0 ∷ 1 ∷ 1 ∷ 2 ∷ 1 ∷ []) ∷ rec 4 (8 ∷ 0 ∷ 0 ∷ []) ∷ rec 5 (0 ∷ 1 ∷ []) ∷ rec 4 (8 ∷ 0 ∷ 0 ∷ []) ∷
+      rec 4 (7 ∷ 0 ∷ 0 ∷ 0 ∷ 0 ∷ []) ∷ rec 5 (0 ∷ 0 ∷ 2 ∷ 0 ∷ 1 ∷ 1 ∷ 2 ∷ 1 ∷ []) ∷ rec 4 (8 ∷ 0 ∷ 0 ∷ 0 ∷ 1 ∷ []) ∷ rec 5 (0 ∷ 1 ∷ []) ∷
+      rec 4 (8 ∷ 0 ∷ 0 ∷ 0 ∷ 2 ∷ []) ∷
       rec 5 (1 ∷ 0 ∷ []) ∷ rec 8 (0 ∷ 0 ∷ []) ∷ rec 8 (2 ∷ 0 ∷ []) ∷ rec 11 (5 ∷ 0 ∷ 1 ∷ 0 ∷ 0 ∷ []) ∷ rec 11 (6 ∷ 0 ∷ 2 ∷ 1 ∷ 0 ∷ []) ∷ [];
   damaged = [];
   room = 65536;
   ending = ok
       (rec 21 (1 ∷ 6 ∷ 2 ∷ 2 ∷ 0 ∷ 2 ∷ 0 ∷ []) ∷ rec 23 (5 ∷ 0 ∷ unset ∷ unset ∷ []) ∷ rec 23 (6 ∷ 0 ∷ unset ∷ unset ∷ []) ∷ rec 24 (7 ∷ 0 ∷ []) ∷
-      rec 25 (0 ∷ 0 ∷ []) ∷ rec 25 (1 ∷ 1 ∷ []) ∷ rec 24 (8 ∷ 0 ∷ []) ∷ rec 25 (0 ∷ 1 ∷ []) ∷ rec 24 (8 ∷ 0 ∷ []) ∷ rec 25 (1 ∷ 0 ∷ []) ∷ rec 27 [] ∷
+      rec 29 (0 ∷ 0 ∷ []) ∷
+      rec 25 (0 ∷ 0 ∷ []) ∷ rec 25 (1 ∷ 1 ∷ []) ∷ rec 24 (8 ∷ 0 ∷ []) ∷ rec 29 (0 ∷ 1 ∷ []) ∷ rec 25 (0 ∷ 1 ∷ []) ∷ rec 24 (8 ∷ 0 ∷ []) ∷ rec 29 (0 ∷ 2 ∷ []) ∷
+      rec 25 (1 ∷ 0 ∷ []) ∷ rec 27 [] ∷
       rec 28 (0 ∷ 1 ∷ 2 ∷ []) ∷ []);
 }
 
@@ -591,13 +628,16 @@ unfoldable pub turned : Case
 turned = record {
   records =
       rec 1 (1 ∷ []) ∷ rec 2 (0 ∷ []) ∷ rec 2 (1 ∷ []) ∷ rec 3 (5 ∷ 0 ∷ 0 ∷ 0 ∷ []) ∷ rec 3 (6 ∷ 0 ∷ 1 ∷ 1 ∷ []) ∷ rec 3 (9 ∷ 0 ∷ 0 ∷ 1 ∷ []) ∷
-      rec 4 (7 ∷ 0 ∷ 1 ∷ []) ∷ rec 5 (2 ∷ 0 ∷ 1 ∷ 0 ∷ 2 ∷ 1 ∷ 0 ∷ 1 ∷ []) ∷ rec 4 (8 ∷ 0 ∷ 0 ∷ []) ∷ rec 5 (0 ∷ 1 ∷ []) ∷ rec 4 (8 ∷ 0 ∷ 0 ∷ []) ∷
+      rec 4 (7 ∷ 0 ∷ 1 ∷ 0 ∷ 0 ∷ []) ∷ rec 5 (2 ∷ 0 ∷ 1 ∷ 0 ∷ 2 ∷ 1 ∷ 0 ∷ 1 ∷ []) ∷ rec 4 (8 ∷ 0 ∷ 0 ∷ 0 ∷ 1 ∷ []) ∷ rec 5 (0 ∷ 1 ∷ []) ∷
+      rec 4 (8 ∷ 0 ∷ 0 ∷ 0 ∷ 2 ∷ []) ∷
       rec 5 (1 ∷ 0 ∷ []) ∷ rec 8 (0 ∷ 0 ∷ []) ∷ rec 8 (2 ∷ 0 ∷ []) ∷ rec 11 (5 ∷ 0 ∷ 1 ∷ 0 ∷ 0 ∷ []) ∷ rec 11 (6 ∷ 0 ∷ 2 ∷ 1 ∷ 0 ∷ []) ∷ [];
   damaged = [];
   room = 65536;
   ending = ok
       (rec 21 (1 ∷ 6 ∷ 2 ∷ 2 ∷ 0 ∷ 2 ∷ 0 ∷ []) ∷ rec 23 (5 ∷ 0 ∷ unset ∷ unset ∷ []) ∷ rec 23 (6 ∷ 0 ∷ unset ∷ unset ∷ []) ∷ rec 24 (7 ∷ 1 ∷ []) ∷
-      rec 25 (0 ∷ 0 ∷ []) ∷ rec 25 (1 ∷ 1 ∷ []) ∷ rec 24 (8 ∷ 0 ∷ []) ∷ rec 25 (0 ∷ 1 ∷ []) ∷ rec 24 (8 ∷ 0 ∷ []) ∷ rec 25 (1 ∷ 0 ∷ []) ∷ rec 27 [] ∷
+      rec 29 (0 ∷ 0 ∷ []) ∷
+      rec 25 (0 ∷ 0 ∷ []) ∷ rec 25 (1 ∷ 1 ∷ []) ∷ rec 24 (8 ∷ 0 ∷ []) ∷ rec 29 (0 ∷ 1 ∷ []) ∷ rec 25 (0 ∷ 1 ∷ []) ∷ rec 24 (8 ∷ 0 ∷ []) ∷ rec 29 (0 ∷ 2 ∷ []) ∷
+      rec 25 (1 ∷ 0 ∷ []) ∷ rec 27 [] ∷
       rec 28 (0 ∷ 1 ∷ 2 ∷ []) ∷ []);
 }
 
@@ -605,24 +645,27 @@ turned = record {
 unfoldable pub opposed : Case
 opposed = record {
   records =
-      rec 1 (1 ∷ []) ∷ rec 3 (5 ∷ 0 ∷ unset ∷ unset ∷ []) ∷ rec 4 (7 ∷ 0 ∷ 0 ∷ []) ∷ rec 5 (0 ∷ 0 ∷ []) ∷ rec 4 (7 ∷ 1 ∷ 0 ∷ []) ∷ rec 5 (0 ∷ 1 ∷ []) ∷
+      rec 1 (1 ∷ []) ∷ rec 3 (5 ∷ 0 ∷ unset ∷ unset ∷ []) ∷ rec 4 (7 ∷ 0 ∷ 0 ∷ 0 ∷ 0 ∷ []) ∷ rec 5 (0 ∷ 0 ∷ []) ∷ rec 4 (7 ∷ 1 ∷ 0 ∷ 0 ∷ 1 ∷ []) ∷
+      rec 5 (0 ∷ 1 ∷ []) ∷
       rec 8 (0 ∷ 2 ∷ []) ∷ [];
   damaged = [];
   room = 65536;
   ending = ok
-      (rec 21 (1 ∷ 2 ∷ 2 ∷ 0 ∷ 0 ∷ 0 ∷ 1 ∷ []) ∷ rec 24 (7 ∷ 0 ∷ []) ∷ rec 27 [] ∷ rec 28 (0 ∷ []) ∷ []);
+      (rec 21 (1 ∷ 2 ∷ 2 ∷ 0 ∷ 0 ∷ 0 ∷ 1 ∷ []) ∷ rec 24 (7 ∷ 0 ∷ []) ∷ rec 29 (0 ∷ 0 ∷ 0 ∷ 1 ∷ []) ∷ rec 27 [] ∷ rec 28 (0 ∷ []) ∷ []);
 }
 
 -- opposed surfaces, stored senses equal
 unfoldable pub opposedSame : Case
 opposedSame = record {
   records =
-      rec 1 (1 ∷ []) ∷ rec 3 (5 ∷ 0 ∷ unset ∷ unset ∷ []) ∷ rec 4 (7 ∷ 0 ∷ 0 ∷ []) ∷ rec 5 (0 ∷ 0 ∷ []) ∷ rec 4 (7 ∷ 0 ∷ 0 ∷ []) ∷ rec 5 (0 ∷ 1 ∷ []) ∷
+      rec 1 (1 ∷ []) ∷ rec 3 (5 ∷ 0 ∷ unset ∷ unset ∷ []) ∷ rec 4 (7 ∷ 0 ∷ 0 ∷ 0 ∷ 0 ∷ []) ∷ rec 5 (0 ∷ 0 ∷ []) ∷ rec 4 (7 ∷ 0 ∷ 0 ∷ 0 ∷ 1 ∷ []) ∷
+      rec 5 (0 ∷ 1 ∷ []) ∷
       rec 8 (0 ∷ 2 ∷ []) ∷ [];
   damaged = [];
   room = 65536;
   ending = ok
-      (rec 21 (1 ∷ 2 ∷ 0 ∷ 0 ∷ 0 ∷ 0 ∷ 0 ∷ []) ∷ rec 23 (5 ∷ 0 ∷ unset ∷ unset ∷ []) ∷ rec 24 (7 ∷ 0 ∷ []) ∷ rec 25 (0 ∷ 0 ∷ []) ∷ rec 24 (7 ∷ 0 ∷ []) ∷
+      (rec 21 (1 ∷ 2 ∷ 0 ∷ 0 ∷ 0 ∷ 0 ∷ 0 ∷ []) ∷ rec 23 (5 ∷ 0 ∷ unset ∷ unset ∷ []) ∷ rec 24 (7 ∷ 0 ∷ []) ∷ rec 29 (0 ∷ 0 ∷ []) ∷ rec 25 (0 ∷ 0 ∷ []) ∷
+      rec 24 (7 ∷ 0 ∷ []) ∷ rec 29 (0 ∷ 1 ∷ []) ∷
       rec 25 (0 ∷ 1 ∷ []) ∷ rec 27 [] ∷ rec 28 (0 ∷ 1 ∷ []) ∷ []);
 }
 
@@ -630,8 +673,8 @@ opposedSame = record {
 unfoldable pub pointsMissing : Case
 pointsMissing = record {
   records =
-      rec 1 (1 ∷ []) ∷ rec 2 (3 ∷ []) ∷ rec 2 (4 ∷ []) ∷ rec 2 (3 ∷ []) ∷ rec 3 (5 ∷ 0 ∷ unset ∷ unset ∷ []) ∷ rec 4 (7 ∷ 0 ∷ 0 ∷ []) ∷
-      rec 5 (0 ∷ 0 ∷ []) ∷ rec 6 (0 ∷ []) ∷ rec 4 (7 ∷ 0 ∷ 0 ∷ []) ∷ rec 6 (1 ∷ []) ∷ rec 5 (0 ∷ 1 ∷ []) ∷ rec 6 (2 ∷ []) ∷ rec 8 (0 ∷ 1 ∷ []) ∷ [];
+      rec 1 (1 ∷ []) ∷ rec 2 (3 ∷ []) ∷ rec 2 (4 ∷ []) ∷ rec 2 (3 ∷ []) ∷ rec 3 (5 ∷ 0 ∷ unset ∷ unset ∷ []) ∷ rec 4 (7 ∷ 0 ∷ 0 ∷ 0 ∷ 0 ∷ []) ∷
+      rec 5 (0 ∷ 0 ∷ []) ∷ rec 6 (0 ∷ []) ∷ rec 4 (7 ∷ 0 ∷ 0 ∷ 0 ∷ 1 ∷ []) ∷ rec 6 (1 ∷ []) ∷ rec 5 (0 ∷ 1 ∷ []) ∷ rec 6 (2 ∷ []) ∷ rec 8 (0 ∷ 1 ∷ []) ∷ [];
   damaged = [];
   room = 65536;
   ending = refuse 20 9;
@@ -641,34 +684,35 @@ pointsMissing = record {
 unfoldable pub pointsSame : Case
 pointsSame = record {
   records =
-      rec 1 (1 ∷ []) ∷ rec 2 (3 ∷ []) ∷ rec 2 (4 ∷ []) ∷ rec 2 (3 ∷ []) ∷ rec 3 (5 ∷ 0 ∷ unset ∷ unset ∷ []) ∷ rec 4 (7 ∷ 0 ∷ 0 ∷ []) ∷
-      rec 5 (0 ∷ 0 ∷ []) ∷ rec 6 (0 ∷ []) ∷ rec 4 (7 ∷ 0 ∷ 0 ∷ []) ∷ rec 6 (1 ∷ []) ∷ rec 5 (0 ∷ 1 ∷ []) ∷ rec 6 (2 ∷ []) ∷ rec 8 (0 ∷ 1 ∷ []) ∷
+      rec 1 (1 ∷ []) ∷ rec 2 (3 ∷ []) ∷ rec 2 (4 ∷ []) ∷ rec 2 (3 ∷ []) ∷ rec 3 (5 ∷ 0 ∷ unset ∷ unset ∷ []) ∷ rec 4 (7 ∷ 0 ∷ 0 ∷ 0 ∷ 0 ∷ []) ∷
+      rec 5 (0 ∷ 0 ∷ []) ∷ rec 6 (0 ∷ []) ∷ rec 4 (7 ∷ 0 ∷ 0 ∷ 0 ∷ 1 ∷ []) ∷ rec 6 (1 ∷ []) ∷ rec 5 (0 ∷ 1 ∷ []) ∷ rec 6 (2 ∷ []) ∷ rec 8 (0 ∷ 1 ∷ []) ∷
       rec 9 (4 ∷ 3 ∷ 1 ∷ []) ∷ [];
   damaged = [];
   room = 65536;
   ending = ok
-      (rec 21 (1 ∷ 2 ∷ 2 ∷ 0 ∷ 0 ∷ 0 ∷ 1 ∷ []) ∷ rec 24 (7 ∷ 0 ∷ []) ∷ rec 26 (3 ∷ []) ∷ rec 27 [] ∷ rec 28 (0 ∷ []) ∷ []);
+      (rec 21 (1 ∷ 2 ∷ 2 ∷ 0 ∷ 0 ∷ 0 ∷ 1 ∷ []) ∷ rec 24 (7 ∷ 0 ∷ []) ∷ rec 29 (0 ∷ 0 ∷ 0 ∷ 1 ∷ []) ∷ rec 26 (3 ∷ []) ∷ rec 27 [] ∷ rec 28 (0 ∷ []) ∷ []);
 }
 
 -- two vertex loops are kept
 unfoldable pub pointsDiffer : Case
 pointsDiffer = record {
   records =
-      rec 1 (1 ∷ []) ∷ rec 2 (3 ∷ []) ∷ rec 2 (4 ∷ []) ∷ rec 2 (3 ∷ []) ∷ rec 3 (5 ∷ 0 ∷ unset ∷ unset ∷ []) ∷ rec 4 (7 ∷ 0 ∷ 0 ∷ []) ∷
-      rec 5 (0 ∷ 0 ∷ []) ∷ rec 6 (0 ∷ []) ∷ rec 4 (7 ∷ 0 ∷ 0 ∷ []) ∷ rec 6 (1 ∷ []) ∷ rec 5 (0 ∷ 1 ∷ []) ∷ rec 6 (2 ∷ []) ∷ rec 8 (0 ∷ 1 ∷ []) ∷
+      rec 1 (1 ∷ []) ∷ rec 2 (3 ∷ []) ∷ rec 2 (4 ∷ []) ∷ rec 2 (3 ∷ []) ∷ rec 3 (5 ∷ 0 ∷ unset ∷ unset ∷ []) ∷ rec 4 (7 ∷ 0 ∷ 0 ∷ 0 ∷ 0 ∷ []) ∷
+      rec 5 (0 ∷ 0 ∷ []) ∷ rec 6 (0 ∷ []) ∷ rec 4 (7 ∷ 0 ∷ 0 ∷ 0 ∷ 1 ∷ []) ∷ rec 6 (1 ∷ []) ∷ rec 5 (0 ∷ 1 ∷ []) ∷ rec 6 (2 ∷ []) ∷ rec 8 (0 ∷ 1 ∷ []) ∷
       rec 9 (4 ∷ 3 ∷ 0 ∷ []) ∷ [];
   damaged = [];
   room = 65536;
   ending = ok
-      (rec 21 (1 ∷ 2 ∷ 2 ∷ 0 ∷ 0 ∷ 0 ∷ 1 ∷ []) ∷ rec 24 (7 ∷ 0 ∷ []) ∷ rec 26 (3 ∷ []) ∷ rec 26 (4 ∷ []) ∷ rec 27 [] ∷ rec 28 (0 ∷ []) ∷ []);
+      (rec 21 (1 ∷ 2 ∷ 2 ∷ 0 ∷ 0 ∷ 0 ∷ 1 ∷ []) ∷ rec 24 (7 ∷ 0 ∷ []) ∷ rec 29 (0 ∷ 0 ∷ 0 ∷ 1 ∷ []) ∷ rec 26 (3 ∷ []) ∷ rec 26 (4 ∷ []) ∷ rec 27 [] ∷
+      rec 28 (0 ∷ []) ∷ []);
 }
 
 -- in two faces nothing is asked but inside each
 unfoldable pub pointsApart : Case
 pointsApart = record {
   records =
-      rec 1 (1 ∷ []) ∷ rec 2 (3 ∷ []) ∷ rec 2 (4 ∷ []) ∷ rec 2 (3 ∷ []) ∷ rec 3 (5 ∷ 0 ∷ unset ∷ unset ∷ []) ∷ rec 4 (7 ∷ 0 ∷ 0 ∷ []) ∷
-      rec 5 (0 ∷ 0 ∷ []) ∷ rec 6 (0 ∷ []) ∷ rec 4 (7 ∷ 0 ∷ 0 ∷ []) ∷ rec 6 (1 ∷ []) ∷ rec 5 (0 ∷ 1 ∷ []) ∷ rec 6 (2 ∷ []) ∷ rec 8 (0 ∷ 0 ∷ []) ∷ [];
+      rec 1 (1 ∷ []) ∷ rec 2 (3 ∷ []) ∷ rec 2 (4 ∷ []) ∷ rec 2 (3 ∷ []) ∷ rec 3 (5 ∷ 0 ∷ unset ∷ unset ∷ []) ∷ rec 4 (7 ∷ 0 ∷ 0 ∷ 0 ∷ 0 ∷ []) ∷
+      rec 5 (0 ∷ 0 ∷ []) ∷ rec 6 (0 ∷ []) ∷ rec 4 (7 ∷ 0 ∷ 0 ∷ 0 ∷ 1 ∷ []) ∷ rec 6 (1 ∷ []) ∷ rec 5 (0 ∷ 1 ∷ []) ∷ rec 6 (2 ∷ []) ∷ rec 8 (0 ∷ 0 ∷ []) ∷ [];
   damaged = [];
   room = 65536;
   ending = refuse 20 9;
@@ -679,14 +723,15 @@ unfoldable pub fourJoined : Case
 fourJoined = record {
   records =
       rec 1 (1 ∷ []) ∷ rec 2 (0 ∷ []) ∷ rec 2 (1 ∷ []) ∷ rec 2 (2 ∷ []) ∷ rec 2 (3 ∷ []) ∷ rec 3 (5 ∷ 0 ∷ 0 ∷ 1 ∷ []) ∷ rec 3 (5 ∷ 0 ∷ 1 ∷ 2 ∷ []) ∷
-      rec 3 (5 ∷ 0 ∷ 2 ∷ 3 ∷ []) ∷ rec 3 (5 ∷ 0 ∷ 3 ∷ 0 ∷ []) ∷ rec 4 (7 ∷ 0 ∷ 0 ∷ []) ∷ rec 5 (0 ∷ 0 ∷ 1 ∷ 0 ∷ 2 ∷ 0 ∷ 3 ∷ 0 ∷ []) ∷
-      rec 4 (8 ∷ 0 ∷ 0 ∷ []) ∷ rec 5 (3 ∷ 1 ∷ 2 ∷ 1 ∷ 1 ∷ 1 ∷ 0 ∷ 1 ∷ []) ∷ rec 8 (0 ∷ 0 ∷ []) ∷ rec 8 (1 ∷ 0 ∷ []) ∷ rec 8 (2 ∷ 0 ∷ []) ∷
+      rec 3 (5 ∷ 0 ∷ 2 ∷ 3 ∷ []) ∷ rec 3 (5 ∷ 0 ∷ 3 ∷ 0 ∷ []) ∷ rec 4 (7 ∷ 0 ∷ 0 ∷ 0 ∷ 0 ∷ []) ∷ rec 5 (0 ∷ 0 ∷ 1 ∷ 0 ∷ 2 ∷ 0 ∷ 3 ∷ 0 ∷ []) ∷
+      rec 4 (8 ∷ 0 ∷ 0 ∷ 0 ∷ 1 ∷ []) ∷ rec 5 (3 ∷ 1 ∷ 2 ∷ 1 ∷ 1 ∷ 1 ∷ 0 ∷ 1 ∷ []) ∷ rec 8 (0 ∷ 0 ∷ []) ∷ rec 8 (1 ∷ 0 ∷ []) ∷ rec 8 (2 ∷ 0 ∷ []) ∷
       rec 8 (3 ∷ 0 ∷ []) ∷ rec 11 (5 ∷ 0 ∷ 1 ∷ 0 ∷ 0 ∷ []) ∷ rec 11 (5 ∷ 0 ∷ 1 ∷ 1 ∷ 0 ∷ []) ∷ rec 11 (5 ∷ 0 ∷ 1 ∷ 2 ∷ 0 ∷ []) ∷
       rec 11 (5 ∷ 0 ∷ 1 ∷ 3 ∷ 0 ∷ []) ∷ [];
   damaged = [];
   room = 65536;
   ending = ok
-      (rec 21 (1 ∷ 8 ∷ 0 ∷ 0 ∷ 3 ∷ 1 ∷ 0 ∷ []) ∷ rec 23 (5 ∷ 1 ∷ unset ∷ unset ∷ []) ∷ rec 24 (7 ∷ 0 ∷ []) ∷ rec 25 (0 ∷ 1 ∷ []) ∷ rec 24 (8 ∷ 0 ∷ []) ∷
+      (rec 21 (1 ∷ 8 ∷ 0 ∷ 0 ∷ 3 ∷ 1 ∷ 0 ∷ []) ∷ rec 23 (5 ∷ 1 ∷ unset ∷ unset ∷ []) ∷ rec 24 (7 ∷ 0 ∷ []) ∷ rec 29 (0 ∷ 0 ∷ []) ∷ rec 25 (0 ∷ 1 ∷ []) ∷
+      rec 24 (8 ∷ 0 ∷ []) ∷ rec 29 (0 ∷ 1 ∷ []) ∷
       rec 25 (0 ∷ 0 ∷ []) ∷ rec 27 [] ∷ rec 28 (0 ∷ 1 ∷ []) ∷ []);
 }
 
@@ -696,8 +741,8 @@ passTwice = record {
   records =
       rec 1 (1 ∷ []) ∷ rec 2 (0 ∷ []) ∷ rec 2 (1 ∷ []) ∷ rec 2 (2 ∷ []) ∷ rec 2 (3 ∷ []) ∷ rec 2 (4 ∷ []) ∷ rec 3 (10 ∷ 0 ∷ 0 ∷ 1 ∷ []) ∷
       rec 3 (11 ∷ 0 ∷ 1 ∷ 2 ∷ []) ∷ rec 3 (12 ∷ 0 ∷ 2 ∷ 3 ∷ []) ∷ rec 3 (13 ∷ 0 ∷ 3 ∷ 4 ∷ []) ∷ rec 3 (14 ∷ 0 ∷ 4 ∷ 0 ∷ []) ∷ rec 3 (20 ∷ 0 ∷ 0 ∷ 2 ∷ []) ∷
-      rec 3 (21 ∷ 0 ∷ 0 ∷ 3 ∷ []) ∷ rec 4 (7 ∷ 0 ∷ 0 ∷ []) ∷ rec 5 (0 ∷ 0 ∷ 1 ∷ 0 ∷ 5 ∷ 1 ∷ []) ∷ rec 4 (7 ∷ 0 ∷ 0 ∷ []) ∷
-      rec 5 (5 ∷ 0 ∷ 2 ∷ 0 ∷ 6 ∷ 1 ∷ []) ∷ rec 4 (7 ∷ 0 ∷ 0 ∷ []) ∷ rec 5 (6 ∷ 0 ∷ 3 ∷ 0 ∷ 4 ∷ 0 ∷ []) ∷ rec 4 (8 ∷ 0 ∷ 0 ∷ []) ∷
+      rec 3 (21 ∷ 0 ∷ 0 ∷ 3 ∷ []) ∷ rec 4 (7 ∷ 0 ∷ 0 ∷ 0 ∷ 0 ∷ []) ∷ rec 5 (0 ∷ 0 ∷ 1 ∷ 0 ∷ 5 ∷ 1 ∷ []) ∷ rec 4 (7 ∷ 0 ∷ 0 ∷ 0 ∷ 1 ∷ []) ∷
+      rec 5 (5 ∷ 0 ∷ 2 ∷ 0 ∷ 6 ∷ 1 ∷ []) ∷ rec 4 (7 ∷ 0 ∷ 0 ∷ 0 ∷ 2 ∷ []) ∷ rec 5 (6 ∷ 0 ∷ 3 ∷ 0 ∷ 4 ∷ 0 ∷ []) ∷ rec 4 (8 ∷ 0 ∷ 0 ∷ 0 ∷ 3 ∷ []) ∷
       rec 5 (4 ∷ 1 ∷ 3 ∷ 1 ∷ 2 ∷ 1 ∷ 1 ∷ 1 ∷ 0 ∷ 1 ∷ []) ∷ rec 8 (0 ∷ 0 ∷ []) ∷ rec 8 (1 ∷ 0 ∷ []) ∷ rec 8 (2 ∷ 1 ∷ []) ∷ rec 8 (4 ∷ 0 ∷ []) ∷
       rec 8 (5 ∷ 1 ∷ []) ∷ rec 8 (7 ∷ 0 ∷ []) ∷ rec 8 (8 ∷ 0 ∷ []) ∷ rec 10 (10 ∷ 11 ∷ 0 ∷ []) ∷ rec 10 (11 ∷ 12 ∷ 0 ∷ []) ∷ rec 10 (12 ∷ 13 ∷ 0 ∷ []) ∷
       rec 10 (13 ∷ 14 ∷ 0 ∷ []) ∷ rec 10 (14 ∷ 10 ∷ 0 ∷ []) ∷ [];
@@ -706,7 +751,8 @@ passTwice = record {
   ending = ok
       (rec 21 (1 ∷ 14 ∷ 4 ∷ 4 ∷ 0 ∷ 0 ∷ 2 ∷ []) ∷ rec 22 (0 ∷ []) ∷ rec 22 (1 ∷ []) ∷ rec 22 (2 ∷ []) ∷ rec 22 (3 ∷ []) ∷ rec 22 (4 ∷ []) ∷
       rec 23 (10 ∷ 0 ∷ 0 ∷ 1 ∷ []) ∷ rec 23 (11 ∷ 0 ∷ 1 ∷ 2 ∷ []) ∷ rec 23 (12 ∷ 0 ∷ 2 ∷ 3 ∷ []) ∷ rec 23 (13 ∷ 0 ∷ 3 ∷ 4 ∷ []) ∷
-      rec 23 (14 ∷ 0 ∷ 4 ∷ 0 ∷ []) ∷ rec 24 (7 ∷ 0 ∷ []) ∷ rec 25 (0 ∷ 0 ∷ 1 ∷ 0 ∷ 2 ∷ 0 ∷ 3 ∷ 0 ∷ 4 ∷ 0 ∷ []) ∷ rec 24 (8 ∷ 0 ∷ []) ∷
+      rec 23 (14 ∷ 0 ∷ 4 ∷ 0 ∷ []) ∷ rec 24 (7 ∷ 0 ∷ []) ∷ rec 29 (0 ∷ 0 ∷ 0 ∷ 1 ∷ 0 ∷ 2 ∷ []) ∷ rec 25 (0 ∷ 0 ∷ 1 ∷ 0 ∷ 2 ∷ 0 ∷ 3 ∷ 0 ∷ 4 ∷ 0 ∷ []) ∷
+      rec 24 (8 ∷ 0 ∷ []) ∷ rec 29 (0 ∷ 3 ∷ []) ∷
       rec 25 (4 ∷ 1 ∷ 3 ∷ 1 ∷ 2 ∷ 1 ∷ 1 ∷ 1 ∷ 0 ∷ 1 ∷ []) ∷ rec 27 [] ∷ rec 28 (0 ∷ 1 ∷ []) ∷ []);
 }
 
@@ -716,8 +762,8 @@ curvesMissing = record {
   records =
       rec 1 (1 ∷ []) ∷ rec 2 (0 ∷ []) ∷ rec 2 (1 ∷ []) ∷ rec 2 (2 ∷ []) ∷ rec 2 (3 ∷ []) ∷ rec 2 (4 ∷ []) ∷ rec 3 (10 ∷ 0 ∷ 0 ∷ 1 ∷ []) ∷
       rec 3 (11 ∷ 0 ∷ 1 ∷ 2 ∷ []) ∷ rec 3 (12 ∷ 0 ∷ 2 ∷ 3 ∷ []) ∷ rec 3 (13 ∷ 0 ∷ 3 ∷ 4 ∷ []) ∷ rec 3 (14 ∷ 0 ∷ 4 ∷ 0 ∷ []) ∷ rec 3 (20 ∷ 0 ∷ 0 ∷ 2 ∷ []) ∷
-      rec 3 (21 ∷ 0 ∷ 0 ∷ 3 ∷ []) ∷ rec 4 (7 ∷ 0 ∷ 0 ∷ []) ∷ rec 5 (0 ∷ 0 ∷ 1 ∷ 0 ∷ 5 ∷ 1 ∷ []) ∷ rec 4 (7 ∷ 0 ∷ 0 ∷ []) ∷
-      rec 5 (5 ∷ 0 ∷ 2 ∷ 0 ∷ 6 ∷ 1 ∷ []) ∷ rec 4 (7 ∷ 0 ∷ 0 ∷ []) ∷ rec 5 (6 ∷ 0 ∷ 3 ∷ 0 ∷ 4 ∷ 0 ∷ []) ∷ rec 4 (8 ∷ 0 ∷ 0 ∷ []) ∷
+      rec 3 (21 ∷ 0 ∷ 0 ∷ 3 ∷ []) ∷ rec 4 (7 ∷ 0 ∷ 0 ∷ 0 ∷ 0 ∷ []) ∷ rec 5 (0 ∷ 0 ∷ 1 ∷ 0 ∷ 5 ∷ 1 ∷ []) ∷ rec 4 (7 ∷ 0 ∷ 0 ∷ 0 ∷ 1 ∷ []) ∷
+      rec 5 (5 ∷ 0 ∷ 2 ∷ 0 ∷ 6 ∷ 1 ∷ []) ∷ rec 4 (7 ∷ 0 ∷ 0 ∷ 0 ∷ 2 ∷ []) ∷ rec 5 (6 ∷ 0 ∷ 3 ∷ 0 ∷ 4 ∷ 0 ∷ []) ∷ rec 4 (8 ∷ 0 ∷ 0 ∷ 0 ∷ 3 ∷ []) ∷
       rec 5 (4 ∷ 1 ∷ 3 ∷ 1 ∷ 2 ∷ 1 ∷ 1 ∷ 1 ∷ 0 ∷ 1 ∷ []) ∷ rec 8 (0 ∷ 0 ∷ []) ∷ rec 8 (1 ∷ 0 ∷ []) ∷ rec 8 (2 ∷ 1 ∷ []) ∷ rec 8 (4 ∷ 0 ∷ []) ∷
       rec 8 (5 ∷ 1 ∷ []) ∷ rec 8 (7 ∷ 0 ∷ []) ∷ rec 8 (8 ∷ 0 ∷ []) ∷ rec 10 (10 ∷ 11 ∷ 0 ∷ []) ∷ rec 10 (10 ∷ 14 ∷ 0 ∷ []) ∷ [];
   damaged = [];
@@ -731,8 +777,8 @@ curvesOpen = record {
   records =
       rec 1 (1 ∷ []) ∷ rec 2 (0 ∷ []) ∷ rec 2 (1 ∷ []) ∷ rec 2 (2 ∷ []) ∷ rec 2 (3 ∷ []) ∷ rec 2 (4 ∷ []) ∷ rec 3 (10 ∷ 0 ∷ 0 ∷ 1 ∷ []) ∷
       rec 3 (11 ∷ 0 ∷ 1 ∷ 2 ∷ []) ∷ rec 3 (12 ∷ 0 ∷ 2 ∷ 3 ∷ []) ∷ rec 3 (13 ∷ 0 ∷ 3 ∷ 4 ∷ []) ∷ rec 3 (14 ∷ 0 ∷ 4 ∷ 0 ∷ []) ∷ rec 3 (20 ∷ 0 ∷ 0 ∷ 2 ∷ []) ∷
-      rec 3 (21 ∷ 0 ∷ 0 ∷ 3 ∷ []) ∷ rec 4 (7 ∷ 0 ∷ 0 ∷ []) ∷ rec 5 (0 ∷ 0 ∷ 1 ∷ 0 ∷ 5 ∷ 1 ∷ []) ∷ rec 4 (7 ∷ 0 ∷ 0 ∷ []) ∷
-      rec 5 (5 ∷ 0 ∷ 2 ∷ 0 ∷ 6 ∷ 1 ∷ []) ∷ rec 4 (7 ∷ 0 ∷ 0 ∷ []) ∷ rec 5 (6 ∷ 0 ∷ 3 ∷ 0 ∷ 4 ∷ 0 ∷ []) ∷ rec 4 (8 ∷ 0 ∷ 0 ∷ []) ∷
+      rec 3 (21 ∷ 0 ∷ 0 ∷ 3 ∷ []) ∷ rec 4 (7 ∷ 0 ∷ 0 ∷ 0 ∷ 0 ∷ []) ∷ rec 5 (0 ∷ 0 ∷ 1 ∷ 0 ∷ 5 ∷ 1 ∷ []) ∷ rec 4 (7 ∷ 0 ∷ 0 ∷ 0 ∷ 1 ∷ []) ∷
+      rec 5 (5 ∷ 0 ∷ 2 ∷ 0 ∷ 6 ∷ 1 ∷ []) ∷ rec 4 (7 ∷ 0 ∷ 0 ∷ 0 ∷ 2 ∷ []) ∷ rec 5 (6 ∷ 0 ∷ 3 ∷ 0 ∷ 4 ∷ 0 ∷ []) ∷ rec 4 (8 ∷ 0 ∷ 0 ∷ 0 ∷ 3 ∷ []) ∷
       rec 5 (4 ∷ 1 ∷ 3 ∷ 1 ∷ 2 ∷ 1 ∷ 1 ∷ 1 ∷ 0 ∷ 1 ∷ []) ∷ rec 8 (0 ∷ 0 ∷ []) ∷ rec 8 (1 ∷ 0 ∷ []) ∷ rec 8 (2 ∷ 1 ∷ []) ∷ rec 8 (4 ∷ 0 ∷ []) ∷
       rec 8 (5 ∷ 1 ∷ []) ∷ rec 8 (7 ∷ 0 ∷ []) ∷ rec 8 (8 ∷ 0 ∷ []) ∷ rec 10 (10 ∷ 14 ∷ 2 ∷ []) ∷ [];
   damaged = [];
@@ -744,12 +790,13 @@ curvesOpen = record {
 unfoldable pub unusedEdge : Case
 unusedEdge = record {
   records =
-      rec 1 (1 ∷ []) ∷ rec 2 (9 ∷ []) ∷ rec 3 (4 ∷ 0 ∷ 0 ∷ 0 ∷ []) ∷ rec 3 (5 ∷ 0 ∷ unset ∷ unset ∷ []) ∷ rec 4 (7 ∷ 0 ∷ 0 ∷ []) ∷ rec 5 (1 ∷ 0 ∷ []) ∷
-      rec 4 (8 ∷ 0 ∷ 0 ∷ []) ∷ rec 5 (1 ∷ 1 ∷ []) ∷ rec 8 (0 ∷ 0 ∷ []) ∷ [];
+      rec 1 (1 ∷ []) ∷ rec 2 (9 ∷ []) ∷ rec 3 (4 ∷ 0 ∷ 0 ∷ 0 ∷ []) ∷ rec 3 (5 ∷ 0 ∷ unset ∷ unset ∷ []) ∷ rec 4 (7 ∷ 0 ∷ 0 ∷ 0 ∷ 0 ∷ []) ∷ rec 5 (1 ∷ 0 ∷ []) ∷
+      rec 4 (8 ∷ 0 ∷ 0 ∷ 0 ∷ 1 ∷ []) ∷ rec 5 (1 ∷ 1 ∷ []) ∷ rec 8 (0 ∷ 0 ∷ []) ∷ [];
   damaged = [];
   room = 65536;
   ending = ok
-      (rec 21 (1 ∷ 2 ∷ 0 ∷ 0 ∷ 0 ∷ 0 ∷ 0 ∷ []) ∷ rec 23 (5 ∷ 0 ∷ unset ∷ unset ∷ []) ∷ rec 24 (7 ∷ 0 ∷ []) ∷ rec 25 (0 ∷ 0 ∷ []) ∷ rec 24 (8 ∷ 0 ∷ []) ∷
+      (rec 21 (1 ∷ 2 ∷ 0 ∷ 0 ∷ 0 ∷ 0 ∷ 0 ∷ []) ∷ rec 23 (5 ∷ 0 ∷ unset ∷ unset ∷ []) ∷ rec 24 (7 ∷ 0 ∷ []) ∷ rec 29 (0 ∷ 0 ∷ []) ∷ rec 25 (0 ∷ 0 ∷ []) ∷
+      rec 24 (8 ∷ 0 ∷ []) ∷ rec 29 (0 ∷ 1 ∷ []) ∷
       rec 25 (0 ∷ 1 ∷ []) ∷ rec 27 [] ∷ rec 28 (0 ∷ 1 ∷ []) ∷ []);
 }
 
@@ -757,24 +804,27 @@ unusedEdge = record {
 unfoldable pub vertexLoopLast : Case
 vertexLoopLast = record {
   records =
-      rec 1 (1 ∷ []) ∷ rec 2 (9 ∷ []) ∷ rec 3 (5 ∷ 0 ∷ unset ∷ unset ∷ []) ∷ rec 4 (7 ∷ 0 ∷ 0 ∷ []) ∷ rec 6 (0 ∷ []) ∷ rec 5 (0 ∷ 0 ∷ []) ∷
-      rec 4 (8 ∷ 0 ∷ 0 ∷ []) ∷ rec 5 (0 ∷ 1 ∷ []) ∷ rec 8 (0 ∷ 0 ∷ []) ∷ [];
+      rec 1 (1 ∷ []) ∷ rec 2 (9 ∷ []) ∷ rec 3 (5 ∷ 0 ∷ unset ∷ unset ∷ []) ∷ rec 4 (7 ∷ 0 ∷ 0 ∷ 0 ∷ 0 ∷ []) ∷ rec 6 (0 ∷ []) ∷ rec 5 (0 ∷ 0 ∷ []) ∷
+      rec 4 (8 ∷ 0 ∷ 0 ∷ 0 ∷ 1 ∷ []) ∷ rec 5 (0 ∷ 1 ∷ []) ∷ rec 8 (0 ∷ 0 ∷ []) ∷ [];
   damaged = [];
   room = 65536;
   ending = ok
-      (rec 21 (1 ∷ 2 ∷ 0 ∷ 0 ∷ 0 ∷ 0 ∷ 0 ∷ []) ∷ rec 23 (5 ∷ 0 ∷ unset ∷ unset ∷ []) ∷ rec 24 (7 ∷ 0 ∷ []) ∷ rec 25 (0 ∷ 0 ∷ []) ∷ rec 26 (9 ∷ []) ∷
-      rec 24 (8 ∷ 0 ∷ []) ∷ rec 25 (0 ∷ 1 ∷ []) ∷ rec 27 [] ∷ rec 28 (0 ∷ 1 ∷ []) ∷ []);
+      (rec 21 (1 ∷ 2 ∷ 0 ∷ 0 ∷ 0 ∷ 0 ∷ 0 ∷ []) ∷ rec 23 (5 ∷ 0 ∷ unset ∷ unset ∷ []) ∷ rec 24 (7 ∷ 0 ∷ []) ∷ rec 29 (0 ∷ 0 ∷ []) ∷ rec 25 (0 ∷ 0 ∷ []) ∷
+      rec 26 (9 ∷ []) ∷
+      rec 24 (8 ∷ 0 ∷ []) ∷ rec 29 (0 ∷ 1 ∷ []) ∷ rec 25 (0 ∷ 1 ∷ []) ∷ rec 27 [] ∷ rec 28 (0 ∷ 1 ∷ []) ∷ []);
 }
 
 -- a second radial answer
 unfoldable pub radialAgain : Case
 radialAgain = record {
   records =
-      rec 1 (1 ∷ []) ∷ rec 3 (5 ∷ 0 ∷ unset ∷ unset ∷ []) ∷ rec 4 (7 ∷ 0 ∷ 0 ∷ []) ∷ rec 5 (0 ∷ 0 ∷ []) ∷ rec 4 (8 ∷ 0 ∷ 0 ∷ []) ∷ rec 5 (0 ∷ 1 ∷ []) ∷
-      rec 4 (9 ∷ 0 ∷ 0 ∷ []) ∷ rec 5 (0 ∷ 0 ∷ []) ∷ rec 4 (10 ∷ 0 ∷ 0 ∷ []) ∷ rec 5 (0 ∷ 1 ∷ []) ∷ rec 7 (0 ∷ 0 ∷ 3 ∷ 2 ∷ 1 ∷ []) ∷ rec 7 (0 ∷ []) ∷ [];
+      rec 1 (1 ∷ []) ∷ rec 3 (5 ∷ 0 ∷ unset ∷ unset ∷ []) ∷ rec 4 (7 ∷ 0 ∷ 0 ∷ 0 ∷ 0 ∷ []) ∷ rec 5 (0 ∷ 0 ∷ []) ∷ rec 4 (8 ∷ 0 ∷ 0 ∷ 0 ∷ 1 ∷ []) ∷
+      rec 5 (0 ∷ 1 ∷ []) ∷
+      rec 4 (9 ∷ 0 ∷ 0 ∷ 0 ∷ 2 ∷ []) ∷ rec 5 (0 ∷ 0 ∷ []) ∷ rec 4 (10 ∷ 0 ∷ 0 ∷ 0 ∷ 3 ∷ []) ∷ rec 5 (0 ∷ 1 ∷ []) ∷ rec 7 (0 ∷ 0 ∷ 3 ∷ 2 ∷ 1 ∷ []) ∷
+      rec 7 (0 ∷ []) ∷ [];
   damaged = [];
   room = 65536;
-  ending = refuse 7 186;
+  ending = refuse 7 218;
 }
 
 -- 32 comes before 33
@@ -782,8 +832,8 @@ unfoldable pub pointBeforeEdge : Case
 pointBeforeEdge = record {
   records =
       rec 1 (0 ∷ []) ∷ rec 2 (4 ∷ []) ∷ rec 2 (4 ∷ []) ∷ rec 3 (5 ∷ 0 ∷ 0 ∷ 0 ∷ []) ∷ rec 3 (6 ∷ 0 ∷ 1 ∷ 1 ∷ []) ∷ rec 3 (9 ∷ 0 ∷ unset ∷ unset ∷ []) ∷
-      rec 4 (7 ∷ 0 ∷ 0 ∷ []) ∷ rec 5 (2 ∷ 0 ∷ []) ∷ rec 5 (0 ∷ 0 ∷ []) ∷ rec 4 (8 ∷ 0 ∷ 0 ∷ []) ∷ rec 5 (2 ∷ 1 ∷ []) ∷ rec 5 (0 ∷ 1 ∷ []) ∷
-      rec 4 (9 ∷ 0 ∷ 0 ∷ []) ∷ rec 5 (2 ∷ 0 ∷ []) ∷ rec 5 (1 ∷ 0 ∷ []) ∷ rec 4 (10 ∷ 0 ∷ 0 ∷ []) ∷ rec 5 (2 ∷ 1 ∷ []) ∷ rec 5 (1 ∷ 1 ∷ []) ∷
+      rec 4 (7 ∷ 0 ∷ 0 ∷ 0 ∷ 0 ∷ []) ∷ rec 5 (2 ∷ 0 ∷ []) ∷ rec 5 (0 ∷ 0 ∷ []) ∷ rec 4 (8 ∷ 0 ∷ 0 ∷ 0 ∷ 1 ∷ []) ∷ rec 5 (2 ∷ 1 ∷ []) ∷ rec 5 (0 ∷ 1 ∷ []) ∷
+      rec 4 (9 ∷ 0 ∷ 0 ∷ 0 ∷ 2 ∷ []) ∷ rec 5 (2 ∷ 0 ∷ []) ∷ rec 5 (1 ∷ 0 ∷ []) ∷ rec 4 (10 ∷ 0 ∷ 0 ∷ 0 ∷ 3 ∷ []) ∷ rec 5 (2 ∷ 1 ∷ []) ∷ rec 5 (1 ∷ 1 ∷ []) ∷
       rec 7 (2 ∷ 0 ∷ 6 ∷ 4 ∷ 2 ∷ []) ∷ rec 8 (0 ∷ 0 ∷ []) ∷ rec 8 (1 ∷ 0 ∷ []) ∷ rec 8 (4 ∷ 0 ∷ []) ∷ rec 8 (5 ∷ 0 ∷ []) ∷
       rec 11 (5 ∷ 0 ∷ 1 ∷ 4 ∷ 1 ∷ []) ∷ rec 11 (6 ∷ 2 ∷ 3 ∷ 4 ∷ 1 ∷ []) ∷ rec 12 (0 ∷ 1 ∷ []) ∷ rec 12 (2 ∷ 0 ∷ []) ∷ rec 13 (2 ∷ 0 ∷ 1 ∷ []) ∷ [];
   damaged = [];
@@ -796,16 +846,20 @@ unfoldable pub inner : Case
 inner = record {
   records =
       rec 1 (0 ∷ []) ∷ rec 3 (5 ∷ 0 ∷ unset ∷ unset ∷ []) ∷ rec 3 (6 ∷ 0 ∷ unset ∷ unset ∷ []) ∷ rec 3 (7 ∷ 0 ∷ unset ∷ unset ∷ []) ∷
-      rec 4 (7 ∷ 0 ∷ 0 ∷ []) ∷ rec 5 (0 ∷ 0 ∷ []) ∷ rec 4 (8 ∷ 0 ∷ 0 ∷ []) ∷ rec 5 (0 ∷ 1 ∷ []) ∷ rec 4 (9 ∷ 0 ∷ 0 ∷ []) ∷ rec 5 (1 ∷ 0 ∷ []) ∷
-      rec 4 (10 ∷ 0 ∷ 0 ∷ []) ∷ rec 5 (1 ∷ 1 ∷ []) ∷ rec 4 (11 ∷ 0 ∷ 0 ∷ []) ∷ rec 5 (2 ∷ 0 ∷ []) ∷ rec 4 (12 ∷ 0 ∷ 0 ∷ []) ∷ rec 5 (2 ∷ 1 ∷ []) ∷
+      rec 4 (7 ∷ 0 ∷ 0 ∷ 0 ∷ 0 ∷ []) ∷ rec 5 (0 ∷ 0 ∷ []) ∷ rec 4 (8 ∷ 0 ∷ 0 ∷ 0 ∷ 1 ∷ []) ∷ rec 5 (0 ∷ 1 ∷ []) ∷ rec 4 (9 ∷ 0 ∷ 0 ∷ 0 ∷ 2 ∷ []) ∷
+      rec 5 (1 ∷ 0 ∷ []) ∷
+      rec 4 (10 ∷ 0 ∷ 0 ∷ 0 ∷ 3 ∷ []) ∷ rec 5 (1 ∷ 1 ∷ []) ∷ rec 4 (11 ∷ 0 ∷ 0 ∷ 0 ∷ 4 ∷ []) ∷ rec 5 (2 ∷ 0 ∷ []) ∷ rec 4 (12 ∷ 0 ∷ 0 ∷ 0 ∷ 5 ∷ []) ∷
+      rec 5 (2 ∷ 1 ∷ []) ∷
       rec 8 (0 ∷ 0 ∷ []) ∷ rec 8 (2 ∷ 0 ∷ []) ∷ rec 8 (4 ∷ 0 ∷ []) ∷ rec 12 (0 ∷ 1 ∷ []) ∷ rec 12 (2 ∷ 1 ∷ []) ∷ rec 12 (4 ∷ 0 ∷ []) ∷
       rec 13 (4 ∷ 0 ∷ 1 ∷ []) ∷ rec 13 (4 ∷ 2 ∷ 1 ∷ []) ∷ rec 13 (2 ∷ 0 ∷ 1 ∷ []) ∷ [];
   damaged = [];
   room = 65536;
   ending = ok
       (rec 21 (1 ∷ 6 ∷ 0 ∷ 0 ∷ 0 ∷ 0 ∷ 0 ∷ []) ∷ rec 23 (5 ∷ 0 ∷ unset ∷ unset ∷ []) ∷ rec 23 (6 ∷ 0 ∷ unset ∷ unset ∷ []) ∷
-      rec 23 (7 ∷ 0 ∷ unset ∷ unset ∷ []) ∷ rec 24 (7 ∷ 0 ∷ []) ∷ rec 25 (0 ∷ 0 ∷ []) ∷ rec 24 (8 ∷ 0 ∷ []) ∷ rec 25 (0 ∷ 1 ∷ []) ∷ rec 24 (9 ∷ 0 ∷ []) ∷
-      rec 25 (1 ∷ 0 ∷ []) ∷ rec 24 (10 ∷ 0 ∷ []) ∷ rec 25 (1 ∷ 1 ∷ []) ∷ rec 24 (11 ∷ 0 ∷ []) ∷ rec 25 (2 ∷ 0 ∷ []) ∷ rec 24 (12 ∷ 0 ∷ []) ∷
+      rec 23 (7 ∷ 0 ∷ unset ∷ unset ∷ []) ∷ rec 24 (7 ∷ 0 ∷ []) ∷ rec 29 (0 ∷ 0 ∷ []) ∷ rec 25 (0 ∷ 0 ∷ []) ∷ rec 24 (8 ∷ 0 ∷ []) ∷ rec 29 (0 ∷ 1 ∷ []) ∷
+      rec 25 (0 ∷ 1 ∷ []) ∷ rec 24 (9 ∷ 0 ∷ []) ∷ rec 29 (0 ∷ 2 ∷ []) ∷
+      rec 25 (1 ∷ 0 ∷ []) ∷ rec 24 (10 ∷ 0 ∷ []) ∷ rec 29 (0 ∷ 3 ∷ []) ∷ rec 25 (1 ∷ 1 ∷ []) ∷ rec 24 (11 ∷ 0 ∷ []) ∷ rec 29 (0 ∷ 4 ∷ []) ∷ rec 25 (2 ∷ 0 ∷ []) ∷
+      rec 24 (12 ∷ 0 ∷ []) ∷ rec 29 (0 ∷ 5 ∷ []) ∷
       rec 25 (2 ∷ 1 ∷ []) ∷ rec 27 [] ∷ rec 28 (0 ∷ 1 ∷ []) ∷ rec 27 [] ∷ rec 28 (2 ∷ 3 ∷ []) ∷ rec 28 (4 ∷ 5 ∷ []) ∷ []);
 }
 
@@ -814,16 +868,20 @@ unfoldable pub outerKept : Case
 outerKept = record {
   records =
       rec 1 (0 ∷ []) ∷ rec 3 (5 ∷ 0 ∷ unset ∷ unset ∷ []) ∷ rec 3 (6 ∷ 0 ∷ unset ∷ unset ∷ []) ∷ rec 3 (7 ∷ 0 ∷ unset ∷ unset ∷ []) ∷
-      rec 4 (7 ∷ 0 ∷ 0 ∷ []) ∷ rec 5 (0 ∷ 0 ∷ []) ∷ rec 4 (8 ∷ 0 ∷ 0 ∷ []) ∷ rec 5 (0 ∷ 1 ∷ []) ∷ rec 4 (9 ∷ 0 ∷ 0 ∷ []) ∷ rec 5 (1 ∷ 0 ∷ []) ∷
-      rec 4 (10 ∷ 0 ∷ 0 ∷ []) ∷ rec 5 (1 ∷ 1 ∷ []) ∷ rec 4 (11 ∷ 0 ∷ 0 ∷ []) ∷ rec 5 (2 ∷ 0 ∷ []) ∷ rec 4 (12 ∷ 0 ∷ 0 ∷ []) ∷ rec 5 (2 ∷ 1 ∷ []) ∷
+      rec 4 (7 ∷ 0 ∷ 0 ∷ 0 ∷ 0 ∷ []) ∷ rec 5 (0 ∷ 0 ∷ []) ∷ rec 4 (8 ∷ 0 ∷ 0 ∷ 0 ∷ 1 ∷ []) ∷ rec 5 (0 ∷ 1 ∷ []) ∷ rec 4 (9 ∷ 0 ∷ 0 ∷ 0 ∷ 2 ∷ []) ∷
+      rec 5 (1 ∷ 0 ∷ []) ∷
+      rec 4 (10 ∷ 0 ∷ 0 ∷ 0 ∷ 3 ∷ []) ∷ rec 5 (1 ∷ 1 ∷ []) ∷ rec 4 (11 ∷ 0 ∷ 0 ∷ 0 ∷ 4 ∷ []) ∷ rec 5 (2 ∷ 0 ∷ []) ∷ rec 4 (12 ∷ 0 ∷ 0 ∷ 0 ∷ 5 ∷ []) ∷
+      rec 5 (2 ∷ 1 ∷ []) ∷
       rec 8 (0 ∷ 0 ∷ []) ∷ rec 8 (2 ∷ 0 ∷ []) ∷ rec 8 (4 ∷ 0 ∷ []) ∷ rec 12 (0 ∷ 1 ∷ []) ∷ rec 12 (2 ∷ 1 ∷ []) ∷ rec 12 (4 ∷ 0 ∷ []) ∷
       rec 13 (4 ∷ 0 ∷ 1 ∷ []) ∷ rec 13 (4 ∷ 2 ∷ 1 ∷ []) ∷ rec 13 (2 ∷ 0 ∷ 0 ∷ []) ∷ [];
   damaged = [];
   room = 65536;
   ending = ok
       (rec 21 (1 ∷ 6 ∷ 0 ∷ 0 ∷ 0 ∷ 0 ∷ 0 ∷ []) ∷ rec 23 (5 ∷ 0 ∷ unset ∷ unset ∷ []) ∷ rec 23 (6 ∷ 0 ∷ unset ∷ unset ∷ []) ∷
-      rec 23 (7 ∷ 0 ∷ unset ∷ unset ∷ []) ∷ rec 24 (7 ∷ 0 ∷ []) ∷ rec 25 (0 ∷ 0 ∷ []) ∷ rec 24 (8 ∷ 0 ∷ []) ∷ rec 25 (0 ∷ 1 ∷ []) ∷ rec 24 (9 ∷ 0 ∷ []) ∷
-      rec 25 (1 ∷ 0 ∷ []) ∷ rec 24 (10 ∷ 0 ∷ []) ∷ rec 25 (1 ∷ 1 ∷ []) ∷ rec 24 (11 ∷ 0 ∷ []) ∷ rec 25 (2 ∷ 0 ∷ []) ∷ rec 24 (12 ∷ 0 ∷ []) ∷
+      rec 23 (7 ∷ 0 ∷ unset ∷ unset ∷ []) ∷ rec 24 (7 ∷ 0 ∷ []) ∷ rec 29 (0 ∷ 0 ∷ []) ∷ rec 25 (0 ∷ 0 ∷ []) ∷ rec 24 (8 ∷ 0 ∷ []) ∷ rec 29 (0 ∷ 1 ∷ []) ∷
+      rec 25 (0 ∷ 1 ∷ []) ∷ rec 24 (9 ∷ 0 ∷ []) ∷ rec 29 (0 ∷ 2 ∷ []) ∷
+      rec 25 (1 ∷ 0 ∷ []) ∷ rec 24 (10 ∷ 0 ∷ []) ∷ rec 29 (0 ∷ 3 ∷ []) ∷ rec 25 (1 ∷ 1 ∷ []) ∷ rec 24 (11 ∷ 0 ∷ []) ∷ rec 29 (0 ∷ 4 ∷ []) ∷ rec 25 (2 ∷ 0 ∷ []) ∷
+      rec 24 (12 ∷ 0 ∷ []) ∷ rec 29 (0 ∷ 5 ∷ []) ∷
       rec 25 (2 ∷ 1 ∷ []) ∷ rec 27 [] ∷ rec 28 (0 ∷ 1 ∷ []) ∷ rec 28 (4 ∷ 5 ∷ []) ∷ rec 27 [] ∷ rec 28 (2 ∷ 3 ∷ []) ∷ []);
 }
 
@@ -832,16 +890,20 @@ unfoldable pub voidFirst : Case
 voidFirst = record {
   records =
       rec 1 (0 ∷ []) ∷ rec 3 (5 ∷ 0 ∷ unset ∷ unset ∷ []) ∷ rec 3 (6 ∷ 0 ∷ unset ∷ unset ∷ []) ∷ rec 3 (7 ∷ 0 ∷ unset ∷ unset ∷ []) ∷
-      rec 4 (7 ∷ 0 ∷ 0 ∷ []) ∷ rec 5 (0 ∷ 0 ∷ []) ∷ rec 4 (8 ∷ 0 ∷ 0 ∷ []) ∷ rec 5 (0 ∷ 1 ∷ []) ∷ rec 4 (9 ∷ 0 ∷ 0 ∷ []) ∷ rec 5 (1 ∷ 0 ∷ []) ∷
-      rec 4 (10 ∷ 0 ∷ 0 ∷ []) ∷ rec 5 (1 ∷ 1 ∷ []) ∷ rec 4 (11 ∷ 0 ∷ 0 ∷ []) ∷ rec 5 (2 ∷ 0 ∷ []) ∷ rec 4 (12 ∷ 0 ∷ 0 ∷ []) ∷ rec 5 (2 ∷ 1 ∷ []) ∷
+      rec 4 (7 ∷ 0 ∷ 0 ∷ 0 ∷ 0 ∷ []) ∷ rec 5 (0 ∷ 0 ∷ []) ∷ rec 4 (8 ∷ 0 ∷ 0 ∷ 0 ∷ 1 ∷ []) ∷ rec 5 (0 ∷ 1 ∷ []) ∷ rec 4 (9 ∷ 0 ∷ 0 ∷ 0 ∷ 2 ∷ []) ∷
+      rec 5 (1 ∷ 0 ∷ []) ∷
+      rec 4 (10 ∷ 0 ∷ 0 ∷ 0 ∷ 3 ∷ []) ∷ rec 5 (1 ∷ 1 ∷ []) ∷ rec 4 (11 ∷ 0 ∷ 0 ∷ 0 ∷ 4 ∷ []) ∷ rec 5 (2 ∷ 0 ∷ []) ∷ rec 4 (12 ∷ 0 ∷ 0 ∷ 0 ∷ 5 ∷ []) ∷
+      rec 5 (2 ∷ 1 ∷ []) ∷
       rec 8 (0 ∷ 0 ∷ []) ∷ rec 8 (2 ∷ 0 ∷ []) ∷ rec 8 (4 ∷ 0 ∷ []) ∷ rec 12 (0 ∷ 0 ∷ []) ∷ rec 12 (2 ∷ 1 ∷ []) ∷ rec 12 (4 ∷ 1 ∷ []) ∷
       rec 13 (0 ∷ 2 ∷ 0 ∷ []) ∷ rec 13 (0 ∷ 4 ∷ 1 ∷ []) ∷ [];
   damaged = [];
   room = 65536;
   ending = ok
       (rec 21 (1 ∷ 6 ∷ 0 ∷ 0 ∷ 0 ∷ 0 ∷ 0 ∷ []) ∷ rec 23 (5 ∷ 0 ∷ unset ∷ unset ∷ []) ∷ rec 23 (6 ∷ 0 ∷ unset ∷ unset ∷ []) ∷
-      rec 23 (7 ∷ 0 ∷ unset ∷ unset ∷ []) ∷ rec 24 (7 ∷ 0 ∷ []) ∷ rec 25 (0 ∷ 0 ∷ []) ∷ rec 24 (8 ∷ 0 ∷ []) ∷ rec 25 (0 ∷ 1 ∷ []) ∷ rec 24 (9 ∷ 0 ∷ []) ∷
-      rec 25 (1 ∷ 0 ∷ []) ∷ rec 24 (10 ∷ 0 ∷ []) ∷ rec 25 (1 ∷ 1 ∷ []) ∷ rec 24 (11 ∷ 0 ∷ []) ∷ rec 25 (2 ∷ 0 ∷ []) ∷ rec 24 (12 ∷ 0 ∷ []) ∷
+      rec 23 (7 ∷ 0 ∷ unset ∷ unset ∷ []) ∷ rec 24 (7 ∷ 0 ∷ []) ∷ rec 29 (0 ∷ 0 ∷ []) ∷ rec 25 (0 ∷ 0 ∷ []) ∷ rec 24 (8 ∷ 0 ∷ []) ∷ rec 29 (0 ∷ 1 ∷ []) ∷
+      rec 25 (0 ∷ 1 ∷ []) ∷ rec 24 (9 ∷ 0 ∷ []) ∷ rec 29 (0 ∷ 2 ∷ []) ∷
+      rec 25 (1 ∷ 0 ∷ []) ∷ rec 24 (10 ∷ 0 ∷ []) ∷ rec 29 (0 ∷ 3 ∷ []) ∷ rec 25 (1 ∷ 1 ∷ []) ∷ rec 24 (11 ∷ 0 ∷ []) ∷ rec 29 (0 ∷ 4 ∷ []) ∷ rec 25 (2 ∷ 0 ∷ []) ∷
+      rec 24 (12 ∷ 0 ∷ []) ∷ rec 29 (0 ∷ 5 ∷ []) ∷
       rec 25 (2 ∷ 1 ∷ []) ∷ rec 27 [] ∷ rec 28 (2 ∷ 3 ∷ []) ∷ rec 27 [] ∷ rec 28 (4 ∷ 5 ∷ []) ∷ rec 28 (0 ∷ 1 ∷ []) ∷ []);
 }
 
@@ -849,11 +911,11 @@ voidFirst = record {
 unfoldable pub senseAndJoint : Case
 senseAndJoint = record {
   records =
-      rec 1 (1 ∷ []) ∷ rec 2 (0 ∷ []) ∷ rec 2 (1 ∷ []) ∷ rec 3 (5 ∷ 0 ∷ 0 ∷ 1 ∷ []) ∷ rec 3 (5 ∷ 0 ∷ 0 ∷ 1 ∷ []) ∷ rec 4 (7 ∷ 0 ∷ 0 ∷ []) ∷
+      rec 1 (1 ∷ []) ∷ rec 2 (0 ∷ []) ∷ rec 2 (1 ∷ []) ∷ rec 3 (5 ∷ 0 ∷ 0 ∷ 1 ∷ []) ∷ rec 3 (5 ∷ 0 ∷ 0 ∷ 1 ∷ []) ∷ rec 4 (7 ∷ 0 ∷ 0 ∷ 0 ∷ 0 ∷ []) ∷
       rec 5 (0 ∷ 0 ∷ 1 ∷ 0 ∷ 0 ∷ 5 ∷ []) ∷ [];
   damaged = [];
   room = 65536;
-  ending = refuse 4 92;
+  ending = refuse 4 100;
 }
 
 unfoldable pub cases : List Case

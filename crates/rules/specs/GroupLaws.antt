@@ -2,17 +2,19 @@
 use Rattle.std.specs.Prelude.{◌≡◌, refl, ◌⊎◌, ◌↔◌, cond, ℕ, suc, ◌+◌, ◌≤◌, ◌<◌, min, max, length, get_or, eqb, ltb}
 use Rattle.std.proofs.Common.{sym, ap, ◌∙◌, inl, inr, arith, eqb-true, eq-eqb, ne_eqb, ltb-true, ltb-false}
 use Rattle.std.proofs.Math.Logic.{⊎_elim}
-use mathlib.Core.List.{List, map-id}
+use mathlib.Core.List.{List, [], ◌∷◌, map, map-id}
+use mathlib.Core.Bool.{true≢false}
 use Rattle.std.proofs.lemmas.List.{length-map}
 use Rattle.std.proofs.Math.ListN.{get_or-eq_default}
-use Rattle.lists.specs.Lists.{below, ◌∈◌, Nodup, keep, indexOf}
+use Rattle.lists.specs.Lists.{below, ◌∈◌, Nodup, times, keep, indexOf, sumOf}
+use Rattle.lists.specs.Sums.{sum-map, sum-same}
 use Rattle.lists.specs.Tests.{both-ways, equal-or-not}
-use Rattle.lists.specs.Membership.{getD-in}
+use Rattle.lists.specs.Membership.{getD-in, times-out, times-once}
 use Rattle.lists.specs.Runs.{in-below, below-in, below-nodup, length-below, getD-below}
 use Rattle.lists.specs.Members.{in-keep, keep-in, keep-nodup, keep-length, position-le, getD-map, map-same, indexOf-in, indexOf-at}
 use Rattle.lists.specs.Counts.{keep-all}
 use Rattle.lists.specs.KeepCounts.{keep-fall}
-use Rattle.rules.specs.Groups.{alone, labelOf, moved, joined, separate, isLowest, lowestMembers, groupNumbers}
+use Rattle.rules.specs.Groups.{alone, labelOf, moved, joined, separate, membersOf, isLowest, lowestMembers, groupNumbers}
 
 -- no label lies above its number, and a label is its own label
 pub record Lowest (g : List ℕ) : Type 0 where
@@ -193,6 +195,36 @@ pub alone-many : (n : ℕ) → length (lowestMembers (alone n)) ≡ n
 alone-many n =
     ap length (keep-all (isLowest (alone n)) (below (length (alone n))) (λ i m. eq-eqb (labelOf (alone n) i) i (label-alone n i (omega (arith, below-in (length (alone n)) i m, length-below n)))))
     ∙ length-below (length (alone n)) ∙ length-below n
+
+-- THE MEMBERS OF THE GROUPS
+
+pub members-in : (g : List ℕ) (label i : ℕ) → i ∈ membersOf g label → (i < length g) × (labelOf g i ≡ label)
+members-in g label i m =
+    let r = keep-in (λ k. eqb (labelOf g k) label) (below (length g)) i m in
+    (below-in (length g) i r.0, eqb-true (labelOf g i) label r.1)
+
+-- a number stands once among the members of its own group, and not among those of another
+members-times : (g : List ℕ) (i label : ℕ) → i < length g → times i (membersOf g label) ≡ cond (eqb (labelOf g i) label) 1 0
+members-times g i label h = ⊎_elim
+    (λ t. times-once i (membersOf g label) (keep-nodup (λ k. eqb (labelOf g k) label) (below (length g)) (below-nodup (length g)))
+    (in-keep (λ k. eqb (labelOf g k) label) (in-below (length g) i h) t)
+    ∙ sym (ap (λ b. cond b 1 0) t))
+    (λ t. times-out i (membersOf g label) (λ m. true≢false (sym (eq-eqb _ _ (members-in g label i m).1) ∙ t)) ∙ sym (ap (λ b. cond b 1 0) t))
+    (both-ways (eqb (labelOf g i) label))
+
+times-sum : (x : ℕ) (l : List ℕ) → times x l ≡ sumOf (λ y. cond (eqb x y) 1 0) l
+unfolding times sumOf
+times-sum x [] = refl
+times-sum x (y ∷ l) = ap (λ k. cond (eqb x y) 1 0 + k) (times-sum x l)
+
+-- over the members of all groups each number stands once
+pub members-once : {g : List ℕ} → Lowest g → (i : ℕ) → i < length g → sumOf (times i) (map (membersOf g) (lowestMembers g)) ≡ 1
+members-once {g} l i h =
+    sum-map (times i) (membersOf g) (lowestMembers g)
+    ∙ sum-same (λ label. times i (membersOf g label)) (λ label. cond (eqb (labelOf g i) label) 1 0) (lowestMembers g)
+    (λ label m. members-times g i label h)
+    ∙ sym (times-sum (labelOf g i) (lowestMembers g))
+    ∙ times-once (labelOf g i) (lowestMembers g) (lowestMembers-nodup g) (label-in-lowestMembers l i h)
 
 -- JOINING TAKES ONE GROUP AWAY WHERE THE TWO WERE SEPARATE
 

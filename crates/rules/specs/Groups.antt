@@ -31,6 +31,10 @@ pub record Grouping : Type 0 where
 unfoldable pub joinGroups : Grouping → ℕ → ℕ → Grouping
 joinGroups s a b = record { groups = joined s.groups a b; joins = s.joins + cond (separate s.groups a b) 1 0 }
 
+-- the members of the group with a label, ascending
+abbrev pub membersOf : List ℕ → ℕ → List ℕ
+membersOf g label = keep (λ i. eqb (labelOf g i) label) (below (length g))
+
 -- a number is the lowest member of its group
 abbrev pub isLowest : List ℕ → ℕ → Bool
 isLowest g i = eqb (labelOf g i) i

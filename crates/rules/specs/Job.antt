@@ -50,7 +50,7 @@ abbrev pub edgeAt : List Edge → ℕ → Edge
 edgeAt es e = get_or es e noEdge
 
 abbrev pub noFace : Face
-noFace = record { surface = 0; own = Same; selected = Same }
+noFace = record { surface = 0; own = Same; selected = Same; body = 0; source = 0 }
 
 -- selected face f
 abbrev pub faceAt : List Face → ℕ → Face

@@ -65,7 +65,7 @@ rightLength Unknown size = false
 rightLength Head size = fieldsLong 1 size
 rightLength Vertex size = fieldsLong 1 size
 rightLength EdgeRecord size = fieldsLong 4 size
-rightLength FaceRecord size = fieldsLong 3 size
+rightLength FaceRecord size = fieldsLong 5 size
 rightLength LoopRecord size = ltb 0 size && eqb (size % 8) 0
 rightLength VertexLoop size = fieldsLong 1 size
 rightLength Radial size = ltb 0 size && eqb (size % 4) 0
@@ -135,6 +135,10 @@ limitPassed Inside c n = leb 2048 c.answers
 abbrev pub isSense : ℕ → Bool
 isSense n = leb n 1
 
+-- document 02, Seven: body is 0 or 1
+abbrev pub isBody : ℕ → Bool
+isBody n = leb n 1
+
 -- Job records, kind 3: two vertices that exist, or the mark in both
 unfoldable pub endsPermitted : ℕ → ℕ → ℕ → Bool
 endsPermitted vertices start end = cond (eqb start unset) (eqb end unset) (ltb start vertices && ltb end vertices)
@@ -155,7 +159,7 @@ fieldsPermitted Unknown c x = false
 fieldsPermitted Head c x = leb (field x 0) 1
 fieldsPermitted Vertex c x = true
 fieldsPermitted EdgeRecord c x = isSense (field x 1) && endsPermitted c.vertices (field x 2) (field x 3)
-fieldsPermitted FaceRecord c x = isSense (field x 1) && isSense (field x 2)
+fieldsPermitted FaceRecord c x = isSense (field x 1) && (isSense (field x 2) && isBody (field x 3))
 fieldsPermitted LoopRecord c x = itemsPermitted c.edges x
 fieldsPermitted VertexLoop c x = exists c.vertices (field x 0)
 fieldsPermitted Radial c x = exists c.edges (field x 0) && all (exists c.uses) (drop 1 x)

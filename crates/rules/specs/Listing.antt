@@ -21,7 +21,7 @@ digitsBefore (suc most) n text =
 abbrev pub decimal : ℕ → List ℕ
 decimal n = digitsBefore 20 n []
 
--- Listing: a record's name in lower case: body, vertex, edge, face, loop, vertex-loop, lump, shell
+-- Listing: a record's name in lower case: body, vertex, edge, face, loop, vertex-loop, lump, shell; document 02, Seven: members
 unfoldable pub wordOf : ℕ → List ℕ
 wordOf kind =
     get_or
@@ -33,6 +33,7 @@ wordOf kind =
     ∷ (118 ∷ 101 ∷ 114 ∷ 116 ∷ 101 ∷ 120 ∷ 45 ∷ 108 ∷ 111 ∷ 111 ∷ 112 ∷ [])
     ∷ (108 ∷ 117 ∷ 109 ∷ 112 ∷ [])
     ∷ (115 ∷ 104 ∷ 101 ∷ 108 ∷ 108 ∷ [])
+    ∷ (109 ∷ 101 ∷ 109 ∷ 98 ∷ 101 ∷ 114 ∷ 115 ∷ [])
     ∷ [])
     (kind - 21)
     []

@@ -63,9 +63,9 @@ alsoIf false xs x = xs
 abbrev pub edgeOf : List ℕ → Edge
 edgeOf x = record { curve = field x 0; sense = senseOf (field x 1); start = field x 2; end = field x 3 }
 
--- Job records, kind 4: surface, own sense, selected sense
+-- Job records, kind 4: surface, own sense, selected sense; document 02, Seven: body and source face, which may be anything
 abbrev pub faceOf : List ℕ → Face
-faceOf x = record { surface = field x 0; own = senseOf (field x 1); selected = senseOf (field x 2) }
+faceOf x = record { surface = field x 0; own = senseOf (field x 1); selected = senseOf (field x 2); body = field x 3; source = field x 4 }
 
 -- Job records, kinds 5 and 6: a loop of the latest face
 abbrev pub loopOf : Kind → ℕ → List ℕ → Loop

@@ -20,8 +20,8 @@ unfoldable pub ringJob : ℕ → List Record
 ringJob second =
     rec 1 (1 ∷ []) ∷
     rec 3 (5 ∷ 0 ∷ unset ∷ unset ∷ []) ∷
-    rec 4 (7 ∷ 0 ∷ 0 ∷ []) ∷ rec 5 (0 ∷ 0 ∷ []) ∷
-    rec 4 (8 ∷ 0 ∷ 0 ∷ []) ∷ rec 5 (0 ∷ second ∷ []) ∷ []
+    rec 4 (7 ∷ 0 ∷ 0 ∷ 0 ∷ 0 ∷ []) ∷ rec 5 (0 ∷ 0 ∷ []) ∷
+    rec 4 (8 ∷ 0 ∷ 0 ∷ 0 ∷ 1 ∷ []) ∷ rec 5 (0 ∷ second ∷ []) ∷ []
 
 -- the surfaces differ: 2 faces, 1 edge, 1 shell
 unfoldable pub P2 : Row
@@ -30,8 +30,8 @@ P2 = record {
   ending = ok
       (rec 21 (1 ∷ 2 ∷ 0 ∷ 0 ∷ 0 ∷ 0 ∷ 0 ∷ []) ∷
       rec 23 (5 ∷ 0 ∷ unset ∷ unset ∷ []) ∷
-      rec 24 (7 ∷ 0 ∷ []) ∷ rec 25 (0 ∷ 0 ∷ []) ∷
-      rec 24 (8 ∷ 0 ∷ []) ∷ rec 25 (0 ∷ 1 ∷ []) ∷
+      rec 24 (7 ∷ 0 ∷ []) ∷ rec 29 (0 ∷ 0 ∷ []) ∷ rec 25 (0 ∷ 0 ∷ []) ∷
+      rec 24 (8 ∷ 0 ∷ []) ∷ rec 29 (0 ∷ 1 ∷ []) ∷ rec 25 (0 ∷ 1 ∷ []) ∷
       rec 27 [] ∷ rec 28 (0 ∷ 1 ∷ []) ∷ []);
 }
 
@@ -39,7 +39,7 @@ P2 = record {
 unfoldable pub P3 : Row
 P3 = record {
   job = ringJob 1 ++ (rec 8 (0 ∷ 1 ∷ []) ∷ []);
-  ending = ok (rec 21 (1 ∷ 2 ∷ 2 ∷ 0 ∷ 0 ∷ 0 ∷ 1 ∷ []) ∷ rec 24 (7 ∷ 0 ∷ []) ∷ rec 27 [] ∷ rec 28 (0 ∷ []) ∷ []);
+  ending = ok (rec 21 (1 ∷ 2 ∷ 2 ∷ 0 ∷ 0 ∷ 0 ∷ 1 ∷ []) ∷ rec 24 (7 ∷ 0 ∷ []) ∷ rec 29 (0 ∷ 0 ∷ 0 ∷ 1 ∷ []) ∷ rec 27 [] ∷ rec 28 (0 ∷ []) ∷ []);
 }
 
 -- both uses Same
@@ -49,15 +49,15 @@ P4 = record { job = ringJob 0; ending = refuse 10 0 }
 -- one use
 unfoldable pub P5 : Row
 P5 = record {
-  job = rec 1 (1 ∷ []) ∷ rec 3 (5 ∷ 0 ∷ unset ∷ unset ∷ []) ∷ rec 4 (7 ∷ 0 ∷ 0 ∷ []) ∷ rec 5 (0 ∷ 0 ∷ []) ∷ [];
+  job = rec 1 (1 ∷ []) ∷ rec 3 (5 ∷ 0 ∷ unset ∷ unset ∷ []) ∷ rec 4 (7 ∷ 0 ∷ 0 ∷ 0 ∷ 0 ∷ []) ∷ rec 5 (0 ∷ 0 ∷ []) ∷ [];
   ending = refuse 11 0;
 }
 
 -- a ring with a second use in its loop
 unfoldable pub P6 : Row
 P6 = record {
-  job = rec 1 (1 ∷ []) ∷ rec 3 (5 ∷ 0 ∷ unset ∷ unset ∷ []) ∷ rec 4 (7 ∷ 0 ∷ 0 ∷ []) ∷ rec 5 (0 ∷ 0 ∷ 0 ∷ 1 ∷ []) ∷ [];
-  ending = refuse 6 50;
+  job = rec 1 (1 ∷ []) ∷ rec 3 (5 ∷ 0 ∷ unset ∷ unset ∷ []) ∷ rec 4 (7 ∷ 0 ∷ 0 ∷ 0 ∷ 0 ∷ []) ∷ rec 5 (0 ∷ 0 ∷ 0 ∷ 1 ∷ []) ∷ [];
+  ending = refuse 6 58;
 }
 
 -- two edges between two vertices, two faces, all answers 0 but whether point 0 is singular
@@ -66,8 +66,8 @@ lensJob singular =
     rec 1 (1 ∷ []) ∷
     rec 2 (0 ∷ []) ∷ rec 2 (1 ∷ []) ∷
     rec 3 (5 ∷ 0 ∷ 0 ∷ 1 ∷ []) ∷ rec 3 (5 ∷ 0 ∷ 1 ∷ 0 ∷ []) ∷
-    rec 4 (7 ∷ 0 ∷ 0 ∷ []) ∷ rec 5 (0 ∷ 0 ∷ 1 ∷ 0 ∷ []) ∷
-    rec 4 (8 ∷ 0 ∷ 0 ∷ []) ∷ rec 5 (1 ∷ 1 ∷ 0 ∷ 1 ∷ []) ∷
+    rec 4 (7 ∷ 0 ∷ 0 ∷ 0 ∷ 0 ∷ []) ∷ rec 5 (0 ∷ 0 ∷ 1 ∷ 0 ∷ []) ∷
+    rec 4 (8 ∷ 0 ∷ 0 ∷ 0 ∷ 1 ∷ []) ∷ rec 5 (1 ∷ 1 ∷ 0 ∷ 1 ∷ []) ∷
     rec 8 (0 ∷ 0 ∷ []) ∷ rec 8 (1 ∷ 0 ∷ []) ∷
     rec 11 (5 ∷ 0 ∷ 1 ∷ 0 ∷ singular ∷ []) ∷ rec 11 (5 ∷ 0 ∷ 1 ∷ 1 ∷ 0 ∷ []) ∷ []
 
@@ -78,8 +78,8 @@ P7 = record {
   ending = ok
       (rec 21 (1 ∷ 4 ∷ 0 ∷ 0 ∷ 1 ∷ 1 ∷ 0 ∷ []) ∷
       rec 23 (5 ∷ 1 ∷ unset ∷ unset ∷ []) ∷
-      rec 24 (7 ∷ 0 ∷ []) ∷ rec 25 (0 ∷ 1 ∷ []) ∷
-      rec 24 (8 ∷ 0 ∷ []) ∷ rec 25 (0 ∷ 0 ∷ []) ∷
+      rec 24 (7 ∷ 0 ∷ []) ∷ rec 29 (0 ∷ 0 ∷ []) ∷ rec 25 (0 ∷ 1 ∷ []) ∷
+      rec 24 (8 ∷ 0 ∷ []) ∷ rec 29 (0 ∷ 1 ∷ []) ∷ rec 25 (0 ∷ 0 ∷ []) ∷
       rec 27 [] ∷ rec 28 (0 ∷ 1 ∷ []) ∷ []);
 }
 
@@ -91,8 +91,8 @@ P8 = record {
       (rec 21 (1 ∷ 4 ∷ 0 ∷ 0 ∷ 1 ∷ 0 ∷ 0 ∷ []) ∷
       rec 22 (0 ∷ []) ∷
       rec 23 (5 ∷ 0 ∷ 0 ∷ 0 ∷ []) ∷
-      rec 24 (7 ∷ 0 ∷ []) ∷ rec 25 (0 ∷ 0 ∷ []) ∷
-      rec 24 (8 ∷ 0 ∷ []) ∷ rec 25 (0 ∷ 1 ∷ []) ∷
+      rec 24 (7 ∷ 0 ∷ []) ∷ rec 29 (0 ∷ 0 ∷ []) ∷ rec 25 (0 ∷ 0 ∷ []) ∷
+      rec 24 (8 ∷ 0 ∷ []) ∷ rec 29 (0 ∷ 1 ∷ []) ∷ rec 25 (0 ∷ 1 ∷ []) ∷
       rec 27 [] ∷ rec 28 (0 ∷ 1 ∷ []) ∷ []);
 }
 
@@ -103,17 +103,17 @@ P9 = record {
       rec 1 (1 ∷ []) ∷
       rec 2 (0 ∷ []) ∷ rec 2 (1 ∷ []) ∷
       rec 3 (5 ∷ 0 ∷ 0 ∷ 1 ∷ []) ∷ rec 3 (6 ∷ 0 ∷ 1 ∷ 0 ∷ []) ∷ rec 3 (9 ∷ 0 ∷ 0 ∷ 1 ∷ []) ∷
-      rec 4 (7 ∷ 0 ∷ 0 ∷ []) ∷ rec 5 (0 ∷ 0 ∷ 2 ∷ 1 ∷ []) ∷
-      rec 4 (7 ∷ 0 ∷ 0 ∷ []) ∷ rec 5 (2 ∷ 0 ∷ 1 ∷ 0 ∷ []) ∷
-      rec 4 (8 ∷ 0 ∷ 0 ∷ []) ∷ rec 5 (1 ∷ 1 ∷ 0 ∷ 1 ∷ []) ∷
+      rec 4 (7 ∷ 0 ∷ 0 ∷ 0 ∷ 0 ∷ []) ∷ rec 5 (0 ∷ 0 ∷ 2 ∷ 1 ∷ []) ∷
+      rec 4 (7 ∷ 0 ∷ 0 ∷ 0 ∷ 1 ∷ []) ∷ rec 5 (2 ∷ 0 ∷ 1 ∷ 0 ∷ []) ∷
+      rec 4 (8 ∷ 0 ∷ 0 ∷ 0 ∷ 2 ∷ []) ∷ rec 5 (1 ∷ 1 ∷ 0 ∷ 1 ∷ []) ∷
       rec 8 (0 ∷ 0 ∷ []) ∷ rec 8 (1 ∷ 1 ∷ []) ∷ rec 8 (3 ∷ 0 ∷ []) ∷
       rec 10 (5 ∷ 6 ∷ 0 ∷ []) ∷ [];
   ending = ok
       (rec 21 (1 ∷ 6 ∷ 2 ∷ 2 ∷ 0 ∷ 0 ∷ 1 ∷ []) ∷
       rec 22 (0 ∷ []) ∷ rec 22 (1 ∷ []) ∷
       rec 23 (5 ∷ 0 ∷ 0 ∷ 1 ∷ []) ∷ rec 23 (6 ∷ 0 ∷ 1 ∷ 0 ∷ []) ∷
-      rec 24 (7 ∷ 0 ∷ []) ∷ rec 25 (0 ∷ 0 ∷ 1 ∷ 0 ∷ []) ∷
-      rec 24 (8 ∷ 0 ∷ []) ∷ rec 25 (1 ∷ 1 ∷ 0 ∷ 1 ∷ []) ∷
+      rec 24 (7 ∷ 0 ∷ []) ∷ rec 29 (0 ∷ 0 ∷ 0 ∷ 1 ∷ []) ∷ rec 25 (0 ∷ 0 ∷ 1 ∷ 0 ∷ []) ∷
+      rec 24 (8 ∷ 0 ∷ []) ∷ rec 29 (0 ∷ 2 ∷ []) ∷ rec 25 (1 ∷ 1 ∷ 0 ∷ 1 ∷ []) ∷
       rec 27 [] ∷ rec 28 (0 ∷ 1 ∷ []) ∷ []);
 }
 

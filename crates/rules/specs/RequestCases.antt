@@ -1,9 +1,10 @@
 -- Jobs made by hand from document 02, request by request.
 use Rattle.std.specs.Prelude.{◌≡◌, refl, List, [], ◌∷◌, ◌++◌, map, ℕ, length, Bool, true}
-use Rattle.lists.specs.Lists.{all, below}
+use Rattle.lists.specs.Lists.{same, all, below}
 use Rattle.rules.specs.Outcome.{Outcome, ok, refuse, ◌>>=◌, throughout}
 use Rattle.rules.specs.Fields.{fieldBytes}
-use Rattle.rules.specs.Frame.{framedAll}
+use Rattle.rules.specs.Frame.{Record, framedAll}
+use Rattle.rules.specs.Listing.{listing}
 use Rattle.rules.specs.Job.{unset}
 use Rattle.rules.specs.Load.{loaded}
 use Rattle.rules.specs.Read.{usesOf, useStart}
@@ -22,28 +23,33 @@ use Rattle.rules.specs.Open.{computes}
 -- own times selected: Same Same, Same Reversed, Reversed Same, Reversed Reversed
 unfoldable pub fourFaces : Row
 fourFaces = record {
-  job = rec 1 (1 ∷ []) ∷ rec 4 (7 ∷ 0 ∷ 0 ∷ []) ∷ rec 4 (8 ∷ 0 ∷ 1 ∷ []) ∷ rec 4 (9 ∷ 1 ∷ 0 ∷ []) ∷ rec 4 (10 ∷ 1 ∷ 1 ∷ []) ∷ [];
+  job = rec 1 (1 ∷ []) ∷ rec 4 (7 ∷ 0 ∷ 0 ∷ 0 ∷ 0 ∷ []) ∷ rec 4 (8 ∷ 0 ∷ 1 ∷ 0 ∷ 1 ∷ []) ∷ rec 4 (9 ∷ 1 ∷ 0 ∷ 0 ∷ 2 ∷ []) ∷ rec 4 (10 ∷ 1 ∷ 1 ∷ 0 ∷ 3 ∷ []) ∷ [];
   ending =
-      ok (rec 21 (1 ∷ 0 ∷ 0 ∷ 0 ∷ 0 ∷ 0 ∷ 0 ∷ []) ∷ rec 24 (7 ∷ 0 ∷ []) ∷ rec 24 (8 ∷ 1 ∷ []) ∷ rec 24 (9 ∷ 1 ∷ []) ∷ rec 24 (10 ∷ 0 ∷ []) ∷ rec 27 [] ∷ rec 28 (0 ∷ []) ∷
+      ok (rec 21 (1 ∷ 0 ∷ 0 ∷ 0 ∷ 0 ∷ 0 ∷ 0 ∷ []) ∷ rec 24 (7 ∷ 0 ∷ []) ∷ rec 29 (0 ∷ 0 ∷ []) ∷ rec 24 (8 ∷ 1 ∷ []) ∷ rec 29 (0 ∷ 1 ∷ []) ∷ rec 24 (9 ∷ 1 ∷ []) ∷
+      rec 29 (0 ∷ 2 ∷ []) ∷ rec 24 (10 ∷ 0 ∷ []) ∷ rec 29 (0 ∷ 3 ∷ []) ∷ rec 27 [] ∷ rec 28 (0 ∷ []) ∷
       rec 27 [] ∷ rec 28 (1 ∷ []) ∷ rec 27 [] ∷ rec 28 (2 ∷ []) ∷ rec 27 [] ∷ rec 28 (3 ∷ []) ∷ []);
 }
 
 -- normals agree, and Reversed times Reversed is the other face's Same: the two faces are one
 unfoldable pub reversedTwice : Row
 reversedTwice = record {
-  job = rec 1 (1 ∷ []) ∷ rec 3 (5 ∷ 0 ∷ unset ∷ unset ∷ []) ∷ rec 4 (7 ∷ 0 ∷ 0 ∷ []) ∷ rec 5 (0 ∷ 0 ∷ []) ∷ rec 4 (8 ∷ 1 ∷ 1 ∷ []) ∷ rec 5 (0 ∷ 0 ∷ []) ∷ rec 8 (0 ∷ 1 ∷ []) ∷ [];
-  ending = ok (rec 21 (1 ∷ 2 ∷ 2 ∷ 0 ∷ 0 ∷ 0 ∷ 1 ∷ []) ∷ rec 24 (7 ∷ 0 ∷ []) ∷ rec 27 [] ∷ rec 28 (0 ∷ []) ∷ []);
+  job =
+      rec 1 (1 ∷ []) ∷ rec 3 (5 ∷ 0 ∷ unset ∷ unset ∷ []) ∷ rec 4 (7 ∷ 0 ∷ 0 ∷ 0 ∷ 0 ∷ []) ∷ rec 5 (0 ∷ 0 ∷ []) ∷ rec 4 (8 ∷ 1 ∷ 1 ∷ 0 ∷ 1 ∷ []) ∷ rec 5 (0 ∷ 0 ∷ []) ∷
+      rec 8 (0 ∷ 1 ∷ []) ∷ [];
+  ending = ok (rec 21 (1 ∷ 2 ∷ 2 ∷ 0 ∷ 0 ∷ 0 ∷ 1 ∷ []) ∷ rec 24 (7 ∷ 0 ∷ []) ∷ rec 29 (0 ∷ 0 ∷ 0 ∷ 1 ∷ []) ∷ rec 27 [] ∷ rec 28 (0 ∷ []) ∷ []);
 }
 
 -- a loop's sense times the selected sense, the four cases in turn: two rings, a face selected Same and one selected Reversed
 unfoldable pub fourUses : Row
 fourUses = record {
   job =
-      rec 1 (1 ∷ []) ∷ rec 3 (5 ∷ 0 ∷ unset ∷ unset ∷ []) ∷ rec 3 (6 ∷ 0 ∷ unset ∷ unset ∷ []) ∷ rec 4 (7 ∷ 0 ∷ 0 ∷ []) ∷ rec 5 (0 ∷ 0 ∷ []) ∷ rec 5 (1 ∷ 1 ∷ []) ∷
-      rec 4 (8 ∷ 0 ∷ 1 ∷ []) ∷ rec 5 (0 ∷ 0 ∷ []) ∷ rec 5 (1 ∷ 1 ∷ []) ∷ rec 8 (0 ∷ 0 ∷ []) ∷ rec 8 (1 ∷ 0 ∷ []) ∷ [];
+      rec 1 (1 ∷ []) ∷ rec 3 (5 ∷ 0 ∷ unset ∷ unset ∷ []) ∷ rec 3 (6 ∷ 0 ∷ unset ∷ unset ∷ []) ∷ rec 4 (7 ∷ 0 ∷ 0 ∷ 0 ∷ 0 ∷ []) ∷ rec 5 (0 ∷ 0 ∷ []) ∷
+      rec 5 (1 ∷ 1 ∷ []) ∷
+      rec 4 (8 ∷ 0 ∷ 1 ∷ 0 ∷ 1 ∷ []) ∷ rec 5 (0 ∷ 0 ∷ []) ∷ rec 5 (1 ∷ 1 ∷ []) ∷ rec 8 (0 ∷ 0 ∷ []) ∷ rec 8 (1 ∷ 0 ∷ []) ∷ [];
   ending =
-      ok (rec 21 (1 ∷ 4 ∷ 0 ∷ 0 ∷ 0 ∷ 0 ∷ 0 ∷ []) ∷ rec 23 (5 ∷ 0 ∷ unset ∷ unset ∷ []) ∷ rec 23 (6 ∷ 0 ∷ unset ∷ unset ∷ []) ∷ rec 24 (7 ∷ 0 ∷ []) ∷ rec 25 (0 ∷ 0 ∷ []) ∷
-      rec 25 (1 ∷ 1 ∷ []) ∷ rec 24 (8 ∷ 1 ∷ []) ∷ rec 25 (0 ∷ 1 ∷ []) ∷ rec 25 (1 ∷ 0 ∷ []) ∷ rec 27 [] ∷ rec 28 (0 ∷ 1 ∷ []) ∷ []);
+      ok (rec 21 (1 ∷ 4 ∷ 0 ∷ 0 ∷ 0 ∷ 0 ∷ 0 ∷ []) ∷ rec 23 (5 ∷ 0 ∷ unset ∷ unset ∷ []) ∷ rec 23 (6 ∷ 0 ∷ unset ∷ unset ∷ []) ∷ rec 24 (7 ∷ 0 ∷ []) ∷
+      rec 29 (0 ∷ 0 ∷ []) ∷ rec 25 (0 ∷ 0 ∷ []) ∷
+      rec 25 (1 ∷ 1 ∷ []) ∷ rec 24 (8 ∷ 1 ∷ []) ∷ rec 29 (0 ∷ 1 ∷ []) ∷ rec 25 (0 ∷ 1 ∷ []) ∷ rec 25 (1 ∷ 0 ∷ []) ∷ rec 27 [] ∷ rec 28 (0 ∷ 1 ∷ []) ∷ []);
 }
 
 unfoldable pub senseRows : List Row
@@ -65,10 +71,12 @@ unfoldable pub twoHalves : Row
 twoHalves = record {
   job =
       rec 1 (1 ∷ []) ∷ rec 2 (0 ∷ []) ∷ rec 2 (1 ∷ []) ∷ rec 2 (1 ∷ []) ∷ rec 2 (0 ∷ []) ∷ rec 3 (5 ∷ 0 ∷ 0 ∷ 1 ∷ []) ∷ rec 3 (5 ∷ 0 ∷ 2 ∷ 3 ∷ []) ∷
-      rec 4 (7 ∷ 0 ∷ 0 ∷ []) ∷ rec 5 (0 ∷ 0 ∷ 1 ∷ 0 ∷ []) ∷ rec 4 (8 ∷ 0 ∷ 0 ∷ []) ∷ rec 5 (1 ∷ 1 ∷ 0 ∷ 1 ∷ []) ∷ rec 8 (0 ∷ 0 ∷ []) ∷ rec 8 (1 ∷ 0 ∷ []) ∷
+      rec 4 (7 ∷ 0 ∷ 0 ∷ 0 ∷ 0 ∷ []) ∷ rec 5 (0 ∷ 0 ∷ 1 ∷ 0 ∷ []) ∷ rec 4 (8 ∷ 0 ∷ 0 ∷ 0 ∷ 1 ∷ []) ∷ rec 5 (1 ∷ 1 ∷ 0 ∷ 1 ∷ []) ∷ rec 8 (0 ∷ 0 ∷ []) ∷
+      rec 8 (1 ∷ 0 ∷ []) ∷
       rec 11 (5 ∷ 0 ∷ 1 ∷ 0 ∷ 0 ∷ []) ∷ rec 11 (5 ∷ 0 ∷ 1 ∷ 1 ∷ 0 ∷ []) ∷ [];
   ending =
-      ok (rec 21 (1 ∷ 4 ∷ 0 ∷ 0 ∷ 1 ∷ 1 ∷ 0 ∷ []) ∷ rec 23 (5 ∷ 1 ∷ unset ∷ unset ∷ []) ∷ rec 24 (7 ∷ 0 ∷ []) ∷ rec 25 (0 ∷ 1 ∷ []) ∷ rec 24 (8 ∷ 0 ∷ []) ∷
+      ok (rec 21 (1 ∷ 4 ∷ 0 ∷ 0 ∷ 1 ∷ 1 ∷ 0 ∷ []) ∷ rec 23 (5 ∷ 1 ∷ unset ∷ unset ∷ []) ∷ rec 24 (7 ∷ 0 ∷ []) ∷ rec 29 (0 ∷ 0 ∷ []) ∷ rec 25 (0 ∷ 1 ∷ []) ∷
+      rec 24 (8 ∷ 0 ∷ []) ∷ rec 29 (0 ∷ 1 ∷ []) ∷
       rec 25 (0 ∷ 0 ∷ []) ∷ rec 27 [] ∷ rec 28 (0 ∷ 1 ∷ []) ∷ []);
 }
 
@@ -77,12 +85,15 @@ unfoldable pub triangleByPoint : Row
 triangleByPoint = record {
   job =
       rec 1 (1 ∷ []) ∷ rec 2 (11 ∷ []) ∷ rec 2 (12 ∷ []) ∷ rec 2 (12 ∷ []) ∷ rec 2 (13 ∷ []) ∷ rec 2 (13 ∷ []) ∷ rec 2 (11 ∷ []) ∷ rec 3 (5 ∷ 0 ∷ 0 ∷ 1 ∷ []) ∷
-      rec 3 (6 ∷ 0 ∷ 2 ∷ 3 ∷ []) ∷ rec 3 (7 ∷ 0 ∷ 4 ∷ 5 ∷ []) ∷ rec 4 (7 ∷ 0 ∷ 0 ∷ []) ∷ rec 5 (0 ∷ 0 ∷ 1 ∷ 0 ∷ 2 ∷ 0 ∷ []) ∷ rec 4 (8 ∷ 0 ∷ 1 ∷ []) ∷
+      rec 3 (6 ∷ 0 ∷ 2 ∷ 3 ∷ []) ∷ rec 3 (7 ∷ 0 ∷ 4 ∷ 5 ∷ []) ∷ rec 4 (7 ∷ 0 ∷ 0 ∷ 0 ∷ 0 ∷ []) ∷ rec 5 (0 ∷ 0 ∷ 1 ∷ 0 ∷ 2 ∷ 0 ∷ []) ∷
+      rec 4 (8 ∷ 0 ∷ 1 ∷ 0 ∷ 1 ∷ []) ∷
       rec 5 (1 ∷ 0 ∷ 2 ∷ 0 ∷ 0 ∷ 0 ∷ []) ∷ rec 8 (0 ∷ 0 ∷ []) ∷ rec 8 (1 ∷ 0 ∷ []) ∷ rec 8 (2 ∷ 0 ∷ []) ∷ rec 10 (5 ∷ 6 ∷ 0 ∷ []) ∷ rec 10 (6 ∷ 7 ∷ 0 ∷ []) ∷
       rec 10 (5 ∷ 7 ∷ 0 ∷ []) ∷ [];
   ending =
-      ok (rec 21 (1 ∷ 6 ∷ 0 ∷ 0 ∷ 0 ∷ 0 ∷ 0 ∷ []) ∷ rec 22 (11 ∷ []) ∷ rec 22 (12 ∷ []) ∷ rec 22 (13 ∷ []) ∷ rec 23 (5 ∷ 0 ∷ 0 ∷ 1 ∷ []) ∷ rec 23 (6 ∷ 0 ∷ 1 ∷ 2 ∷ []) ∷
-      rec 23 (7 ∷ 0 ∷ 2 ∷ 0 ∷ []) ∷ rec 24 (7 ∷ 0 ∷ []) ∷ rec 25 (0 ∷ 0 ∷ 1 ∷ 0 ∷ 2 ∷ 0 ∷ []) ∷ rec 24 (8 ∷ 1 ∷ []) ∷ rec 25 (0 ∷ 1 ∷ 2 ∷ 1 ∷ 1 ∷ 1 ∷ []) ∷ rec 27 [] ∷
+      ok (rec 21 (1 ∷ 6 ∷ 0 ∷ 0 ∷ 0 ∷ 0 ∷ 0 ∷ []) ∷ rec 22 (11 ∷ []) ∷ rec 22 (12 ∷ []) ∷ rec 22 (13 ∷ []) ∷ rec 23 (5 ∷ 0 ∷ 0 ∷ 1 ∷ []) ∷
+      rec 23 (6 ∷ 0 ∷ 1 ∷ 2 ∷ []) ∷
+      rec 23 (7 ∷ 0 ∷ 2 ∷ 0 ∷ []) ∷ rec 24 (7 ∷ 0 ∷ []) ∷ rec 29 (0 ∷ 0 ∷ []) ∷ rec 25 (0 ∷ 0 ∷ 1 ∷ 0 ∷ 2 ∷ 0 ∷ []) ∷ rec 24 (8 ∷ 1 ∷ []) ∷ rec 29 (0 ∷ 1 ∷ []) ∷
+      rec 25 (0 ∷ 1 ∷ 2 ∷ 1 ∷ 1 ∷ 1 ∷ []) ∷ rec 27 [] ∷
       rec 28 (0 ∷ 1 ∷ []) ∷ []);
 }
 
@@ -90,10 +101,12 @@ triangleByPoint = record {
 unfoldable pub aloneByPoint : Row
 aloneByPoint = record {
   job =
-      rec 1 (1 ∷ []) ∷ rec 2 (4294967295 ∷ []) ∷ rec 2 (4294967295 ∷ []) ∷ rec 3 (5 ∷ 0 ∷ 0 ∷ 1 ∷ []) ∷ rec 4 (7 ∷ 0 ∷ 0 ∷ []) ∷ rec 5 (0 ∷ 0 ∷ []) ∷ rec 4 (8 ∷ 0 ∷ 0 ∷ []) ∷
+      rec 1 (1 ∷ []) ∷ rec 2 (4294967295 ∷ []) ∷ rec 2 (4294967295 ∷ []) ∷ rec 3 (5 ∷ 0 ∷ 0 ∷ 1 ∷ []) ∷ rec 4 (7 ∷ 0 ∷ 0 ∷ 0 ∷ 0 ∷ []) ∷ rec 5 (0 ∷ 0 ∷ []) ∷
+      rec 4 (8 ∷ 0 ∷ 0 ∷ 0 ∷ 1 ∷ []) ∷
       rec 5 (0 ∷ 1 ∷ []) ∷ rec 8 (0 ∷ 0 ∷ []) ∷ rec 11 (5 ∷ 0 ∷ 1 ∷ 4294967295 ∷ 1 ∷ []) ∷ [];
   ending =
-      ok (rec 21 (1 ∷ 2 ∷ 0 ∷ 0 ∷ 0 ∷ 0 ∷ 0 ∷ []) ∷ rec 22 (4294967295 ∷ []) ∷ rec 23 (5 ∷ 0 ∷ 0 ∷ 0 ∷ []) ∷ rec 24 (7 ∷ 0 ∷ []) ∷ rec 25 (0 ∷ 0 ∷ []) ∷ rec 24 (8 ∷ 0 ∷ []) ∷
+      ok (rec 21 (1 ∷ 2 ∷ 0 ∷ 0 ∷ 0 ∷ 0 ∷ 0 ∷ []) ∷ rec 22 (4294967295 ∷ []) ∷ rec 23 (5 ∷ 0 ∷ 0 ∷ 0 ∷ []) ∷ rec 24 (7 ∷ 0 ∷ []) ∷ rec 29 (0 ∷ 0 ∷ []) ∷
+      rec 25 (0 ∷ 0 ∷ []) ∷ rec 24 (8 ∷ 0 ∷ []) ∷ rec 29 (0 ∷ 1 ∷ []) ∷
       rec 25 (0 ∷ 1 ∷ []) ∷ rec 27 [] ∷ rec 28 (0 ∷ 1 ∷ []) ∷ []);
 }
 
@@ -102,8 +115,8 @@ unfoldable pub lastOpen : Row
 lastOpen = record {
   job =
       rec 1 (1 ∷ []) ∷ rec 2 (0 ∷ []) ∷ rec 2 (1 ∷ []) ∷ rec 2 (1 ∷ []) ∷ rec 2 (2 ∷ []) ∷ rec 3 (5 ∷ 0 ∷ 0 ∷ 1 ∷ []) ∷ rec 3 (5 ∷ 0 ∷ 2 ∷ 3 ∷ []) ∷
-      rec 4 (7 ∷ 0 ∷ 0 ∷ []) ∷ rec 5 (0 ∷ 0 ∷ 1 ∷ 0 ∷ []) ∷ [];
-  ending = refuse 6 112;
+      rec 4 (7 ∷ 0 ∷ 0 ∷ 0 ∷ 0 ∷ []) ∷ rec 5 (0 ∷ 0 ∷ 1 ∷ 0 ∷ []) ∷ [];
+  ending = refuse 6 120;
 }
 
 -- the second use starts at another point than the first ends, though the last leads to the first
@@ -111,8 +124,8 @@ unfoldable pub firstOpen : Row
 firstOpen = record {
   job =
       rec 1 (1 ∷ []) ∷ rec 2 (0 ∷ []) ∷ rec 2 (1 ∷ []) ∷ rec 2 (2 ∷ []) ∷ rec 2 (0 ∷ []) ∷ rec 3 (5 ∷ 0 ∷ 0 ∷ 1 ∷ []) ∷ rec 3 (5 ∷ 0 ∷ 2 ∷ 3 ∷ []) ∷
-      rec 4 (7 ∷ 0 ∷ 0 ∷ []) ∷ rec 5 (0 ∷ 0 ∷ 1 ∷ 0 ∷ []) ∷ [];
-  ending = refuse 6 112;
+      rec 4 (7 ∷ 0 ∷ 0 ∷ 0 ∷ 0 ∷ []) ∷ rec 5 (0 ∷ 0 ∷ 1 ∷ 0 ∷ []) ∷ [];
+  ending = refuse 6 120;
 }
 
 -- the second loop breaks between its second use and its third
@@ -120,50 +133,54 @@ unfoldable pub middleOpen : Row
 middleOpen = record {
   job =
       rec 1 (1 ∷ []) ∷ rec 2 (1 ∷ []) ∷ rec 2 (2 ∷ []) ∷ rec 2 (2 ∷ []) ∷ rec 2 (3 ∷ []) ∷ rec 2 (4 ∷ []) ∷ rec 2 (1 ∷ []) ∷ rec 2 (4 ∷ []) ∷
-      rec 3 (5 ∷ 0 ∷ 0 ∷ 1 ∷ []) ∷ rec 3 (6 ∷ 0 ∷ 2 ∷ 3 ∷ []) ∷ rec 3 (7 ∷ 0 ∷ 4 ∷ 5 ∷ []) ∷ rec 3 (8 ∷ 0 ∷ 4 ∷ 6 ∷ []) ∷ rec 4 (7 ∷ 0 ∷ 0 ∷ []) ∷ rec 5 (3 ∷ 0 ∷ []) ∷
+      rec 3 (5 ∷ 0 ∷ 0 ∷ 1 ∷ []) ∷ rec 3 (6 ∷ 0 ∷ 2 ∷ 3 ∷ []) ∷ rec 3 (7 ∷ 0 ∷ 4 ∷ 5 ∷ []) ∷ rec 3 (8 ∷ 0 ∷ 4 ∷ 6 ∷ []) ∷ rec 4 (7 ∷ 0 ∷ 0 ∷ 0 ∷ 0 ∷ []) ∷
+      rec 5 (3 ∷ 0 ∷ []) ∷
       rec 5 (0 ∷ 0 ∷ 1 ∷ 0 ∷ 2 ∷ 0 ∷ []) ∷ [];
-  ending = refuse 6 200;
+  ending = refuse 6 208;
 }
 
 -- point numbers that differ above their lower 16 bits
 unfoldable pub pointNumbers : Row
 pointNumbers = record {
   job =
-      rec 1 (1 ∷ []) ∷ rec 2 (1 ∷ []) ∷ rec 2 (65537 ∷ []) ∷ rec 3 (5 ∷ 0 ∷ 0 ∷ 1 ∷ []) ∷ rec 4 (7 ∷ 0 ∷ 0 ∷ []) ∷ rec 5 (0 ∷ 0 ∷ []) ∷ [];
-  ending = refuse 6 70;
+      rec 1 (1 ∷ []) ∷ rec 2 (1 ∷ []) ∷ rec 2 (65537 ∷ []) ∷ rec 3 (5 ∷ 0 ∷ 0 ∷ 1 ∷ []) ∷ rec 4 (7 ∷ 0 ∷ 0 ∷ 0 ∷ 0 ∷ []) ∷ rec 5 (0 ∷ 0 ∷ []) ∷ [];
+  ending = refuse 6 78;
 }
 
 -- an answer calls the two points the same; no question is put, the numbers differ
 unfoldable pub answeredSame : Row
 answeredSame = record {
   job =
-      rec 1 (1 ∷ []) ∷ rec 2 (1 ∷ []) ∷ rec 2 (2 ∷ []) ∷ rec 3 (5 ∷ 0 ∷ 0 ∷ 1 ∷ []) ∷ rec 4 (7 ∷ 0 ∷ 0 ∷ []) ∷ rec 5 (0 ∷ 0 ∷ []) ∷ rec 9 (1 ∷ 2 ∷ 1 ∷ []) ∷ [];
-  ending = refuse 6 70;
+      rec 1 (1 ∷ []) ∷ rec 2 (1 ∷ []) ∷ rec 2 (2 ∷ []) ∷ rec 3 (5 ∷ 0 ∷ 0 ∷ 1 ∷ []) ∷ rec 4 (7 ∷ 0 ∷ 0 ∷ 0 ∷ 0 ∷ []) ∷ rec 5 (0 ∷ 0 ∷ []) ∷
+      rec 9 (1 ∷ 2 ∷ 1 ∷ []) ∷ [];
+  ending = refuse 6 78;
 }
 
 -- the ring rule remains: a ring's use before one that starts and ends at point 4,294,967,295
 unfoldable pub ringFirst : Row
 ringFirst = record {
   job =
-      rec 1 (1 ∷ []) ∷ rec 2 (4294967295 ∷ []) ∷ rec 3 (5 ∷ 0 ∷ unset ∷ unset ∷ []) ∷ rec 3 (6 ∷ 0 ∷ 0 ∷ 0 ∷ []) ∷ rec 4 (7 ∷ 0 ∷ 0 ∷ []) ∷ rec 5 (0 ∷ 0 ∷ 1 ∷ 0 ∷ []) ∷
+      rec 1 (1 ∷ []) ∷ rec 2 (4294967295 ∷ []) ∷ rec 3 (5 ∷ 0 ∷ unset ∷ unset ∷ []) ∷ rec 3 (6 ∷ 0 ∷ 0 ∷ 0 ∷ []) ∷ rec 4 (7 ∷ 0 ∷ 0 ∷ 0 ∷ 0 ∷ []) ∷
+      rec 5 (0 ∷ 0 ∷ 1 ∷ 0 ∷ []) ∷
       [];
-  ending = refuse 6 82;
+  ending = refuse 6 90;
 }
 
 -- and after one that starts and ends at point 0
 unfoldable pub ringLast : Row
 ringLast = record {
   job =
-      rec 1 (1 ∷ []) ∷ rec 2 (0 ∷ []) ∷ rec 3 (5 ∷ 0 ∷ unset ∷ unset ∷ []) ∷ rec 3 (6 ∷ 0 ∷ 0 ∷ 0 ∷ []) ∷ rec 4 (7 ∷ 0 ∷ 0 ∷ []) ∷ rec 5 (1 ∷ 0 ∷ 0 ∷ 1 ∷ []) ∷ [];
-  ending = refuse 6 82;
+      rec 1 (1 ∷ []) ∷ rec 2 (0 ∷ []) ∷ rec 3 (5 ∷ 0 ∷ unset ∷ unset ∷ []) ∷ rec 3 (6 ∷ 0 ∷ 0 ∷ 0 ∷ []) ∷ rec 4 (7 ∷ 0 ∷ 0 ∷ 0 ∷ 0 ∷ []) ∷
+      rec 5 (1 ∷ 0 ∷ 0 ∷ 1 ∷ []) ∷ [];
+  ending = refuse 6 90;
 }
 
 -- and beside a ring's
 unfoldable pub twoRings : Row
 twoRings = record {
   job =
-      rec 1 (1 ∷ []) ∷ rec 3 (5 ∷ 0 ∷ unset ∷ unset ∷ []) ∷ rec 3 (6 ∷ 0 ∷ unset ∷ unset ∷ []) ∷ rec 4 (7 ∷ 0 ∷ 0 ∷ []) ∷ rec 5 (0 ∷ 0 ∷ 1 ∷ 0 ∷ []) ∷ [];
-  ending = refuse 6 72;
+      rec 1 (1 ∷ []) ∷ rec 3 (5 ∷ 0 ∷ unset ∷ unset ∷ []) ∷ rec 3 (6 ∷ 0 ∷ unset ∷ unset ∷ []) ∷ rec 4 (7 ∷ 0 ∷ 0 ∷ 0 ∷ 0 ∷ []) ∷ rec 5 (0 ∷ 0 ∷ 1 ∷ 0 ∷ []) ∷ [];
+  ending = refuse 6 80;
 }
 
 unfoldable pub jointRows : List Row
@@ -189,32 +206,32 @@ fans-right = refl
 unfoldable pub joinedOnce : Row
 joinedOnce = record {
   job =
-      rec 1 (1 ∷ []) ∷ rec 3 (5 ∷ 0 ∷ unset ∷ unset ∷ []) ∷ rec 3 (6 ∷ 0 ∷ unset ∷ unset ∷ []) ∷ rec 4 (7 ∷ 0 ∷ 0 ∷ []) ∷ rec 5 (0 ∷ 0 ∷ []) ∷
-      rec 5 (1 ∷ 0 ∷ []) ∷ rec 4 (7 ∷ 0 ∷ 0 ∷ []) ∷ rec 5 (0 ∷ 1 ∷ []) ∷ rec 5 (1 ∷ 1 ∷ []) ∷ rec 8 (0 ∷ 1 ∷ []) ∷ rec 8 (1 ∷ 1 ∷ []) ∷ [];
+      rec 1 (1 ∷ []) ∷ rec 3 (5 ∷ 0 ∷ unset ∷ unset ∷ []) ∷ rec 3 (6 ∷ 0 ∷ unset ∷ unset ∷ []) ∷ rec 4 (7 ∷ 0 ∷ 0 ∷ 0 ∷ 0 ∷ []) ∷ rec 5 (0 ∷ 0 ∷ []) ∷
+      rec 5 (1 ∷ 0 ∷ []) ∷ rec 4 (7 ∷ 0 ∷ 0 ∷ 0 ∷ 1 ∷ []) ∷ rec 5 (0 ∷ 1 ∷ []) ∷ rec 5 (1 ∷ 1 ∷ []) ∷ rec 8 (0 ∷ 1 ∷ []) ∷ rec 8 (1 ∷ 1 ∷ []) ∷ [];
   ending =
-      ok (rec 21 (1 ∷ 4 ∷ 4 ∷ 0 ∷ 0 ∷ 0 ∷ 1 ∷ []) ∷ rec 24 (7 ∷ 0 ∷ []) ∷ rec 27 [] ∷ rec 28 (0 ∷ []) ∷ []);
+      ok (rec 21 (1 ∷ 4 ∷ 4 ∷ 0 ∷ 0 ∷ 0 ∷ 1 ∷ []) ∷ rec 24 (7 ∷ 0 ∷ []) ∷ rec 29 (0 ∷ 0 ∷ 0 ∷ 1 ∷ []) ∷ rec 27 [] ∷ rec 28 (0 ∷ []) ∷ []);
 }
 
 -- the face across is in a group already, and not its lowest: the join counts
 unfoldable pub secondFaceInAGroup : Row
 secondFaceInAGroup = record {
   job =
-      rec 1 (1 ∷ []) ∷ rec 3 (5 ∷ 0 ∷ unset ∷ unset ∷ []) ∷ rec 3 (6 ∷ 0 ∷ unset ∷ unset ∷ []) ∷ rec 4 (7 ∷ 0 ∷ 0 ∷ []) ∷ rec 5 (0 ∷ 0 ∷ []) ∷
-      rec 4 (7 ∷ 0 ∷ 0 ∷ []) ∷ rec 5 (1 ∷ 0 ∷ []) ∷ rec 4 (7 ∷ 0 ∷ 0 ∷ []) ∷ rec 5 (0 ∷ 1 ∷ []) ∷ rec 5 (1 ∷ 1 ∷ []) ∷ rec 8 (0 ∷ 1 ∷ []) ∷
+      rec 1 (1 ∷ []) ∷ rec 3 (5 ∷ 0 ∷ unset ∷ unset ∷ []) ∷ rec 3 (6 ∷ 0 ∷ unset ∷ unset ∷ []) ∷ rec 4 (7 ∷ 0 ∷ 0 ∷ 0 ∷ 0 ∷ []) ∷ rec 5 (0 ∷ 0 ∷ []) ∷
+      rec 4 (7 ∷ 0 ∷ 0 ∷ 0 ∷ 1 ∷ []) ∷ rec 5 (1 ∷ 0 ∷ []) ∷ rec 4 (7 ∷ 0 ∷ 0 ∷ 0 ∷ 2 ∷ []) ∷ rec 5 (0 ∷ 1 ∷ []) ∷ rec 5 (1 ∷ 1 ∷ []) ∷ rec 8 (0 ∷ 1 ∷ []) ∷
       rec 8 (1 ∷ 1 ∷ []) ∷ [];
   ending =
-      ok (rec 21 (1 ∷ 4 ∷ 4 ∷ 0 ∷ 0 ∷ 0 ∷ 2 ∷ []) ∷ rec 24 (7 ∷ 0 ∷ []) ∷ rec 27 [] ∷ rec 28 (0 ∷ []) ∷ []);
+      ok (rec 21 (1 ∷ 4 ∷ 4 ∷ 0 ∷ 0 ∷ 0 ∷ 2 ∷ []) ∷ rec 24 (7 ∷ 0 ∷ []) ∷ rec 29 (0 ∷ 0 ∷ 0 ∷ 1 ∷ 0 ∷ 2 ∷ []) ∷ rec 27 [] ∷ rec 28 (0 ∷ []) ∷ []);
 }
 
 -- the same for the face that asks
 unfoldable pub firstFaceInAGroup : Row
 firstFaceInAGroup = record {
   job =
-      rec 1 (1 ∷ []) ∷ rec 3 (5 ∷ 0 ∷ unset ∷ unset ∷ []) ∷ rec 3 (6 ∷ 0 ∷ unset ∷ unset ∷ []) ∷ rec 4 (7 ∷ 0 ∷ 0 ∷ []) ∷ rec 5 (0 ∷ 0 ∷ []) ∷
-      rec 4 (7 ∷ 0 ∷ 0 ∷ []) ∷ rec 5 (0 ∷ 1 ∷ []) ∷ rec 5 (1 ∷ 0 ∷ []) ∷ rec 4 (7 ∷ 0 ∷ 0 ∷ []) ∷ rec 5 (1 ∷ 1 ∷ []) ∷ rec 8 (0 ∷ 1 ∷ []) ∷
+      rec 1 (1 ∷ []) ∷ rec 3 (5 ∷ 0 ∷ unset ∷ unset ∷ []) ∷ rec 3 (6 ∷ 0 ∷ unset ∷ unset ∷ []) ∷ rec 4 (7 ∷ 0 ∷ 0 ∷ 0 ∷ 0 ∷ []) ∷ rec 5 (0 ∷ 0 ∷ []) ∷
+      rec 4 (7 ∷ 0 ∷ 0 ∷ 0 ∷ 1 ∷ []) ∷ rec 5 (0 ∷ 1 ∷ []) ∷ rec 5 (1 ∷ 0 ∷ []) ∷ rec 4 (7 ∷ 0 ∷ 0 ∷ 0 ∷ 2 ∷ []) ∷ rec 5 (1 ∷ 1 ∷ []) ∷ rec 8 (0 ∷ 1 ∷ []) ∷
       rec 8 (2 ∷ 1 ∷ []) ∷ [];
   ending =
-      ok (rec 21 (1 ∷ 4 ∷ 4 ∷ 0 ∷ 0 ∷ 0 ∷ 2 ∷ []) ∷ rec 24 (7 ∷ 0 ∷ []) ∷ rec 27 [] ∷ rec 28 (0 ∷ []) ∷ []);
+      ok (rec 21 (1 ∷ 4 ∷ 4 ∷ 0 ∷ 0 ∷ 0 ∷ 2 ∷ []) ∷ rec 24 (7 ∷ 0 ∷ []) ∷ rec 29 (0 ∷ 0 ∷ 0 ∷ 1 ∷ 0 ∷ 2 ∷ []) ∷ rec 27 [] ∷ rec 28 (0 ∷ []) ∷ []);
 }
 
 -- two groups of two faces each become one through the higher faces of both
@@ -222,11 +239,12 @@ unfoldable pub pairsOfFaces : Row
 pairsOfFaces = record {
   job =
       rec 1 (1 ∷ []) ∷ rec 3 (5 ∷ 0 ∷ unset ∷ unset ∷ []) ∷ rec 3 (6 ∷ 0 ∷ unset ∷ unset ∷ []) ∷ rec 3 (7 ∷ 0 ∷ unset ∷ unset ∷ []) ∷
-      rec 4 (7 ∷ 0 ∷ 0 ∷ []) ∷ rec 5 (0 ∷ 0 ∷ []) ∷ rec 4 (7 ∷ 0 ∷ 0 ∷ []) ∷ rec 5 (1 ∷ 0 ∷ []) ∷ rec 4 (7 ∷ 0 ∷ 0 ∷ []) ∷ rec 5 (0 ∷ 1 ∷ []) ∷
-      rec 5 (2 ∷ 0 ∷ []) ∷ rec 4 (7 ∷ 0 ∷ 0 ∷ []) ∷ rec 5 (1 ∷ 1 ∷ []) ∷ rec 5 (2 ∷ 1 ∷ []) ∷ rec 8 (0 ∷ 1 ∷ []) ∷ rec 8 (1 ∷ 1 ∷ []) ∷ rec 8 (3 ∷ 1 ∷ []) ∷
+      rec 4 (7 ∷ 0 ∷ 0 ∷ 0 ∷ 0 ∷ []) ∷ rec 5 (0 ∷ 0 ∷ []) ∷ rec 4 (7 ∷ 0 ∷ 0 ∷ 0 ∷ 1 ∷ []) ∷ rec 5 (1 ∷ 0 ∷ []) ∷ rec 4 (7 ∷ 0 ∷ 0 ∷ 0 ∷ 2 ∷ []) ∷
+      rec 5 (0 ∷ 1 ∷ []) ∷
+      rec 5 (2 ∷ 0 ∷ []) ∷ rec 4 (7 ∷ 0 ∷ 0 ∷ 0 ∷ 3 ∷ []) ∷ rec 5 (1 ∷ 1 ∷ []) ∷ rec 5 (2 ∷ 1 ∷ []) ∷ rec 8 (0 ∷ 1 ∷ []) ∷ rec 8 (1 ∷ 1 ∷ []) ∷ rec 8 (3 ∷ 1 ∷ []) ∷
       [];
   ending =
-      ok (rec 21 (1 ∷ 6 ∷ 6 ∷ 0 ∷ 0 ∷ 0 ∷ 3 ∷ []) ∷ rec 24 (7 ∷ 0 ∷ []) ∷ rec 27 [] ∷ rec 28 (0 ∷ []) ∷ []);
+      ok (rec 21 (1 ∷ 6 ∷ 6 ∷ 0 ∷ 0 ∷ 0 ∷ 3 ∷ []) ∷ rec 24 (7 ∷ 0 ∷ []) ∷ rec 29 (0 ∷ 0 ∷ 0 ∷ 1 ∷ 0 ∷ 2 ∷ 0 ∷ 3 ∷ []) ∷ rec 27 [] ∷ rec 28 (0 ∷ []) ∷ []);
 }
 
 -- three faces, each beside each: the first two answers join, the third finds one group
@@ -234,10 +252,10 @@ unfoldable pub threeInARound : Row
 threeInARound = record {
   job =
       rec 1 (1 ∷ []) ∷ rec 3 (5 ∷ 0 ∷ unset ∷ unset ∷ []) ∷ rec 3 (6 ∷ 0 ∷ unset ∷ unset ∷ []) ∷ rec 3 (7 ∷ 0 ∷ unset ∷ unset ∷ []) ∷
-      rec 4 (7 ∷ 0 ∷ 0 ∷ []) ∷ rec 5 (0 ∷ 0 ∷ []) ∷ rec 5 (1 ∷ 0 ∷ []) ∷ rec 4 (7 ∷ 0 ∷ 0 ∷ []) ∷ rec 5 (0 ∷ 1 ∷ []) ∷ rec 5 (2 ∷ 0 ∷ []) ∷
-      rec 4 (7 ∷ 0 ∷ 0 ∷ []) ∷ rec 5 (1 ∷ 1 ∷ []) ∷ rec 5 (2 ∷ 1 ∷ []) ∷ rec 8 (0 ∷ 1 ∷ []) ∷ rec 8 (1 ∷ 1 ∷ []) ∷ rec 8 (3 ∷ 1 ∷ []) ∷ [];
+      rec 4 (7 ∷ 0 ∷ 0 ∷ 0 ∷ 0 ∷ []) ∷ rec 5 (0 ∷ 0 ∷ []) ∷ rec 5 (1 ∷ 0 ∷ []) ∷ rec 4 (7 ∷ 0 ∷ 0 ∷ 0 ∷ 1 ∷ []) ∷ rec 5 (0 ∷ 1 ∷ []) ∷ rec 5 (2 ∷ 0 ∷ []) ∷
+      rec 4 (7 ∷ 0 ∷ 0 ∷ 0 ∷ 2 ∷ []) ∷ rec 5 (1 ∷ 1 ∷ []) ∷ rec 5 (2 ∷ 1 ∷ []) ∷ rec 8 (0 ∷ 1 ∷ []) ∷ rec 8 (1 ∷ 1 ∷ []) ∷ rec 8 (3 ∷ 1 ∷ []) ∷ [];
   ending =
-      ok (rec 21 (1 ∷ 6 ∷ 6 ∷ 0 ∷ 0 ∷ 0 ∷ 2 ∷ []) ∷ rec 24 (7 ∷ 0 ∷ []) ∷ rec 27 [] ∷ rec 28 (0 ∷ []) ∷ []);
+      ok (rec 21 (1 ∷ 6 ∷ 6 ∷ 0 ∷ 0 ∷ 0 ∷ 2 ∷ []) ∷ rec 24 (7 ∷ 0 ∷ []) ∷ rec 29 (0 ∷ 0 ∷ 0 ∷ 1 ∷ 0 ∷ 2 ∷ []) ∷ rec 27 [] ∷ rec 28 (0 ∷ []) ∷ []);
 }
 
 -- of three questions one joins: surfaces distinct, and normals that agree where the stored senses differ
@@ -245,12 +263,15 @@ unfoldable pub askedInVain : Row
 askedInVain = record {
   job =
       rec 1 (1 ∷ []) ∷ rec 3 (5 ∷ 0 ∷ unset ∷ unset ∷ []) ∷ rec 3 (6 ∷ 0 ∷ unset ∷ unset ∷ []) ∷ rec 3 (7 ∷ 0 ∷ unset ∷ unset ∷ []) ∷
-      rec 4 (7 ∷ 0 ∷ 0 ∷ []) ∷ rec 5 (0 ∷ 0 ∷ []) ∷ rec 4 (8 ∷ 0 ∷ 0 ∷ []) ∷ rec 5 (0 ∷ 1 ∷ []) ∷ rec 5 (1 ∷ 0 ∷ []) ∷ rec 4 (8 ∷ 0 ∷ 0 ∷ []) ∷
-      rec 5 (1 ∷ 1 ∷ []) ∷ rec 5 (2 ∷ 0 ∷ []) ∷ rec 4 (8 ∷ 1 ∷ 0 ∷ []) ∷ rec 5 (2 ∷ 1 ∷ []) ∷ rec 8 (0 ∷ 0 ∷ []) ∷ rec 8 (2 ∷ 1 ∷ []) ∷ rec 8 (4 ∷ 1 ∷ []) ∷
+      rec 4 (7 ∷ 0 ∷ 0 ∷ 0 ∷ 0 ∷ []) ∷ rec 5 (0 ∷ 0 ∷ []) ∷ rec 4 (8 ∷ 0 ∷ 0 ∷ 0 ∷ 1 ∷ []) ∷ rec 5 (0 ∷ 1 ∷ []) ∷ rec 5 (1 ∷ 0 ∷ []) ∷
+      rec 4 (8 ∷ 0 ∷ 0 ∷ 0 ∷ 2 ∷ []) ∷
+      rec 5 (1 ∷ 1 ∷ []) ∷ rec 5 (2 ∷ 0 ∷ []) ∷ rec 4 (8 ∷ 1 ∷ 0 ∷ 0 ∷ 3 ∷ []) ∷ rec 5 (2 ∷ 1 ∷ []) ∷ rec 8 (0 ∷ 0 ∷ []) ∷ rec 8 (2 ∷ 1 ∷ []) ∷ rec 8 (4 ∷ 1 ∷ []) ∷
       [];
   ending =
       ok (rec 21 (1 ∷ 6 ∷ 2 ∷ 0 ∷ 0 ∷ 0 ∷ 1 ∷ []) ∷ rec 23 (5 ∷ 0 ∷ unset ∷ unset ∷ []) ∷ rec 23 (7 ∷ 0 ∷ unset ∷ unset ∷ []) ∷ rec 24 (7 ∷ 0 ∷ []) ∷
-      rec 25 (0 ∷ 0 ∷ []) ∷ rec 24 (8 ∷ 0 ∷ []) ∷ rec 25 (0 ∷ 1 ∷ []) ∷ rec 25 (1 ∷ 0 ∷ []) ∷ rec 24 (8 ∷ 1 ∷ []) ∷ rec 25 (1 ∷ 1 ∷ []) ∷ rec 27 [] ∷
+      rec 29 (0 ∷ 0 ∷ []) ∷
+      rec 25 (0 ∷ 0 ∷ []) ∷ rec 24 (8 ∷ 0 ∷ []) ∷ rec 29 (0 ∷ 1 ∷ 0 ∷ 2 ∷ []) ∷ rec 25 (0 ∷ 1 ∷ []) ∷ rec 25 (1 ∷ 0 ∷ []) ∷ rec 24 (8 ∷ 1 ∷ []) ∷ rec 29 (0 ∷ 3 ∷ []) ∷
+      rec 25 (1 ∷ 1 ∷ []) ∷ rec 27 [] ∷
       rec 28 (0 ∷ 1 ∷ 2 ∷ []) ∷ []);
 }
 
@@ -280,16 +301,115 @@ pub each-question-right : all (λ b. b) questionTests ≡ true
 unfolding computes questionTests joinsSoFar threeInARound
 each-question-right = refl
 
--- the body of two faces that are one: 34 bytes of the Body record, 14 of the face, 6 of the lump, 10 of the shell
+-- the body of two faces that are one: 34 bytes of the Body record, 14 of the face, 22 of its members, 6 of the lump, 10 of the shell
 unfoldable pub roomTests : List Bool
 roomTests =
-    sameBytes (sewn ordinary (framedAll joinedOnce.job) 63) (refuse 40 64) ∷
-    sameBytes (sewn ordinary (framedAll joinedOnce.job) 64)
+    sameBytes (sewn ordinary (framedAll joinedOnce.job) 85) (refuse 40 86) ∷
+    sameBytes (sewn ordinary (framedAll joinedOnce.job) 86)
     (ok
     ((28 ∷ 0 ∷ 0 ∷ 0 ∷ 21 ∷ 0 ∷ []) ++ fieldBytes (1 ∷ 4 ∷ 4 ∷ 0 ∷ 0 ∷ 0 ∷ 1 ∷ []) ++ (8 ∷ 0 ∷ 0 ∷ 0 ∷ 24 ∷ 0 ∷ []) ++ fieldBytes (7 ∷ 0 ∷ []) ++
-    (0 ∷ 0 ∷ 0 ∷ 0 ∷ 27 ∷ 0 ∷ []) ++ (4 ∷ 0 ∷ 0 ∷ 0 ∷ 28 ∷ 0 ∷ []) ++ fieldBytes (0 ∷ []))) ∷
+    (16 ∷ 0 ∷ 0 ∷ 0 ∷ 29 ∷ 0 ∷ []) ++ fieldBytes (0 ∷ 0 ∷ 0 ∷ 1 ∷ []) ++ (0 ∷ 0 ∷ 0 ∷ 0 ∷ 27 ∷ 0 ∷ []) ++ (4 ∷ 0 ∷ 0 ∷ 0 ∷ 28 ∷ 0 ∷ []) ++
+    fieldBytes (0 ∷ []))) ∷
     []
 
 pub room-right : all (λ b. b) roomTests ≡ true
 unfolding computes roomTests joinedOnce
 room-right = refl
+
+-- SEVEN, FACES REMEMBER THEIR MEMBERS
+
+-- a face of so many fields: the forms with three, four and six give 3
+unfoldable pub faceOfFields : List ℕ → List Record
+faceOfFields fields = rec 1 (1 ∷ []) ∷ rec 4 fields ∷ []
+
+unfoldable pub threeFields : Row
+threeFields = record { job = faceOfFields (9 ∷ 0 ∷ 0 ∷ []); ending = refuse 3 10 }
+
+unfoldable pub fourFields : Row
+fourFields = record { job = faceOfFields (9 ∷ 0 ∷ 0 ∷ 0 ∷ []); ending = refuse 3 10 }
+
+unfoldable pub sixFields : Row
+sixFields = record { job = faceOfFields (9 ∷ 0 ∷ 0 ∷ 0 ∷ 0 ∷ 0 ∷ []); ending = refuse 3 10 }
+
+-- a body other than 0 or 1 is a field fault, also of the second face
+unfoldable pub bodyTwo : Row
+bodyTwo = record { job = faceOfFields (9 ∷ 0 ∷ 0 ∷ 2 ∷ 0 ∷ []); ending = refuse 4 10 }
+
+unfoldable pub bodyHighest : Row
+bodyHighest = record { job = faceOfFields (9 ∷ 0 ∷ 0 ∷ 0 ∷ 0 ∷ []) ++ (rec 4 (9 ∷ 0 ∷ 0 ∷ unset ∷ 0 ∷ []) ∷ []); ending = refuse 4 36 }
+
+-- a source face may be anything, 4,294,967,295 as any other number; a face without loops has its members too
+unfoldable pub sourceAnything : Row
+sourceAnything = record {
+  job = rec 1 (1 ∷ []) ∷ rec 4 (7 ∷ 0 ∷ 0 ∷ 0 ∷ unset ∷ []) ∷ rec 4 (8 ∷ 0 ∷ 0 ∷ 1 ∷ 65536 ∷ []) ∷ [];
+  ending = ok
+      (rec 21 (1 ∷ 0 ∷ 0 ∷ 0 ∷ 0 ∷ 0 ∷ 0 ∷ []) ∷ rec 24 (7 ∷ 0 ∷ []) ∷ rec 29 (0 ∷ unset ∷ []) ∷ rec 24 (8 ∷ 0 ∷ []) ∷ rec 29 (1 ∷ 65536 ∷ []) ∷
+      rec 27 [] ∷ rec 28 (0 ∷ []) ∷ rec 27 [] ∷ rec 28 (1 ∷ []) ∷ []);
+}
+
+-- three members of two bodies in one face, by ascending selected face and not by source; the pairs are body and source of each in turn, and they stand before the face's loop and its vertex loop
+unfoldable pub threeMembers : Row
+threeMembers = record {
+  job =
+      rec 1 (1 ∷ []) ∷ rec 2 (4 ∷ []) ∷ rec 3 (5 ∷ 0 ∷ unset ∷ unset ∷ []) ∷ rec 3 (6 ∷ 0 ∷ unset ∷ unset ∷ []) ∷ rec 3 (9 ∷ 0 ∷ unset ∷ unset ∷ []) ∷
+      rec 4 (8 ∷ 0 ∷ 0 ∷ 1 ∷ 0 ∷ []) ∷ rec 5 (2 ∷ 1 ∷ []) ∷
+      rec 4 (7 ∷ 0 ∷ 0 ∷ 1 ∷ 9 ∷ []) ∷ rec 5 (0 ∷ 0 ∷ []) ∷ rec 5 (2 ∷ 0 ∷ []) ∷
+      rec 4 (7 ∷ 0 ∷ 0 ∷ 0 ∷ unset ∷ []) ∷ rec 5 (1 ∷ 1 ∷ []) ∷ rec 6 (0 ∷ []) ∷
+      rec 4 (7 ∷ 0 ∷ 0 ∷ 0 ∷ 3 ∷ []) ∷ rec 5 (0 ∷ 1 ∷ []) ∷ rec 5 (1 ∷ 0 ∷ []) ∷
+      rec 8 (0 ∷ 0 ∷ []) ∷ rec 8 (1 ∷ 1 ∷ []) ∷ rec 8 (3 ∷ 1 ∷ []) ∷ [];
+  ending = ok
+      (rec 21 (1 ∷ 6 ∷ 4 ∷ 0 ∷ 0 ∷ 0 ∷ 2 ∷ []) ∷ rec 23 (9 ∷ 0 ∷ unset ∷ unset ∷ []) ∷
+      rec 24 (8 ∷ 0 ∷ []) ∷ rec 29 (1 ∷ 0 ∷ []) ∷ rec 25 (0 ∷ 1 ∷ []) ∷
+      rec 24 (7 ∷ 0 ∷ []) ∷ rec 29 (1 ∷ 9 ∷ 0 ∷ unset ∷ 0 ∷ 3 ∷ []) ∷ rec 25 (0 ∷ 0 ∷ []) ∷ rec 26 (4 ∷ []) ∷
+      rec 27 [] ∷ rec 28 (0 ∷ 1 ∷ []) ∷ []);
+}
+
+-- two merged faces whose selected faces alternate: each has its own, and not those between
+unfoldable pub membersAlternate : Row
+membersAlternate = record {
+  job =
+      rec 1 (1 ∷ []) ∷ rec 3 (5 ∷ 0 ∷ unset ∷ unset ∷ []) ∷ rec 3 (6 ∷ 0 ∷ unset ∷ unset ∷ []) ∷
+      rec 4 (7 ∷ 0 ∷ 0 ∷ 0 ∷ 40 ∷ []) ∷ rec 5 (0 ∷ 0 ∷ []) ∷ rec 4 (8 ∷ 1 ∷ 0 ∷ 1 ∷ 40 ∷ []) ∷ rec 5 (1 ∷ 0 ∷ []) ∷
+      rec 4 (7 ∷ 0 ∷ 0 ∷ 1 ∷ 20 ∷ []) ∷ rec 5 (0 ∷ 1 ∷ []) ∷ rec 4 (8 ∷ 1 ∷ 0 ∷ 0 ∷ 20 ∷ []) ∷ rec 5 (1 ∷ 1 ∷ []) ∷
+      rec 8 (0 ∷ 1 ∷ []) ∷ rec 8 (1 ∷ 1 ∷ []) ∷ [];
+  ending = ok
+      (rec 21 (1 ∷ 4 ∷ 4 ∷ 0 ∷ 0 ∷ 0 ∷ 2 ∷ []) ∷ rec 24 (7 ∷ 0 ∷ []) ∷ rec 29 (0 ∷ 40 ∷ 1 ∷ 20 ∷ []) ∷ rec 24 (8 ∷ 1 ∷ []) ∷ rec 29 (1 ∷ 40 ∷ 0 ∷ 20 ∷ []) ∷
+      rec 27 [] ∷ rec 28 (0 ∷ []) ∷ rec 27 [] ∷ rec 28 (1 ∷ []) ∷ []);
+}
+
+-- a face selected twice is a member twice
+unfoldable pub memberTwice : Row
+memberTwice = record {
+  job =
+      rec 1 (1 ∷ []) ∷ rec 3 (5 ∷ 0 ∷ unset ∷ unset ∷ []) ∷ rec 4 (7 ∷ 0 ∷ 0 ∷ 1 ∷ 6 ∷ []) ∷ rec 5 (0 ∷ 0 ∷ []) ∷
+      rec 4 (7 ∷ 0 ∷ 0 ∷ 1 ∷ 6 ∷ []) ∷ rec 5 (0 ∷ 1 ∷ []) ∷ rec 8 (0 ∷ 1 ∷ []) ∷ [];
+  ending = ok (rec 21 (1 ∷ 2 ∷ 2 ∷ 0 ∷ 0 ∷ 0 ∷ 1 ∷ []) ∷ rec 24 (7 ∷ 0 ∷ []) ∷ rec 29 (1 ∷ 6 ∷ 1 ∷ 6 ∷ []) ∷ rec 27 [] ∷ rec 28 (0 ∷ []) ∷ []);
+}
+
+-- kind 29 is a record of the body alone
+unfoldable pub membersInJob : Row
+membersInJob = record { job = faceOfFields (9 ∷ 0 ∷ 0 ∷ 0 ∷ 0 ∷ []) ++ (rec 29 (0 ∷ 0 ∷ []) ∷ []); ending = refuse 3 36 }
+
+unfoldable pub memberRows : List Row
+memberRows =
+    threeFields ∷ fourFields ∷ sixFields ∷ bodyTwo ∷ bodyHighest ∷ sourceAnything ∷ threeMembers ∷ membersAlternate ∷ memberTwice ∷ membersInJob ∷ []
+
+pub members-right : all right memberRows ≡ true
+unfolding computes sameRecords memberRows faceOfFields threeFields fourFields sixFields bodyTwo bodyHighest sourceAnything threeMembers membersAlternate memberTwice membersInJob
+members-right = refl
+
+-- the lines of a listing: `members`, pairs, and 4,294,967,295 as a number
+unfoldable pub memberTexts : List Bool
+memberTexts =
+    same (listing ordinary (framedAll (faceOfFields (9 ∷ 0 ∷ 0 ∷ 0 ∷ 0 ∷ []))))
+    (98 ∷ 111 ∷ 100 ∷ 121 ∷ 32 ∷ 49 ∷ 32 ∷ 48 ∷ 32 ∷ 48 ∷ 32 ∷ 48 ∷ 32 ∷ 48 ∷ 32 ∷ 48 ∷ 32 ∷ 48 ∷ 10 ∷ 102 ∷ 97 ∷ 99 ∷ 101 ∷ 32 ∷ 57 ∷ 32 ∷ 48 ∷ 10 ∷ 109 ∷ 101 ∷ 109 ∷ 98 ∷ 101 ∷ 114 ∷ 115 ∷
+    32 ∷ 48 ∷ 32 ∷ 48 ∷ 10 ∷ 108 ∷ 117 ∷ 109 ∷ 112 ∷ 10 ∷ 115 ∷ 104 ∷ 101 ∷ 108 ∷ 108 ∷ 32 ∷ 48 ∷ 10 ∷ []) ∷
+    same (listing ordinary (framedAll sourceAnything.job))
+    (98 ∷ 111 ∷ 100 ∷ 121 ∷ 32 ∷ 49 ∷ 32 ∷ 48 ∷ 32 ∷ 48 ∷ 32 ∷ 48 ∷ 32 ∷ 48 ∷ 32 ∷ 48 ∷ 32 ∷ 48 ∷ 10 ∷ 102 ∷ 97 ∷ 99 ∷ 101 ∷ 32 ∷ 55 ∷ 32 ∷ 48 ∷ 10 ∷ 109 ∷ 101 ∷ 109 ∷ 98 ∷ 101 ∷ 114 ∷ 115 ∷
+    32 ∷ 48 ∷ 32 ∷ 52 ∷ 50 ∷ 57 ∷ 52 ∷ 57 ∷ 54 ∷ 55 ∷ 50 ∷ 57 ∷ 53 ∷ 10 ∷ 102 ∷ 97 ∷ 99 ∷ 101 ∷ 32 ∷ 56 ∷ 32 ∷ 48 ∷ 10 ∷ 109 ∷ 101 ∷ 109 ∷ 98 ∷ 101 ∷ 114 ∷ 115 ∷ 32 ∷ 49 ∷ 32 ∷ 54 ∷ 53 ∷ 53 ∷
+    51 ∷ 54 ∷ 10 ∷ 108 ∷ 117 ∷ 109 ∷ 112 ∷ 10 ∷ 115 ∷ 104 ∷ 101 ∷ 108 ∷ 108 ∷ 32 ∷ 48 ∷ 10 ∷ 108 ∷ 117 ∷ 109 ∷ 112 ∷ 10 ∷ 115 ∷ 104 ∷ 101 ∷ 108 ∷ 108 ∷ 32 ∷ 49 ∷ 10 ∷ []) ∷
+    []
+
+pub member-texts-right : all (λ b. b) memberTexts ≡ true
+unfolding computes memberTexts faceOfFields sourceAnything
+member-texts-right = refl

@@ -144,7 +144,7 @@ unfoldable pub bodyOf : Job → Joined → List Nested → Body
 bodyOf j x ns =
     let w = x.fan.walk in
     let s = x.joining in
-    solidBody (totalsOf w s) j.faces x.fan.starts s.edges s.loops (lowestMembers w.merge.groups) w.vertexLoops (lumps ns)
+    solidBody (totalsOf w s) j.faces w.merge.groups x.fan.starts s.edges s.loops (lowestMembers w.merge.groups) w.vertexLoops (lumps ns)
 
 -- The stages, in the order of their refusals: the body of a job with faces
 unfoldable pub solid : Rules → Job → Outcome Body

@@ -68,12 +68,14 @@ pub struct Edge {
     pub end: u32,
 }
 
-// A selected face.
+// A selected face: face `source` of one of two bodies, 0 and 1.
 #[derive(Clone, Copy)]
 pub struct Face {
     pub surface: u32,
     pub own: Sense,
     pub selected: Sense,
+    pub body: u32,
+    pub source: u32,
 }
 
 // An edge in a loop, with the sense in which the loop runs along it.

@@ -95,7 +95,7 @@ no-lumps [] = refl
 no-lumps (l ∷ ls) = both (map (rec 28) l) (flat_map lumpRecords ls) ∙ (λ i. none-of (rec 28) l (λ x. refl) i + no-lumps ls i)
 
 -- the records of a body have its faces
-body-faces : (b : Body) → facesWritten (bodyRecords b) ≡ length b.faces
+pub body-faces : (b : Body) → facesWritten (bodyRecords b) ≡ length b.faces
 unfolding bodyRecords keep
 body-faces b =
     let vs : List Record = map vertexRecord b.vertices in
@@ -113,18 +113,18 @@ body-faces b =
       no-lumps b.lumps,
     )
 
-length-bodyFaces : (fs : List Face) (actives : List ℕ) (ls : List FaceLoop) (ks : List KeptVertexLoop) (f : ℕ) (ms : List ℕ) → length (bodyFaces fs actives ls ks f ms) ≡ length ms
+length-bodyFaces : (fs : List Face) (groups actives : List ℕ) (ls : List FaceLoop) (ks : List KeptVertexLoop) (f : ℕ) (ms : List ℕ) → length (bodyFaces fs groups actives ls ks f ms) ≡ length ms
 unfolding bodyFaces
-length-bodyFaces fs actives ls ks f [] = refl
-length-bodyFaces fs actives ls ks f (m ∷ ms) = ap suc (length-bodyFaces fs actives ls ks (suc f) ms)
+length-bodyFaces fs groups actives ls ks f [] = refl
+length-bodyFaces fs groups actives ls ks f (m ∷ ms) = ap suc (length-bodyFaces fs groups actives ls ks (suc f) ms)
 
-fan-of : (j : Job) (w : Walked) → (fansOf j w).walk ≡ w
+pub fan-of : (j : Job) (w : Walked) → (fansOf j w).walk ≡ w
 unfolding fansOf
 fan-of j w = refl
 
 solid-faces : (j : Job) (x : Joined) (ns : List Nested) → length (bodyOf j x ns).faces ≡ length (lowestMembers x.fan.walk.merge.groups)
 unfolding bodyOf solidBody
-solid-faces j x ns = length-bodyFaces j.faces _ x.joining.loops x.fan.walk.vertexLoops 0 (lowestMembers x.fan.walk.merge.groups)
+solid-faces j x ns = length-bodyFaces j.faces x.fan.walk.merge.groups _ x.joining.loops x.fan.walk.vertexLoops 0 (lowestMembers x.fan.walk.merge.groups)
 
 -- AN ACCEPTED JOB
 

@@ -37,4 +37,5 @@ pub mod Narrow
 pub mod Shapes
 pub mod Requests
 pub mod FaceJoins
+pub mod FaceMembers
 pub mod Promises

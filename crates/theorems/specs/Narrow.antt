@@ -26,12 +26,12 @@ use Rattle.rules.specs.OutcomeLaws.{ok-one, bind-ok, through-keeps, each-has, ea
 use Rattle.rules.specs.Sense.{senseNumber}
 use Rattle.rules.specs.Fields.{le32, fieldsIn, field}
 use Rattle.rules.specs.Frame.{Frame, Record, wholeRecord, frameAt, taking, framesFrom}
-use Rattle.rules.specs.Job.{unset, Answer, Content, ofItems, atVertex, Loop, Job, noEdge, ring}
+use Rattle.rules.specs.Job.{unset, Answer, Content, ofItems, atVertex, Loop, Job, noEdge, noFace, faceAt, ring}
 use Rattle.rules.specs.Kinds.{kindOf, numberOf}
 use Rattle.rules.specs.Load.{Loading, loadRecord, loading, loaded, extended, edgeOf, faceOf}
 use Rattle.rules.specs.Read.{usesOf, useAt, faceOfUse, edgeOfUse}
 use Rattle.rules.specs.Questions.{askYes}
-use Rattle.rules.specs.Groups.{labelOf, isLowest, lowestMembers}
+use Rattle.rules.specs.Groups.{labelOf, membersOf, isLowest, lowestMembers}
 use Rattle.rules.specs.GroupLaws.{label-within, groupNumbers-within}
 use Rattle.rules.specs.Pair.{twinOf}
 use Rattle.rules.specs.Rules.{Table}
@@ -42,8 +42,8 @@ use Rattle.rules.specs.Edges.{fanOrNone, edgeData, lowerKept, lowerUses, FaceLoo
 use Rattle.rules.specs.Walk.{successor}
 use Rattle.rules.specs.Join.{Joining, noEdgeData, edgeDataAt, activeEdges, farEnd, joinedEdge, retired, ringOf, joinEdges, joinAt, ringAt, maximalEdges}
 use Rattle.rules.specs.Shells.{Shell, shellFaces, allShellFaces, orientShell, shells, enclosingShell, orRefuse, none, outers, Nested, nest, nested, lumpOf, lumps, lowestFace}
-use Rattle.rules.specs.Body.{Totals, BodyFace, Body, meet, metFans, vertexOf, withVertices, renumbered, bodyFace, bodyFaces, stillActive, solidBody, bodyKind, vertexRecord, edgeRecord}
-use Rattle.rules.specs.Body.{itemFields, loopRecord, vertexLoopRecord, faceRecords, lumpRecords, bodyRecords}
+use Rattle.rules.specs.Body.{Totals, Member, BodyFace, Body, meet, metFans, vertexOf, withVertices, renumbered, bodyFace, bodyFaces, stillActive, solidBody, bodyKind, vertexRecord, edgeRecord}
+use Rattle.rules.specs.Body.{memberAt, itemFields, loopRecord, vertexLoopRecord, memberFields, faceRecords, lumpRecords, bodyRecords}
 use Rattle.rules.specs.Sew.{Walked, walked, fansOf, unjoined, Joined, throughJoining, shellsOf, totalsOf, bodyOf, rebuild}
 use Rattle.theorems.specs.Demand3.{withTable, Settled}
 use Rattle.theorems.specs.Loading.{also-has, record-taken, loading-keeps, faces-few}
@@ -104,21 +104,27 @@ frames-low (suc most) at (y ∷ ys) b f m =
     let here : Below 4294967296 (frameAt at rest).fields = fields-low (cond (wholeRecord rest) (le32 rest 0 / 4) 0) (drop 6 rest) (λ y k. b y (drop-in 6 rest y k)) in
     ⊎_elim (λ e. subst (λ (g : Frame). Below 4294967296 g.fields) (sym e) here) later (Memᴰ.cases_cons m)
 
--- points, curves and surfaces of a job have four bytes
+-- the numbers of a face that a body tells
+pub record LowFace (f : Face) : Type 0 where
+  pub surface : Low f.surface
+  pub body : Low f.body
+  pub source : Low f.source
+
+-- points, curves and faces of a job have four bytes
 pub record LowJob (j : Job) : Type 0 where
   pub points : (p : ℕ) → p ∈ j.points → Low p
   pub curves : (e : Edge) → e ∈ j.edges → Low e.curve
-  pub surfaces : (f : Face) → f ∈ j.faces → Low f.surface
+  pub faces : (f : Face) → f ∈ j.faces → LowFace f
 
 -- a record whose fields have four bytes keeps that
 record-low : (f : Frame) (s t : Loading) → Below 4294967296 f.fields → LowJob s.job → loadRecord f s ≡ ok t → LowJob t.job
 unfolding extended
 record-low f s t b L e =
-    let low : Low (field f.fields 0) = at-has Low f.fields 0 0 (omega arith) b in
+    let low : (i : ℕ) → Low (field f.fields i) = λ i. at-has Low f.fields i 0 (omega arith) b in
     subst (λ (u : Loading). LowJob u.job) (sym (record-taken f s t e).after) (record {
-      points = also-has Low (eqb (numberOf (kindOf f.kind)) 2) s.job.points (field f.fields 0) L.points (λ _. low);
-      curves = also-has (λ (e : Edge). Low e.curve) (eqb (numberOf (kindOf f.kind)) 3) s.job.edges (edgeOf f.fields) L.curves (λ _. low);
-      surfaces = also-has (λ (g : Face). Low g.surface) (eqb (numberOf (kindOf f.kind)) 4) s.job.faces (faceOf f.fields) L.surfaces (λ _. low);
+      points = also-has Low (eqb (numberOf (kindOf f.kind)) 2) s.job.points (field f.fields 0) L.points (λ _. low 0);
+      curves = also-has (λ (e : Edge). Low e.curve) (eqb (numberOf (kindOf f.kind)) 3) s.job.edges (edgeOf f.fields) L.curves (λ _. low 0);
+      faces = also-has LowFace (eqb (numberOf (kindOf f.kind)) 4) s.job.faces (faceOf f.fields) L.faces (λ _. record { surface = low 0; body = low 3; source = low 4 });
     })
 
 -- a job of bytes is such
@@ -127,7 +133,7 @@ loaded-low job j b l =
     let r = bind-ok (loading job) _ j l in
     let all = loading-keeps job (λ (s : Loading). LowJob s.job) r.0
     (λ f u v m S q. record-low f u v (frames-low (length job) 0 job b f m) S q)
-    (record { points = λ p m. absurd (Memᴰ.not-nil m); curves = λ e m. absurd (Memᴰ.not-nil m); surfaces = λ f m. absurd (Memᴰ.not-nil m) }) r.1 in
+    (record { points = λ p m. absurd (Memᴰ.not-nil m); curves = λ e m. absurd (Memᴰ.not-nil m); faces = λ f m. absurd (Memᴰ.not-nil m) }) r.1 in
     subst LowJob (ok-one r.2) all
 
 -- VERTEX LOOPS
@@ -317,12 +323,18 @@ lumps-count answers proven boundaries groups ss ns p q =
 
 -- A BODY
 
+-- the numbers of a member have four bytes
+pub record LowMember (m : Member) : Type 0 where
+  pub body : Low m.body
+  pub source : Low m.source
+
 -- every number of a body has four bytes
 pub record LowBody (b : Body) : Type 0 where
   pub totals : Small b.totals
   pub vertices : Below 4294967296 b.vertices
   pub edges : (e : Edge) → e ∈ b.edges → Low e.curve × Low e.start × Low e.end
   pub surfaces : (f : BodyFace) → f ∈ b.faces → Low f.surface
+  pub members : (f : BodyFace) → f ∈ b.faces → (m : Member) → m ∈ f.members → LowMember m
   pub items : (f : BodyFace) → f ∈ b.faces → (xs : List Item) → xs ∈ f.loops → (x : Item) → x ∈ xs → Low x.edge
   pub points : (f : BodyFace) → f ∈ b.faces → Below 4294967296 f.points
   pub lumps : (lump : List (List ℕ)) → lump ∈ b.lumps → (shell : List ℕ) → shell ∈ lump → Below 4294967296 shell
@@ -338,19 +350,29 @@ met-few (e ∷ es) met =
 vertex-low : (met : List ℕ) (v : ℕ) → length met < 4294967296 → Low (vertexOf met v)
 vertex-low met v h = ⊎_elim (λ t. rw t (omega arith)) (λ t. rw t (omega (arith, position-le (eqb v) met))) (both-ways (eqb v unset))
 
-module _ (fs : List Face) (actives : List ℕ) (ls : List FaceLoop) (ks : List KeptVertexLoop) where
-  faces-are : (k : ℕ) (members : List ℕ) (f : BodyFace) → f ∈ bodyFaces fs actives ls ks k members → (n : ℕ) × (m : ℕ) × (f ≡ bodyFace fs actives ls ks n m)
+no-face : LowFace noFace
+no-face = record { surface = omega arith; body = omega arith; source = omega arith }
+
+module _ (fs : List Face) (groups actives : List ℕ) (ls : List FaceLoop) (ks : List KeptVertexLoop) where
+  faces-are : (k : ℕ) (members : List ℕ) (f : BodyFace) → f ∈ bodyFaces fs groups actives ls ks k members → (n : ℕ) × (m : ℕ) × (f ≡ bodyFace fs groups actives ls ks n m)
   unfolding bodyFaces
   faces-are k [] f i = absurd (Memᴰ.not-nil i)
   faces-are k (m ∷ members) f i =
       let later = faces-are (suc k) members f in
       ⊎_elim (λ e. (k, m, e)) later (Memᴰ.cases_cons i)
 
-  face-surface : ((g : Face) → g ∈ fs → Low g.surface) → (n m : ℕ) → Low (bodyFace fs actives ls ks n m).surface
+  face-surface : ((g : Face) → g ∈ fs → LowFace g) → (n m : ℕ) → Low (bodyFace fs groups actives ls ks n m).surface
   unfolding bodyFace
-  face-surface all n m = at-has (λ (g : Face). Low g.surface) fs m _ (omega arith) all
+  face-surface all n m = (at-has LowFace fs m _ no-face all).surface
 
-  face-items : length actives < 4294967296 → (n m : ℕ) → (xs : List Item) → xs ∈ (bodyFace fs actives ls ks n m).loops → (x : Item) → x ∈ xs → Low x.edge
+  face-members : ((g : Face) → g ∈ fs → LowFace g) → (n m : ℕ) → (x : Member) → x ∈ (bodyFace fs groups actives ls ks n m).members → LowMember x
+  unfolding bodyFace
+  face-members all n m x i =
+      let a = map-in (memberAt fs) (membersOf groups m) x i in
+      let low : LowFace (faceAt fs a.0) = at-has LowFace fs a.0 _ no-face all in
+      subst LowMember (sym a.2) (record { body = low.body; source = low.source })
+
+  face-items : length actives < 4294967296 → (n m : ℕ) → (xs : List Item) → xs ∈ (bodyFace fs groups actives ls ks n m).loops → (x : Item) → x ∈ xs → Low x.edge
   unfolding bodyFace
   face-items h n m xs i x k =
       let a = map-in (λ (l : FaceLoop). map (renumbered actives) l.items) (keep (λ (l : FaceLoop). eqb l.face n) ls) xs i in
@@ -358,19 +380,19 @@ module _ (fs : List Face) (actives : List ℕ) (ls : List FaceLoop) (ks : List K
       let y : Item = b.0 in
       subst (λ (z : Item). Low z.edge) (sym b.2) (omega (arith, position-le (eqb y.edge) actives))
 
-  face-points : ((k : KeptVertexLoop) → k ∈ ks → Low k.point) → (n m : ℕ) → Below 4294967296 (bodyFace fs actives ls ks n m).points
+  face-points : ((k : KeptVertexLoop) → k ∈ ks → Low k.point) → (n m : ℕ) → Below 4294967296 (bodyFace fs groups actives ls ks n m).points
   unfolding bodyFace
   face-points all n m x i =
       let a = map-in (λ (k : KeptVertexLoop). k.point) (keep (λ (k : KeptVertexLoop). eqb k.face n) ks) x i in
       subst Low (sym a.2) (all a.0 (keep-in (λ (k : KeptVertexLoop). eqb k.face n) ks a.0 a.1).0)
 
 -- a body of narrow parts
-solid-low : (totals : Totals) (fs : List Face) (starts : List ℕ) (es : List EdgeData) (ls : List FaceLoop) (members : List ℕ) (ks : List KeptVertexLoop) (lumps : List (List (List ℕ)))
-    → Small totals → ((g : Face) → g ∈ fs → Low g.surface) → Below 4294967296 starts → LowEdges es → length es ≤ 4096 → ((k : KeptVertexLoop) → k ∈ ks → Low k.point)
+solid-low : (totals : Totals) (fs : List Face) (groups starts : List ℕ) (es : List EdgeData) (ls : List FaceLoop) (members : List ℕ) (ks : List KeptVertexLoop) (lumps : List (List (List ℕ)))
+    → Small totals → ((g : Face) → g ∈ fs → LowFace g) → Below 4294967296 starts → LowEdges es → length es ≤ 4096 → ((k : KeptVertexLoop) → k ∈ ks → Low k.point)
     → ((lump : List (List ℕ)) → lump ∈ lumps → (shell : List ℕ) → shell ∈ lump → Below 4294967296 shell)
-    → LowBody (solidBody totals fs starts es ls members ks lumps)
+    → LowBody (solidBody totals fs groups starts es ls members ks lumps)
 unfolding solidBody
-solid-low totals fs starts es ls members ks lumps S surfaces points edges few kept shell =
+solid-low totals fs groups starts es ls members ks lumps S faces points edges few kept shell =
     let met : List ℕ = metFans (stillActive es) in
     let live : length (stillActive es) ≤ length es = keep-length (λ (e : EdgeData). e.active) es in
     let most : length met < 4294967296 = omega (arith, met-few (stillActive es) []) in
@@ -384,11 +406,14 @@ solid-low totals fs starts es ls members ks lumps S surfaces points edges few ke
           let d : EdgeData = a.0 in
           subst (λ (x : Edge). Low x.curve × Low x.start × Low x.end) (sym a.2)
           ((edges d (keep-in (λ (e : EdgeData). e.active) es d a.1).0).curve, vertex-low met d.start most, vertex-low met d.end most);
-      surfaces = λ f m. let a = faces-are fs actives ls ks 0 members f m in subst (λ (x : BodyFace). Low x.surface) (sym a.2) (face-surface fs actives ls ks surfaces a.0 a.1);
+      surfaces = λ f m. let a = faces-are fs groups actives ls ks 0 members f m in subst (λ (x : BodyFace). Low x.surface) (sym a.2) (face-surface fs groups actives ls ks faces a.0 a.1);
+      members = λ f m.
+          let a = faces-are fs groups actives ls ks 0 members f m in
+          subst (λ (x : BodyFace). (y : Member) → y ∈ x.members → LowMember y) (sym a.2) (face-members fs groups actives ls ks faces a.0 a.1);
       items = λ f m.
-          let a = faces-are fs actives ls ks 0 members f m in
-          subst (λ (y : BodyFace). (xs : List Item) → xs ∈ y.loops → (x : Item) → x ∈ xs → Low x.edge) (sym a.2) (face-items fs actives ls ks count a.0 a.1);
-      points = λ f m. let a = faces-are fs actives ls ks 0 members f m in subst (λ (x : BodyFace). Below 4294967296 x.points) (sym a.2) (face-points fs actives ls ks kept a.0 a.1);
+          let a = faces-are fs groups actives ls ks 0 members f m in
+          subst (λ (y : BodyFace). (xs : List Item) → xs ∈ y.loops → (x : Item) → x ∈ xs → Low x.edge) (sym a.2) (face-items fs groups actives ls ks count a.0 a.1);
+      points = λ f m. let a = faces-are fs groups actives ls ks 0 members f m in subst (λ (x : BodyFace). Below 4294967296 x.points) (sym a.2) (face-points fs groups actives ls ks kept a.0 a.1);
       lumps = shell;
     }
 
@@ -398,12 +423,20 @@ solid-low totals fs starts es ls members ks lumps S surfaces points edges few ke
 abbrev pub Narrow : Record → Type 0
 Narrow r = (r.kind < 65536) × Below 4294967296 r.fields
 
-face-narrow : (f : BodyFace) → Low f.surface → ((xs : List Item) → xs ∈ f.loops → (x : Item) → x ∈ xs → Low x.edge) → Below 4294967296 f.points
+face-narrow : (f : BodyFace) → Low f.surface → ((m : Member) → m ∈ f.members → LowMember m) → ((xs : List Item) → xs ∈ f.loops → (x : Item) → x ∈ xs → Low x.edge) → Below 4294967296 f.points
     → (r : Record) → r ∈ faceRecords f → Narrow r
 unfolding faceRecords
-face-narrow f surface items points r m =
+face-narrow f surface members items points r m =
     ⊎_elim
     (λ e. subst Narrow (sym e) (omega arith, one-low f.surface (senseNumber f.sense ∷ []) surface (one-low (senseNumber f.sense) [] (sense-low f.sense) none-low)))
+    (λ h. ⊎_elim
+    (λ e. subst Narrow (sym e) (
+      omega arith,
+      λ v q.
+          let b = flatMap-in memberFields f.members v q in
+          let low = members b.0 b.1 in
+          one-low b.0.body (b.0.source ∷ []) low.body (one-low b.0.source [] low.source none-low) v b.2,
+    ))
     (λ i. ⊎_elim
     (λ k.
     let a = map-in loopRecord f.loops r k in
@@ -417,6 +450,7 @@ face-narrow f surface items points r m =
     let a = map-in vertexLoopRecord f.points r k in
     subst Narrow (sym a.2) (omega arith, one-low a.0 [] (points a.0 a.1) none-low))
     (Memᴰ.append_cases (map loopRecord f.loops) i))
+    (Memᴰ.cases_cons h))
     (Memᴰ.cases_cons m)
 
 lump-narrow : (lump : List (List ℕ)) → ((shell : List ℕ) → shell ∈ lump → Below 4294967296 shell) → (r : Record) → r ∈ lumpRecords lump → Narrow r
@@ -455,7 +489,7 @@ records-narrow b L r m =
       one-low e.curve _ h.0 (one-low (senseNumber e.sense) _ (sense-low e.sense) (one-low e.start _ h.1 (one-low e.end [] h.2 none-low))),
     ))
     (λ k. ⊎_elim
-    (λ q. let a = flatMap-in faceRecords b.faces r q in face-narrow a.0 (L.surfaces a.0 a.1) (L.items a.0 a.1) (L.points a.0 a.1) r a.2)
+    (λ q. let a = flatMap-in faceRecords b.faces r q in face-narrow a.0 (L.surfaces a.0 a.1) (L.members a.0 a.1) (L.items a.0 a.1) (L.points a.0 a.1) r a.2)
     (λ q. let a = flatMap-in lumpRecords b.lumps r q in lump-narrow a.0 (L.lumps a.0 a.1) r a.2)
     (Memᴰ.append_cases (flat_map faceRecords b.faces) k))
     (Memᴰ.append_cases (map edgeRecord b.edges) j))
@@ -546,9 +580,9 @@ module _ (t : Table) (job : List ℕ) (bytes : Below 256 job) (j : Job) (l : loa
       let n : ℕ = length w.merge.groups in
       let each = nested-few j.answers n ss ns (shells-few j.answers j.proven w.merge.boundaries w.merge.groups ss (joined-shells t j w x ss q e f)) g in
       subst (λ (y : Joined). LowBody (bodyOf j y ns)) (sym r.1)
-      (solid-low (totalsOf w s) j.faces (fansOf j w).starts s.edges s.loops (lowestMembers w.merge.groups) w.vertexLoops (lumps ns)
+      (solid-low (totalsOf w s) j.faces w.merge.groups (fansOf j w).starts s.edges s.loops (lowestMembers w.merge.groups) w.vertexLoops (lumps ns)
       (totals-small t job j w l S s r.2)
-      L.surfaces
+      L.faces
       starts-low
       (ended-low s r.2)
       (ended-few s r.2)
@@ -564,6 +598,7 @@ rebuilt-low t job j b bytes l e =
       vertices = none-low;
       edges = λ e m. absurd (Memᴰ.not-nil m);
       surfaces = λ f m. absurd (Memᴰ.not-nil m);
+      members = λ f m. absurd (Memᴰ.not-nil m);
       items = λ f m. absurd (Memᴰ.not-nil m);
       points = λ f m. absurd (Memᴰ.not-nil m);
       lumps = λ k m. absurd (Memᴰ.not-nil m);

@@ -4,6 +4,7 @@ use Rattle.rules.specs.Rules.{Table}
 use Rattle.theorems.specs.Demand3.{Demand3}
 use Rattle.theorems.specs.Assembly.{demand3}
 use Rattle.theorems.specs.FaceJoins.{FaceJoins, face-joins}
+use Rattle.theorems.specs.FaceMembers.{FaceMembers, face-members}
 
 -- a request that promises more of an accepted job adds a field here
 pub record Promises (t : Table) (job : List ℕ) : Type 0 where
@@ -11,6 +12,8 @@ pub record Promises (t : Table) (job : List ℕ) : Type 0 where
   pub demand3 : Demand3 t job
   -- request Six of document 02
   pub faceJoins : FaceJoins t job
+  -- request Seven of document 02
+  pub faceMembers : FaceMembers t job
 
 pub promises : (t : Table) (job : List ℕ) → Promises t job
-promises t job = record { demand3 = demand3 t job; faceJoins = face-joins t job }
+promises t job = record { demand3 = demand3 t job; faceJoins = face-joins t job; faceMembers = face-members t job }

@@ -13,7 +13,7 @@ use Rattle.body.proofs.put_body.Goals as goal
 pub returns-then-out-needed : goal.returns-then-out-needed
 returns-then-out-needed c =
     ends-short (framedAll (bodyRecords (solidBody (totalsIn c.args.totals)
-    (facesIn c.args.job.now c.args.index.now c.args.c) c.args.starts.now (rowsIn c.args.rows.now)
+    (facesIn c.args.job.now c.args.index.now c.args.c) c.args.groups.now c.args.starts.now (rowsIn c.args.rows.now)
     (faceLoopsIn c.args.items.now c.args.stretches.now c.args.faces.now) c.args.members.now
     (keptIn c.args.k c.args.kept.now) (lumps
     (nestedIn c.args.boundaries.now c.args.members.now c.args.n c.args.table.now))))) c.args.out.now
@@ -21,7 +21,7 @@ returns-then-out-needed c =
 
 pub put_records-requires : goal.put_records-requires
 put_records-requires c =
-    spare-sized c.args.c c.args.rows.now c.args.items.now c.args.stretches.now c.args.faces.now c.args.members.now
+    spare-sized c.args.c c.args.groups.now c.args.rows.now c.args.items.now c.args.stretches.now c.args.faces.now c.args.members.now
     c.args.k c.args.n c.args.numbers.now c.args.vertices.now c.put_records-needed.new.numbers
     c.put_records-needed.new.vertices c.requires c.put_records-needed.auto.numbers
     c.put_records-needed.auto.vertices
@@ -29,7 +29,7 @@ put_records-requires c =
 pub returns : goal.returns
 returns c =
     ends-written (framedAll (bodyRecords (solidBody (totalsIn c.args.totals)
-    (facesIn c.args.job.now c.args.index.now c.args.c) c.args.starts.now (rowsIn c.args.rows.now)
+    (facesIn c.args.job.now c.args.index.now c.args.c) c.args.groups.now c.args.starts.now (rowsIn c.args.rows.now)
     (faceLoopsIn c.args.items.now c.args.stretches.now c.args.faces.now) c.args.members.now
     (keptIn c.args.k c.args.kept.now) (lumps
     (nestedIn c.args.boundaries.now c.args.members.now c.args.n c.args.table.now))))) c.args.out.now

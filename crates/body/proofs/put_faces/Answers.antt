@@ -18,14 +18,28 @@ number_edges-count-requires c = (c.requires.2, omega (arith, c.requires.3, c.bla
 pub loop-f-init : goal.loop-f-init
 loop-f-init c = (
   omega arith,
-  rowed-start (faceRow (facesIn c.args.job.now c.args.index.now c.args.c) c.args.items.now
+  rowed-start (faceRow (facesIn c.args.job.now c.args.index.now c.args.c) c.args.groups.now c.args.items.now
       c.args.stretches.now c.args.faces.now c.args.members.now c.args.kept.now c.args.k
-      c.number_edges-count.new.numbers c.number_edges-count.result) 33576974 c.args.out.now c.args.at,
+      c.number_edges-count.new.numbers c.number_edges-count.result) 33579028 c.args.out.now c.args.at,
 )
 
 pub put_face-q-requires : goal.put_face-q-requires
 put_face-q-requires c =
     (omega (arith, c.requires.0, c.requires.6, c.loop-f.invariant.0, c.loop-f.invariant.1.small), c.requires.1)
+
+pub put_members-r-requires : goal.put_members-r-requires
+put_members-r-requires c = (
+  omega (
+    arith,
+    c.requires.0,
+    c.requires.6,
+    c.loop-f.invariant.0,
+    c.loop-f.invariant.1.small,
+    c.put_face-q.ensures.1,
+  ),
+  c.requires.1,
+  c.requires.7,
+)
 
 pub put_loops-s-requires : goal.put_loops-s-requires
 put_loops-s-requires c = (
@@ -36,6 +50,7 @@ put_loops-s-requires c = (
     c.loop-f.invariant.0,
     c.loop-f.invariant.1.small,
     c.put_face-q.ensures.1,
+    c.put_members-r.ensures.1,
   ),
   c.requires.4,
 )
@@ -49,6 +64,7 @@ put_vertex_loops-p-requires c = (
     c.loop-f.invariant.0,
     c.loop-f.invariant.1.small,
     c.put_face-q.ensures.1,
+    c.put_members-r.ensures.1,
     c.put_loops-s.ensures.1,
   ),
   c.requires.5,
@@ -60,28 +76,28 @@ overflow_add-f c = omega (arith, c.loop-f-test.true, c.requires.6)
 pub loop-f-preserved : goal.loop-f-preserved
 loop-f-preserved c = (
   omega (arith, c.loop-f-test.true),
-  rowed-step (faceRow (facesIn c.args.job.now c.args.index.now c.args.c) c.args.items.now c.args.stretches.now
+  rowed-step (faceRow (facesIn c.args.job.now c.args.index.now c.args.c) c.args.groups.now c.args.items.now c.args.stretches.now
       c.args.faces.now c.args.members.now c.args.kept.now c.args.k c.number_edges-count.new.numbers
-      c.number_edges-count.result) 33576974 c.args.out.now c.args.at c.loop-f.out c.put_vertex_loops-p.new.out
+      c.number_edges-count.result) 33579028 c.args.out.now c.args.at c.loop-f.out c.put_vertex_loops-p.new.out
       c.loop-f.p c.loop-f.f c.put_vertex_loops-p.result c.loop-f.invariant.1
-      (face-row-wrote (facesIn c.args.job.now c.args.index.now c.args.c) c.args.items.now c.args.stretches.now
+      (face-row-wrote (facesIn c.args.job.now c.args.index.now c.args.c) c.args.groups.now c.args.items.now c.args.stretches.now
       c.args.faces.now c.args.members.now c.args.kept.now c.args.k c.number_edges-count.new.numbers
-      c.number_edges-count.result c.loop-f.out c.put_face-q.new.out c.put_loops-s.new.out
-      c.put_vertex_loops-p.new.out c.loop-f.p c.put_face-q.result c.put_loops-s.result c.put_vertex_loops-p.result
-      c.loop-f.f c.get-m.result c.get-m.ensures.0 c.put_face-q.ensures.0 c.put_loops-s.ensures.0
+      c.number_edges-count.result c.loop-f.out c.put_face-q.new.out c.put_members-r.new.out c.put_loops-s.new.out
+      c.put_vertex_loops-p.new.out c.loop-f.p c.put_face-q.result c.put_members-r.result c.put_loops-s.result c.put_vertex_loops-p.result
+      c.loop-f.f c.get-m.result c.get-m.ensures.0 c.put_face-q.ensures.0 c.put_members-r.ensures.0 c.put_loops-s.ensures.0
       c.put_vertex_loops-p.ensures.0) (omega
-      (arith, c.put_face-q.ensures.1, c.put_loops-s.ensures.1, c.put_vertex_loops-p.ensures.1)),
+      (arith, c.put_face-q.ensures.1, c.put_members-r.ensures.1, c.put_loops-s.ensures.1, c.put_vertex_loops-p.ensures.1)),
 )
 
 pub returns : goal.returns
 returns c = (
-  rowed-end (faceRow (facesIn c.args.job.now c.args.index.now c.args.c) c.args.items.now c.args.stretches.now
+  rowed-end (faceRow (facesIn c.args.job.now c.args.index.now c.args.c) c.args.groups.now c.args.items.now c.args.stretches.now
       c.args.faces.now c.args.members.now c.args.kept.now c.args.k c.number_edges-count.new.numbers
-      c.number_edges-count.result) 33576974 c.args.out.now c.args.at
-      (framedAll (flat_map faceRecords (bodyFaces (facesIn c.args.job.now c.args.index.now c.args.c)
+      c.number_edges-count.result) 33579028 c.args.out.now c.args.at
+      (framedAll (flat_map faceRecords (bodyFaces (facesIn c.args.job.now c.args.index.now c.args.c) c.args.groups.now
       (activeEdges (rowsIn c.args.rows.now)) (faceLoopsIn c.args.items.now c.args.stretches.now c.args.faces.now)
       (keptIn c.args.k c.args.kept.now) 0 c.args.members.now))) c.loop-f.out c.loop-f.p c.loop-f.f c.loop-f.invariant.1
-      (face-rows (facesIn c.args.job.now c.args.index.now c.args.c) c.args.items.now c.args.stretches.now
+      (face-rows (facesIn c.args.job.now c.args.index.now c.args.c) c.args.groups.now c.args.items.now c.args.stretches.now
       c.args.faces.now c.args.members.now c.args.kept.now c.args.k (activeEdges (rowsIn c.args.rows.now))
       c.number_edges-count.new.numbers c.number_edges-count.result c.number_edges-count.ensures c.loop-f.f
       (omega (arith, c.loop-f.invariant.0, c.loop-f-test.false))),

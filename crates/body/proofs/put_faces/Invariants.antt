@@ -7,8 +7,8 @@ use Rattle.body.proofs.put_faces.Given as goal
 
 abbrev pub invariant-loop-f : goal.invariant-loop-f
 invariant-loop-f l =
-    (l.f ≤ length l.members) × Rowed (faceRow (facesIn l.job l.index l.c) l.items l.stretches l.faces l.members l.kept
-    l.k l.numbers l.count) 33576974 l.initial.out l.at l.out l.p l.f
+    (l.f ≤ length l.members) × Rowed (faceRow (facesIn l.job l.index l.c) l.groups l.items l.stretches l.faces l.members l.kept
+    l.k l.numbers l.count) 33579028 l.initial.out l.at l.out l.p l.f
 
 abbrev pub decreases-loop-f : goal.decreases-loop-f
 decreases-loop-f l = length l.members - l.f

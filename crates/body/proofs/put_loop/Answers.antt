@@ -47,42 +47,6 @@ put_head-p-requires c = let a = c.args in
     let inside = z.laid.inside a.k (omega (arith, z.room, c.requires.2)) in
     (omega (arith, c.requires.0), omega (arith, inside, z.few-items, c.get-e.ensures.0))
 
--- no goal for overflow-mul-put-items
--- -- old need: overflow-mul-put-items
--- mul-put-items : goal.overflow-mul-put-items
--- mul-put-items c = let a = c.args in
---     let z = c.requires.1 in
---     let order = z.laid.order a.k (omega (arith, z.room, c.requires.2)) in
---     let inside = z.laid.inside a.k (omega (arith, z.room, c.requires.2)) in
---     omega (arith, inside, z.few-items, c.get-e.ensures.0)
-
--- no goal for overflow-sub-put-items
--- -- old need: overflow-sub-put-items
--- sub-put-items : goal.overflow-sub-put-items
--- sub-put-items c = let a = c.args in
---     let z = c.requires.1 in
---     let order = z.laid.order a.k (omega (arith, z.room, c.requires.2)) in
---     let inside = z.laid.inside a.k (omega (arith, z.room, c.requires.2)) in
---     omega (arith, order, inside, c.get-a.ensures.0, c.get-e.ensures.0)
-
--- no goal for slice-bounds-put-items-start
--- -- old need: slice-bounds-put-items-start
--- part-put-items-start : goal.slice-bounds-put-items-start
--- part-put-items-start c = let a = c.args in
---     let z = c.requires.1 in
---     let order = z.laid.order a.k (omega (arith, z.room, c.requires.2)) in
---     let inside = z.laid.inside a.k (omega (arith, z.room, c.requires.2)) in
---     omega (arith, order, inside, c.get-a.ensures.0, c.get-e.ensures.0)
-
--- no goal for slice-bounds-put-items-end
--- -- old need: slice-bounds-put-items-end
--- part-put-items-end : goal.slice-bounds-put-items-end
--- part-put-items-end c = let a = c.args in
---     let z = c.requires.1 in
---     let order = z.laid.order a.k (omega (arith, z.room, c.requires.2)) in
---     let inside = z.laid.inside a.k (omega (arith, z.room, c.requires.2)) in
---     omega (arith, order, inside, c.get-a.ensures.0, c.get-e.ensures.0)
-
 pub put_items-requires : goal.put_items-requires
 put_items-requires c = let a = c.args in
     let z = c.requires.1 in

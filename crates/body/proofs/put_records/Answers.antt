@@ -20,6 +20,7 @@ put_faces-q-requires c = (
   c.requires.loops,
   c.requires.few-kept,
   c.requires.few-members,
+  c.requires.few-groups,
 )
 
 pub put_lumps-requires : goal.put_lumps-requires
@@ -31,7 +32,7 @@ put_lumps-requires c = (
 
 pub returns : goal.returns
 returns c =
-    body-wrote (totalsIn c.args.totals) (facesIn c.args.job.now c.args.index.now c.args.c) c.args.starts.now
+    body-wrote (totalsIn c.args.totals) (facesIn c.args.job.now c.args.index.now c.args.c) c.args.groups.now c.args.starts.now
     (rowsIn c.args.rows.now) (faceLoopsIn c.args.items.now c.args.stretches.now c.args.faces.now) c.args.members.now
     (keptIn c.args.k c.args.kept.now) (lumps
     (nestedIn c.args.boundaries.now c.args.members.now c.args.n c.args.table.now)) c.args.out.now

@@ -3,11 +3,6 @@ use native.Mathlib.Omega.{arith}
 use lib.ListN.{length, take}
 use Rattle.groups.proofs.new.Goals as goal
 
--- no goal for slice-aggregate-alone
--- -- old need: slice-aggregate-alone
--- slice-aggregate-alone : goal.slice-aggregate-alone
--- slice-aggregate-alone c = sym (lent-size c.args.n 256 c.requires)
-
 pub alone-requires : goal.alone-requires
 alone-requires c = let e = lent-size c.args.n 256 c.requires in omega (arith, e)
 

@@ -55,8 +55,14 @@ returns-in-28 c =
     wrote-same c.args.page.now c.put_text-in-28.new.page (wordOf 28) (wordOf c.args.kind) c.args.at
     c.put_text-in-28.result (ap wordOf (sym c.in-28.is)) c.put_text-in-28.ensures
 
+pub returns-in-29 : goal.returns-in-29
+unfolding wordOf
+returns-in-29 c =
+    wrote-same c.args.page.now c.put_text-in-29.new.page (wordOf 29) (wordOf c.args.kind) c.args.at
+    c.put_text-in-29.result (ap wordOf (sym c.in-29.is)) c.put_text-in-29.ensures
+
 pub returns-in_default : goal.returns-in_default
 returns-in_default c =
     wrote-same c.args.page.now c.args.page.now [] (wordOf c.args.kind) c.args.at c.args.at
     (name-none c.args.kind c.if-kind-le21.false (omega arith) (omega arith) (omega arith) (omega arith)
-    (omega arith) (omega arith) (omega arith)) (wrote-none c.args.page.now c.args.at)
+    (omega arith) (omega arith) (omega arith) (omega arith)) (wrote-none c.args.page.now c.args.at)

@@ -6,11 +6,6 @@ use Rattle.lines.proofs.spell.Goals as goal
 pub loop-i-init : goal.loop-i-init
 loop-i-init c = spelled-start c.args.v c.args.digits.now c.requires
 
--- no goal for slice-write-digits
--- -- old need: slice-write-digits
--- slice-write-digits : goal.slice-write-digits
--- slice-write-digits c = omega (arith, c.loop-i.invariant.1, c.loop-i.invariant.0)
-
 pub returns-then-rest-lt10 : goal.returns-then-rest-lt10
 returns-then-rest-lt10 c = (
   omega (arith, c.loop-i.invariant.1),

@@ -21,26 +21,6 @@ overflow_mul-k-in-loop-k c = omega arith
 pub overflow_add-k : goal.overflow_add-k
 overflow_add-k c = omega arith
 
--- no goal for overflow-mul-lay-loop
--- -- old need: overflow-mul-lay-loop
--- mul-lay-loop : goal.overflow-mul-lay-loop
--- mul-lay-loop c = omega (arith, c.get-start.ensures.1)
-
--- no goal for overflow-sub-lay-loop
--- -- old need: overflow-sub-lay-loop
--- sub-lay-loop : goal.overflow-sub-lay-loop
--- sub-lay-loop c = reads-order c.args.stretches.now c.args.items.now c.requires c.loop-k.k c.get-start.result c.get-end.result c.loop-k-test.true c.get-start.ensures.0 c.get-end.ensures.0
-
--- no goal for slice-bounds-lay-loop-start
--- -- old need: slice-bounds-lay-loop-start
--- part-lay-loop-start : goal.slice-bounds-lay-loop-start
--- part-lay-loop-start c = reads-order c.args.stretches.now c.args.items.now c.requires c.loop-k.k c.get-start.result c.get-end.result c.loop-k-test.true c.get-start.ensures.0 c.get-end.ensures.0
-
--- no goal for slice-bounds-lay-loop-end
--- -- old need: slice-bounds-lay-loop-end
--- part-lay-loop-end : goal.slice-bounds-lay-loop-end
--- part-lay-loop-end c = reads-inside c.args.stretches.now c.args.items.now c.loop-k.items c.requires c.loop-k.k c.get-end.result c.loop-k-test.true c.get-end.ensures.0 c.loop-k.invariant.3
-
 pub overflow_add-k-in-loop-k : goal.overflow_add-k-in-loop-k
 overflow_add-k-in-loop-k c = omega arith
 

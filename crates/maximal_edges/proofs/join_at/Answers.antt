@@ -8,27 +8,6 @@ use mathlib.Core.Path.{◌≡◌, ◌∙◌}
 use native.Mathlib.Omega.{arith}
 use Rattle.maximal_edges.proofs.join_at.Goals as goal
 
--- no goal for slice-aggregate-edge-at
--- -- old need: slice-aggregate-edge-at
--- slice-aggregate-edge-at : goal.slice-aggregate-edge-at
--- slice-aggregate-edge-at c =
---     let a = c.args in
---     sym (length-take-le (7 * a.n) a.rows.now (omega (arith, c.requires.0)))
-
--- no goal for slice-aggregate-edge-at-2
--- -- old need: slice-aggregate-edge-at-2
--- slice-aggregate-edge-at-2 : goal.slice-aggregate-edge-at-2
--- slice-aggregate-edge-at-2 c =
---     let a = c.args in
---     sym (length-take-le (7 * a.n) a.rows.now (omega (arith, c.requires.0)))
-
--- no goal for slice-aggregate-part
--- -- old need: slice-aggregate-part
--- slice-aggregate-part : goal.slice-aggregate-part
--- slice-aggregate-part c =
---     let a = c.args in
---     sym (length-take-le (7 * a.n) a.rows.now (omega (arith, c.requires.0)))
-
 pub join_places-requires : goal.join_places-requires
 join_places-requires c =
     let pre = c.requires in

@@ -4,13 +4,6 @@ use Prim.Native.Nat.{◌*◌}
 use native.Mathlib.Omega.{arith}
 use Rattle.maximal_edges.proofs.join_with.Goals as goal
 
--- no goal for slice-aggregate-count-ends
--- -- old need: slice-aggregate-count-ends
--- slice-aggregate-count-ends : goal.slice-aggregate-count-ends
--- slice-aggregate-count-ends c =
---     let a = c.args in
---     sym (length-take-le (7 * a.count) a.rows.now (omega (arith, c.requires.1)))
-
 pub count_ends-requires : goal.count_ends-requires
 count_ends-requires c =
     let a = c.args in

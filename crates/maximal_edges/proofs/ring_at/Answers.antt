@@ -1,13 +1,6 @@
 use Rattle.maximal_edges.specs.ChangeLaws.{rows-ring}
 use Rattle.maximal_edges.proofs.ring_at.Goals as goal
 
--- no goal for slice-aggregate-edge-at
--- -- old need: slice-aggregate-edge-at
--- slice-aggregate-edge-at : goal.slice-aggregate-edge-at
--- slice-aggregate-edge-at c =
---     let a = c.args in
---     sym (length-take-le (7 * a.n) a.rows.now c.requires.0)
-
 pub returns : goal.returns
 returns c =
     let a = c.args in

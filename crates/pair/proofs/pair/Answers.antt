@@ -3,14 +3,6 @@ use Rattle.job.specs.Lists.{answersIn}
 use Rattle.uses.specs.Table.{usesIn}
 use Rattle.pair.proofs.pair.Goals as goal
 
--- no goal for slice-aggregate-pair-edges
--- -- old need: slice-aggregate-pair-edges
--- slice-aggregate-pair-edges : goal.slice-aggregate-pair-edges
--- unfolding blank
--- slice-aggregate-pair-edges c =
---     let counted = c.count-n in
---     blank-size 2048 (usesIn c.args.uses.now) counted.result counted.ensures c.requires.2
-
 pub pair_edges-r-requires : goal.pair_edges-r-requires
 unfolding blank
 pair_edges-r-requires c =

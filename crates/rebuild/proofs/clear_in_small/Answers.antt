@@ -6,18 +6,6 @@ use Rattle.rebuild.specs.Sizes.{chain-room}
 use native.Mathlib.Omega.{arith}
 use Rattle.rebuild.proofs.clear_in_small.Goals as goal
 
--- no goal for slice-aggregate-clear-linked
--- -- old need: slice-aggregate-clear-linked
--- slice-aggregate-clear-linked : goal.slice-aggregate-clear-linked
--- unfolding zeros
--- slice-aggregate-clear-linked c = part-size c.args.edges 64 c.requires.0
-
--- no goal for slice-aggregate-clear-linked-2
--- -- old need: slice-aggregate-clear-linked-2
--- slice-aggregate-clear-linked-2 : goal.slice-aggregate-clear-linked-2
--- unfolding zeros
--- slice-aggregate-clear-linked-2 c = part-size c.count-n.result 64 (omega (arith, c.count-n.ensures, c.requires.1))
-
 pub clear_linked-requires : goal.clear_linked-requires
 unfolding zeros
 clear_linked-requires c =

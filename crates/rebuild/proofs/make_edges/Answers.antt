@@ -13,21 +13,6 @@ use Rattle.rebuild.specs.Lined.{few-owners, lined}
 use native.Mathlib.Omega.{arith}
 use Rattle.rebuild.proofs.make_edges.Goals as goal
 
--- no goal for slice-aggregate-loop-faces
--- -- old need: slice-aggregate-loop-faces
--- slice-aggregate-loop-faces : goal.slice-aggregate-loop-faces
--- slice-aggregate-loop-faces c = sym (length-take-le c.args.c.faces c.args.m.numbers c.requires.2)
-
--- no goal for slice-aggregate-loop-faces-2
--- -- old need: slice-aggregate-loop-faces-2
--- slice-aggregate-loop-faces-2 : goal.slice-aggregate-loop-faces-2
--- slice-aggregate-loop-faces-2 c = sym (length-take-le c.loops-loops.result c.args.faces.now (omega (arith, c.loops-loops.ensures.1, c.requires.3.faces-size)))
-
--- no goal for slice-aggregate-edges
--- -- old need: slice-aggregate-edges
--- slice-aggregate-edges : goal.slice-aggregate-edges
--- slice-aggregate-edges c = sym (length-take-le c.args.c.faces c.args.m.numbers c.requires.2)
-
 pub edges-edges-requires : goal.edges-edges-requires
 edges-edges-requires c = (
   c.requires.0,

@@ -3,16 +3,6 @@ use Rattle.rebuild.specs.Lumped.{lumped}
 use Rattle.rebuild.specs.BodyExits.{members-few, shells-few, body-sized, lumps-written, lumps-refused, lumps-on}
 use Rattle.rebuild.proofs.on_nested.Goals as goal
 
--- no goal for slice-aggregate-write-lumps
--- -- old need: slice-aggregate-write-lumps
--- slice-aggregate-write-lumps : goal.slice-aggregate-write-lumps
--- slice-aggregate-write-lumps c = faces-cut c.requires.0
-
--- no goal for slice-aggregate-write-lumps-2
--- -- old need: slice-aggregate-write-lumps-2
--- slice-aggregate-write-lumps-2 : goal.slice-aggregate-write-lumps-2
--- slice-aggregate-write-lumps-2 c = members-cut c.requires.0
-
 pub write_lumps-requires : goal.write_lumps-requires
 write_lumps-requires c = (shells-few c.requires.0 c.args.n c.args.table.now c.requires.2, members-few c.requires.0)
 
@@ -37,29 +27,6 @@ returns-in-Refused c =
     λ f H. lumps-refused a.job.now a.index.now H a.stage a.out.now a.rows.now a.k a.items.now a.stretches.now
     a.faces.now a.n a.table.now pre.2 c.lumps_clear-t.result c.lumps_clear-t.ensures c.if-stage-eq-LUMPS.false
     c.in-Refused.number c.in-Refused.place c.in-Refused.is
-
--- no goal for slice-aggregate-put-body
--- -- old need: slice-aggregate-put-body
--- slice-aggregate-put-body : goal.slice-aggregate-put-body
--- slice-aggregate-put-body c =
---     let a = c.args in
---     let pre = c.requires in
---     rows-cut pre.0 a.rows.now a.k.edges a.items.now a.stretches.now a.faces.now pre.1
-
--- no goal for slice-aggregate-put-body-2
--- -- old need: slice-aggregate-put-body-2
--- slice-aggregate-put-body-2 : goal.slice-aggregate-put-body-2
--- slice-aggregate-put-body-2 c = members-cut c.requires.0
-
--- no goal for array-share-prefix-boundaries-2
--- -- old need: array-share-prefix-boundaries-2
--- array-share-prefix-boundaries-2 : goal.array-share-prefix-boundaries-2
--- array-share-prefix-boundaries-2 c = faces-room c.requires.0
-
--- no goal for slice-aggregate-put-body-3
--- -- old need: slice-aggregate-put-body-3
--- slice-aggregate-put-body-3 : goal.slice-aggregate-put-body-3
--- slice-aggregate-put-body-3 c = faces-cut c.requires.0
 
 pub put_body-requires : goal.put_body-requires
 put_body-requires c =

@@ -5,16 +5,6 @@ use Rattle.rebuild.specs.BodyExits.{members-few, shells-few}
 use Rattle.rebuild.specs.ShellExits.{nested-shelled, nested-homes, shells-written, shells-refused, shells-on}
 use Rattle.rebuild.proofs.on_shelled.Goals as goal
 
--- no goal for slice-aggregate-write-shells
--- -- old need: slice-aggregate-write-shells
--- slice-aggregate-write-shells : goal.slice-aggregate-write-shells
--- slice-aggregate-write-shells c = faces-cut c.requires.0
-
--- no goal for slice-aggregate-write-shells-2
--- -- old need: slice-aggregate-write-shells-2
--- slice-aggregate-write-shells-2 : goal.slice-aggregate-write-shells-2
--- slice-aggregate-write-shells-2 c = members-cut c.requires.0
-
 pub write_shells-requires : goal.write_shells-requires
 write_shells-requires c = (shells-few c.requires.0 c.args.n c.args.table.now c.requires.2, members-few c.requires.0)
 

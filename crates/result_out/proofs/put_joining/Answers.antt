@@ -19,11 +19,6 @@ put_word-q-requires c =
           c.put_two-p.ensures,
     )
 
--- no goal for slice-aggregate-put-edges
--- -- old need: slice-aggregate-put-edges
--- slice-aggregate-put-edges : goal.slice-aggregate-put-edges
--- slice-aggregate-put-edges c = sym (length-take-le (7 * c.args.n) c.args.rows.now c.requires.3)
-
 pub put_edges-r-requires : goal.put_edges-r-requires
 put_edges-r-requires c =
     let a = c.args in (

@@ -14,14 +14,6 @@ loop-k-init c =
     let a = c.args in
     (omega arith, rowed-start (faceLoopRow a.items.now a.stretches.now a.faces.now) 4098 a.out.now a.at)
 
--- no goal for overflow-sub-put-loop
--- -- old need: overflow-sub-put-loop
--- sub-put-loop : goal.overflow-sub-put-loop
--- sub-put-loop c =
---     let k = c.loop-k.k in
---     let b : 2 * k + 1 < length c.args.stretches.now = omega (arith, c.requires.1, c.loop-k-test.true) in
---     omega (arith, c.get-a.ensures.0, c.get-e.ensures.0, c.requires.0.order k b)
-
 pub slice_bounds-put_loop-start : goal.slice_bounds-put_loop-start
 slice_bounds-put_loop-start c =
     let k = c.loop-k.k in

@@ -15,21 +15,6 @@ loop-i-init c = (
       2050 c.args.out.now,
 )
 
--- no goal for overflow-sub-put-loop
--- -- old need: overflow-sub-put-loop
--- sub-put-loop : goal.overflow-sub-put-loop
--- sub-put-loop c = omega (arith, c.get-e.ensures.0, c.get-a.ensures.0, c.requires.0.rise c.loop-i.i c.loop-i-test.true, c.requires.0.within c.loop-i.i c.loop-i-test.true)
-
--- no goal for slice-bounds-put-loop-start
--- -- old need: slice-bounds-put-loop-start
--- part-put-loop-start : goal.slice-bounds-put-loop-start
--- part-put-loop-start c = omega (arith, c.get-e.ensures.0, c.get-a.ensures.0, c.requires.0.rise c.loop-i.i c.loop-i-test.true, c.requires.0.within c.loop-i.i c.loop-i-test.true)
-
--- no goal for slice-bounds-put-loop-end
--- -- old need: slice-bounds-put-loop-end
--- part-put-loop-end : goal.slice-bounds-put-loop-end
--- part-put-loop-end c = omega (arith, c.get-e.ensures.0, c.get-a.ensures.0, c.requires.0.rise c.loop-i.i c.loop-i-test.true, c.requires.0.within c.loop-i.i c.loop-i-test.true)
-
 pub put_loop-p-requires : goal.put_loop-p-requires
 put_loop-p-requires c = (
   omega (arith, c.loop-i.invariant.1.small, c.requires.1),

@@ -9,18 +9,6 @@ pub loop-h-init : goal.loop-h-init
 loop-h-init c =
     (sym (length-uses c.args.uses.now), omega arith, records-none (usesIn c.args.uses.now) c.record_of-none.result)
 
--- no goal for overflow-mul-records
--- -- old need: overflow-mul-records
--- mul-records : goal.overflow-mul-records
--- mul-records c =
---     omega (arith, c.loop-h-test.true, c.loop-h.invariant.0, c.requires)
-
--- no goal for array-set-from-records
--- -- old need: array-set-from-records
--- array-set-from-records : goal.array-set-from-records
--- array-set-from-records c =
---     omega (arith, c.loop-h-test.true, c.loop-h.invariant.0, c.requires)
-
 pub overflow_add-h : goal.overflow_add-h
 overflow_add-h c =
     omega (arith, c.loop-h-test.true, c.loop-h.invariant.0, c.requires)

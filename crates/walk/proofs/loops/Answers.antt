@@ -2,11 +2,6 @@ use lib.ListN.{length}
 use Rattle.walk.specs.LoopLaws.{blank-visited}
 use Rattle.walk.proofs.loops.Goals as goal
 
--- no goal for slice-aggregate-walk-all
--- -- old need: slice-aggregate-walk-all
--- slice-aggregate-walk-all : goal.slice-aggregate-walk-all
--- slice-aggregate-walk-all c = blank-length (length c.args.succ.now) c.requires.1
-
 pub walk_all-requires : goal.walk_all-requires
 walk_all-requires c =
     (c.requires.0, c.requires.1, blank-visited (length c.args.succ.now) c.requires.1, c.requires.2, c.requires.3)
