@@ -1,8 +1,9 @@
 -- Laws of records written one after the other, and of the ending of an operation that writes bytes.
-use Rattle.std.specs.Prelude.{ℕ, ◌+◌, ◌*◌, ◌<◌, ◌≤◌, ◌≡◌, refl, Bool, true, false, cond, length, drop}
-use Rattle.std.proofs.Common.{mul-suc, add-one, sym, ap, subst, ◌∙◌, length-append, le-leb}
+use Rattle.std.specs.Prelude.{ℕ, zero, suc, ◌+◌, ◌-◌, ◌*◌, ◌<◌, ◌≤◌, ◌≡◌, refl, Bool, true, false, cond, length, drop}
+use Rattle.std.proofs.Common.{mul-suc, add-one, append-nil, sym, ap, subst, ◌∙◌, length-append, le-leb}
 use native.Mathlib.Omega.{arith}
 use mathlib.Core.List.{List, [], ◌++◌, flat_map}
+use Rattle.std.proofs.Math.Nat.{mul-add}
 use Rattle.std.proofs.lemmas.List.Edits.{sets-eq}
 use Rattle.std.proofs.Math.Seq.{length-sets}
 use Rattle.std.proofs.lemmas.Bool.{lt-leb}
@@ -59,6 +60,15 @@ pub record Rowed (f : ℕ → List ℕ) (most : ℕ) (before : List ℕ) (at : �
   pub wrote : Wrote before at (flat_map f (below i)) after p
   pub small : p ≤ at + most * i
 
+-- rows without bytes add none
+rows-none : (f : ℕ → List ℕ) (i d : ℕ) → ((k : ℕ) → i ≤ k → k < i + d → f k ≡ []) → flat_map f (below (i + d)) ≡ flat_map f (below i)
+rows-none f i zero none = let z : i + zero ≡ i = omega arith in ap (λ n. flat_map f (below n)) z
+rows-none f i (suc d) none =
+    let z : i + suc d ≡ (i + d) + 1 = omega arith in
+    ap (λ n. flat_map f (below n)) z ∙ rows-more f (i + d)
+    ∙ ap (λ r. flat_map f (below (i + d)) ++ r) (none (i + d) (omega arith) (omega arith)) ∙ append-nil (flat_map f (below (i + d)))
+    ∙ rows-none f i d (λ k low high. none k low (omega (arith, high)))
+
 module _ (f : ℕ → List ℕ) (most : ℕ) (before : List ℕ) (at : ℕ) where
   pub rowed-start : Rowed f most before at before at 0
   unfolding flat_map from
@@ -70,6 +80,17 @@ module _ (f : ℕ → List ℕ) (most : ℕ) (before : List ℕ) (at : ℕ) wher
     wrote = wrote-as (flat_map f (below i) ++ f i) (flat_map f (below (i + 1))) before after at q (sym (rows-more f i)) (wrote-more before mid after (flat_map f (below i)) (f i) at p q R.wrote w);
     small = let e : most * (i + 1) ≡ most * i + most = ap (λ k. most * k) (add-one i) ∙ mul-suc most i in omega (arith, R.small);
   }
+
+  -- rows without bytes are written at once
+  pub rowed-skip : (after : List ℕ) (p i j : ℕ) → Rowed f most before at after p i → i ≤ j → ((k : ℕ) → i ≤ k → k < j → f k ≡ []) → Rowed f most before at after p j
+  rowed-skip after p i j R le none =
+      let z : i + (j - i) ≡ j = omega (arith, le) in
+      let same : flat_map f (below i) ≡ flat_map f (below j) = sym (rows-none f i (j - i) (λ k low high. none k low (omega (arith, high, z)))) ∙ ap (λ n. flat_map f (below n)) z in
+      record {
+        size = R.size;
+        wrote = wrote-as (flat_map f (below i)) (flat_map f (below j)) before after at p same R.wrote;
+        small = let e : most * j ≡ most * i + most * (j - i) = ap (λ n. most * n) (sym z) ∙ mul-add most i (j - i) in omega (arith, R.small, e);
+      }
 
   -- all of them, where they are these bytes
   pub rowed-end : (bytes after : List ℕ) (p i : ℕ) → Rowed f most before at after p i → flat_map f (below i) ≡ bytes → Wrote before at bytes after p

@@ -9,8 +9,9 @@ ghost use Rattle.rules.specs.Fields.{fieldBytes};
 ghost use Rattle.rules.specs.Frame.{framed, framedAll};
 ghost use Rattle.rules.specs.Join.{edgeDataAt, activeEdges};
 ghost use Rattle.rules.specs.Shells.{shellFaces, lumps};
-ghost use Rattle.rules.specs.Groups.{membersOf};
-ghost use Rattle.rules.specs.Body.{rec, stillActive, meet, metFans, memberAt, membersRecord, bodyFaces, faceRecords, lumpRecords, bodyRecords, emptyBody, solidBody};
+ghost use Rattle.rules.specs.Groups.{membersOf, lowestMembers};
+ghost use Rattle.rules.specs.GroupLaws.{Lowest};
+ghost use Rattle.rules.specs.Body.{rec, stillActive, meet, metFans, memberAt, memberFields, membersRecord, bodyFaces, faceRecords, lumpRecords, bodyRecords, emptyBody, solidBody};
 ghost use Rattle.rules.specs.Sew.{fitting, Ends};
 ghost use Rattle.fields.specs.Wrote.{Wrote};
 ghost use Rattle.job.specs.Lists.{facesIn};
@@ -19,11 +20,12 @@ ghost use Rattle.vertex_loops.specs.Kept.{keptIn};
 ghost use Rattle.shells.specs.Table.{nestedIn};
 ghost use Rattle.body.specs.Numbers.{Blank, Numbering, numberOf, vertexIn};
 ghost use Rattle.body.specs.Vertices.{EndOk, EndsOk, Meeting, metBelow, activeBelow};
-ghost use Rattle.body.specs.Rows.{totalsIn, vertexAndEdgeBytes, edgeRow, itemRow, loopRow, loopRows, vertexLoopRow, vertexLoopRows, faceHead, memberRow, memberRows, shellFaceRow, voidRow, voidRows, lumpRow};
-ghost use Rattle.body.specs.Sized.{LoopsSized, BodySized};
+ghost use Rattle.body.specs.Rows.{totalsIn, vertexAndEdgeBytes, edgeRow, itemRow, loopRow, loopRows, vertexLoopRow, vertexLoopRows, faceHead, memberRows, shellFaceRow, voidRow, voidRows, lumpRow};
+ghost use Rattle.body.specs.Sized.{LoopsSized, Chained, Leading, BodySized};
 
 use edges::{edge_active, edge_at, edge_end, edge_start};
 use fields::{UNSET, get, put, put_head, put_word};
+use members::chain;
 use rules::{Counts, Ending};
 use shells::{shell_boundary, shell_home, shell_outer};
 
@@ -352,46 +354,36 @@ fn put_face(job: &[u8], index: &[u32], c: Counts, r: usize, out: &mut [u8], at: 
     put_two(out, p, surface, sense)
 }
 
-// Body and source face of selected face i where it is of the merged group with label m.
-fn put_member(
-    job: &[u8],
-    index: &[u32],
-    c: Counts,
-    groups: &[u32],
-    m: usize,
-    i: usize,
-    out: &mut [u8],
-    at: usize,
-) -> usize
+// Body and source face of selected face i.
+fn put_member(job: &[u8], index: &[u32], c: Counts, i: usize, out: &mut [u8], at: usize) -> usize
     requires { (at < 2 ^ 58) × (c.faces ≤ 256) }
-    ensures { Wrote out.old at (fieldBytes (memberRow (facesIn job.now index.now c) groups.now m i)) out.new result × (result ≤ at + 8) }
+    ensures { Wrote out.old at (fieldBytes (memberFields (memberAt (facesIn job.now index.now c) i))) out.new result × (result ≤ at + 8) }
 {
-    if get(groups, i) != m {
-        return at;
-    }
     let body = job::face_body(job, index, c, i);
     let source = job::face_source(job, index, c, i);
     put_two(out, at, body, source)
 }
 
-// Body and source face of each selected face of that group, ascending.
+// Body and source face of each selected face of the merged group with label m, ascending: from the lowest, which is
+// the label, along the chain.
 fn put_group(
     job: &[u8],
     index: &[u32],
     c: Counts,
     groups: &[u32],
+    next: &[u32],
     m: usize,
     out: &mut [u8],
     at: usize,
 ) -> usize
-    requires { (at < 2 ^ 57) × (c.faces ≤ 256) × (length groups.now ≤ 256) }
+    requires { (at < 2 ^ 57) × (c.faces ≤ 256) × Chained groups.now next.now × Leading groups.now m }
     ensures { Wrote out.old at (fieldBytes (memberRows (facesIn job.now index.now c) groups.now m)) out.new result × (result ≤ at + 2048) }
 {
     let mut p = at;
-    let mut i: usize = 0;
+    let mut i = m;
     while i < groups.len() {
-        p = put_member(job, index, c, groups, m, i, out, p);
-        i += 1;
+        p = put_member(job, index, c, i, out, p);
+        i = get(next, i);
     }
     p
 }
@@ -402,17 +394,18 @@ fn put_members(
     index: &[u32],
     c: Counts,
     groups: &[u32],
+    next: &[u32],
     m: usize,
     out: &mut [u8],
     at: usize,
 ) -> usize
-    requires { (at < 2 ^ 56) × (c.faces ≤ 256) × (length groups.now ≤ 256) }
+    requires { (at < 2 ^ 56) × (c.faces ≤ 256) × Chained groups.now next.now × Leading groups.now m }
     ensures { Wrote out.old at (framed (membersRecord (map (memberAt (facesIn job.now index.now c)) (membersOf groups.now m)))) out.new result × (result ≤ at + 2054) }
 {
     let mut none = [0u8; 1];
-    let size = put_group(job, index, c, groups, m, &mut none, 0);
+    let size = put_group(job, index, c, groups, next, m, &mut none, 0);
     let p = put_head(out, at, 29, size / 4);
-    put_group(job, index, c, groups, m, out, p)
+    put_group(job, index, c, groups, next, m, out, p)
 }
 
 // Kind 24: the merged faces, each with its members and its loops after it, vertex loops last.
@@ -432,17 +425,20 @@ fn put_faces(
     out: &mut [u8],
     at: usize,
 ) -> usize
-    requires { (at < 2 ^ 53) × (c.faces ≤ 256) × (length rows.now ≤ 14336) × (length rows.now ≤ 7 * length numbers.old) × LoopsSized items.now stretches.now faces.now × (k ≤ 1024) × (length members.now ≤ 256) × (length groups.now ≤ 256) }
+    requires { (at < 2 ^ 53) × (c.faces ≤ 256) × (length rows.now ≤ 14336) × (length rows.now ≤ 7 * length numbers.old) × LoopsSized items.now stretches.now faces.now × (k ≤ 1024) × (length members.now ≤ 256) × (length groups.now ≤ 256) × Lowest groups.now × (members.now ≡ lowestMembers groups.now) }
     ensures { Wrote out.old at (framedAll (flat_map faceRecords (bodyFaces (facesIn job.now index.now c) groups.now (activeEdges (rowsIn rows.now)) (faceLoopsIn items.now stretches.now faces.now) (keptIn k kept.now) 0 members.now))) out.new result × (result ≤ at + 8596231168) }
 {
     blank(numbers);
     let count = number_edges(rows, numbers);
+    let mut room = [0u32; 256];
+    let next = &mut room[..groups.len()];
+    chain(groups, next);
     let mut p = at;
     let mut f: usize = 0;
     while f < members.len() {
         let m = get(members, f);
         let q = put_face(job, index, c, m, out, p);
-        let r = put_members(job, index, c, groups, m, out, q);
+        let r = put_members(job, index, c, groups, next, m, out, q);
         let s = put_loops(items, stretches, faces, numbers, count, f, out, r);
         p = put_vertex_loops(kept, k, f, out, s);
         f += 1;

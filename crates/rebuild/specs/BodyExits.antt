@@ -99,6 +99,8 @@ module _ {bytes ix : List ℕ} {c : Counts} {us : List Use} {m : Faces} {names :
     loops = record { laid = T.laid; few-items = T.items-few; few = T.faces-few; room = T.loops };
     few-members = members-few;
     few-groups = groups-few;
+    lowest = Z.grouped;
+    own = Z.leaders;
     few-kept = Z.kept;
     few-shells = shells-few n t S;
   }

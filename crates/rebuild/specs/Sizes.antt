@@ -26,7 +26,7 @@ use Rattle.maximal_edges.specs.Joined.{edgesIn as rows_to}
 use Rattle.progress.specs.declared.Faces.{Faces}
 use Rattle.progress.specs.declared.Figures.{Figures}
 use Rattle.progress.specs.Known.{boundariesIn, groupsIn, membersIn, walkedIn, Settled}
-use Rattle.progress.specs.KnownLaws.{opened-limited, paired-few, paired-twins, bounded-lowest, settled-ground, settled-linked, settled-permuted}
+use Rattle.progress.specs.KnownLaws.{opened-limited, paired-few, paired-twins, grouped-lowest, bounded-lowest, settled-ground, settled-linked, settled-permuted}
 use Rattle.progress.specs.Parts.{zeros, zeros-first, part-size, part-at}
 use Rattle.rebuild.specs.Lined.{Linable}
 
@@ -47,6 +47,8 @@ pub record Sizes (bytes ix : List ℕ) (c : Counts) (us : List Use) (m : Faces) 
   pub groups : length m.groups ≡ 256
   pub members : length m.members ≡ 256
   pub merged : m.merged ≤ 256
+  pub grouped : Lowest (groupsIn c m)
+  pub leaders : membersIn m ≡ lowestMembers (groupsIn c m)
   pub kept : g.kept ≤ 1024
   pub nodup : Nodup names
   pub below : (v : ℕ) → v ∈ names → v < length us
@@ -222,6 +224,8 @@ module _ {bytes ix : List ℕ} {c : Counts} {us : List Use} {ts : List ℕ} {m :
     groups = S.grouped.groups-size;
     members = S.grouped.members-size;
     merged = S.grouped.few;
+    grouped = grouped-lowest bytes ix c us ts m S.grouped;
+    leaders = S.grouped.lowest;
     kept = omega (arith, S.few, (settled-limited S).loops);
     nodup = subst Nodup (sym fanned-names) fanned-hold.nodup;
     below = λ v i. named-below v (subst (λ l. v ∈ l) fanned-names i);

@@ -6,7 +6,7 @@ use Rattle.job.specs.Lists.{facesIn}
 use Rattle.edges.specs.Table.{rowsIn, faceLoopsIn}
 use Rattle.vertex_loops.specs.Kept.{keptIn}
 use Rattle.body.specs.Rows.{faceRow}
-use Rattle.body.specs.RowLaws.{face-row-wrote}
+use Rattle.body.specs.RowLaws.{leading-at, face-row-wrote}
 use Rattle.body.specs.BodyLaws.{face-rows}
 use Rattle.body.specs.Writing.{rowed-start, rowed-step, rowed-end}
 use native.Mathlib.Omega.{arith}
@@ -38,7 +38,8 @@ put_members-r-requires c = (
     c.put_face-q.ensures.1,
   ),
   c.requires.1,
-  c.requires.7,
+  record { few = c.requires.7; lowest = c.requires.8; nexts = c.chain.ensures },
+  leading-at c.args.groups.now c.args.members.now c.loop-f.f c.get-m.result c.requires.9 c.loop-f-test.true c.get-m.ensures.0,
 )
 
 pub put_loops-s-requires : goal.put_loops-s-requires

@@ -1,21 +1,26 @@
 use Rattle.rules.specs.Fields.{fieldBytes}
 use Rattle.job.specs.Lists.{facesIn}
-use Rattle.body.specs.Writing.{rowed-start, rowed-step, rowed-end}
+use Rattle.body.specs.Writing.{rowed-end}
 use Rattle.body.specs.Rows.{memberRow, memberRows}
-use Rattle.body.specs.RowLaws.{member-rows}
+use Rattle.body.specs.RowLaws.{member-rows, chain-at, group-start, group-step, group-next}
 use native.Mathlib.Omega.{arith}
 use Rattle.body.proofs.put_group.Goals as goal
 
 pub loop-i-init : goal.loop-i-init
 loop-i-init c =
     let a = c.args in
-    let fs = facesIn a.job.now a.index.now a.c in
-    (omega arith, rowed-start (λ i. fieldBytes (memberRow fs a.groups.now a.m i)) 8 a.out.now a.at)
+    let chained = c.requires.2 in
+    let leading = c.requires.3 in
+    let fs = facesIn a.job.now a.index.now a.c in (
+      omega (arith, leading.inside),
+      λ h. leading.own,
+      group-start fs a.groups.now a.next.now a.m chained leading a.out.now a.at,
+    )
 
 pub put_member-p-requires : goal.put_member-p-requires
 put_member-p-requires c =
     let l = c.loop-i in (
-      omega (arith, c.requires.0, c.requires.2, l.invariant.0, l.invariant.1.small),
+      omega (arith, c.requires.0, c.requires.2.few, l.invariant.0, l.invariant.2.small),
       c.requires.1,
     )
 
@@ -24,11 +29,29 @@ loop-i-preserved c =
     let a = c.args in
     let l = c.loop-i in
     let x = c.put_member-p in
-    let fs = facesIn a.job.now a.index.now a.c in (
-      omega (arith, c.loop-i-test.true),
-      rowed-step (λ i. fieldBytes (memberRow fs a.groups.now a.m i)) 8 a.out.now a.at l.out x.new.out l.p l.i x.result
-          l.invariant.1 x.ensures.0 x.ensures.1,
+    let chained = c.requires.2 in
+    let leading = c.requires.3 in
+    let fs = facesIn a.job.now a.index.now a.c in
+    let inside = c.loop-i-test.true in
+    let own = l.invariant.1 inside in
+    let leads = chain-at fs a.groups.now a.next.now a.m chained leading l.i c.get-i.result inside c.get-i.ensures.0 in
+    let next = group-next fs a.groups.now a.next.now a.m chained leading l.i c.get-i.result inside own leads in (
+      next.1,
+      next.2,
+      group-step fs a.groups.now a.next.now a.m chained leading a.out.now l.out x.new.out a.at l.p l.i c.get-i.result
+          x.result inside own leads l.invariant.2 x.ensures.0 x.ensures.1,
     )
+
+pub loop-i-smaller : goal.loop-i-smaller
+loop-i-smaller c =
+    let a = c.args in
+    let l = c.loop-i in
+    let fs = facesIn a.job.now a.index.now a.c in
+    let inside = c.loop-i-test.true in
+    let leads = chain-at fs a.groups.now a.next.now a.m c.requires.2 c.requires.3 l.i c.get-i.result inside c.get-i.ensures.0 in
+    let next = group-next fs a.groups.now a.next.now a.m c.requires.2 c.requires.3 l.i c.get-i.result inside
+    (l.invariant.1 inside) leads in
+    omega (arith, inside, next.0, next.1)
 
 pub returns : goal.returns
 returns c =
@@ -37,6 +60,6 @@ returns c =
     let fs = facesIn a.job.now a.index.now a.c in
     let wrote =
     rowed-end (λ i. fieldBytes (memberRow fs a.groups.now a.m i)) 8 a.out.now a.at
-    (fieldBytes (memberRows fs a.groups.now a.m)) l.out l.p l.i l.invariant.1
+    (fieldBytes (memberRows fs a.groups.now a.m)) l.out l.p l.i l.invariant.2
     (member-rows fs a.groups.now a.m l.i (omega (arith, l.invariant.0, c.loop-i-test.false))) in
-    (wrote, omega (arith, l.invariant.0, l.invariant.1.small, c.requires.2))
+    (wrote, omega (arith, l.invariant.0, l.invariant.2.small, c.requires.2.few))

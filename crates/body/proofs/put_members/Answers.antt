@@ -16,6 +16,7 @@ put_group-requires c =
       ),
       c.requires.1,
       c.requires.2,
+      c.requires.3,
     )
 
 pub returns : goal.returns

@@ -21,6 +21,8 @@ put_faces-q-requires c = (
   c.requires.few-kept,
   c.requires.few-members,
   c.requires.few-groups,
+  c.requires.lowest,
+  c.requires.own,
 )
 
 pub put_lumps-requires : goal.put_lumps-requires

@@ -1,0 +1,47 @@
+// The members of each group in a chain, by which a group is gone through without the others.
+
+#![tactic(auto)]
+
+ghost use Rattle.std.specs.Prelude.{◌≡◌, List, map, ℕ, ◌+◌, ◌<◌, ◌≤◌, length, get_or};
+ghost use Rattle.lists.specs.Lists.{below};
+ghost use Rattle.rules.specs.GroupLaws.{Lowest};
+ghost use Rattle.members.specs.Chain.{nextMember, Chaining};
+
+use fields::{get, put};
+
+// The first of n labels have no number yet: n stands for none.
+fn none_yet(first: &mut [u32], n: usize)
+    requires { n ≤ 256 }
+    ensures { (l : ℕ) → l < n → l < length first.old → get_or first.new l 0 ≡ n }
+{
+    let mut l: usize = 0;
+    while l < n {
+        put(first, l, n);
+        l += 1;
+    }
+}
+
+// Number i before those that are chained: it leads to the first with its label, and is the first from here on.
+fn chain_one(groups: &[u32], first: &mut [u32], next: &mut [u32], i: usize)
+    requires { (i < length groups.now) × (length groups.now ≤ 256) × Lowest groups.now }
+    ensures { Chaining groups.now first.old next.old (i + 1) → Chaining groups.now first.new next.new i }
+{
+    let label = get(groups, i);
+    let later = get(first, label);
+    put(next, i, later);
+    put(first, label, i);
+}
+
+// For each number the next of its group; for the last of a group how many numbers there are.
+pub fn chain(groups: &[u32], next: &mut [u32])
+    requires { (length groups.now ≤ 256) × (length next.old ≡ length groups.now) × Lowest groups.now }
+    ensures { next.new ≡ map (nextMember groups.now) (below (length groups.now)) }
+{
+    let mut first = [0u32; 256];
+    let mut i = groups.len();
+    none_yet(&mut first, i);
+    while 0 < i {
+        i -= 1;
+        chain_one(groups, &mut first, next, i);
+    }
+}
