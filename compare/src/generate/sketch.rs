@@ -185,8 +185,8 @@ pub fn write(sketch: &Sketch, rng: &mut Rng) -> Written {
     }
     if sketch.split > 0 {
         split_vertices(&mut written.records, sketch.split, &mut rng.aside());
-        give_sources(&mut written.records, &mut rng.apart(11));
     }
+    give_sources(&mut written.records, &mut rng.apart(11));
     written
 }
 
