@@ -75,7 +75,7 @@ enum zaxclover_body_kind {
     ZAXCLOVER_BODY_VERTEX_LOOP = 26, /* point */
     ZAXCLOVER_BODY_LUMP = 27,        /* no fields */
     ZAXCLOVER_BODY_SHELL = 28,       /* faces */
-    ZAXCLOVER_BODY_MEMBERS = 29      /* body and source face of each selected face behind the face before it */
+    ZAXCLOVER_BODY_MEMBERS = 29      /* of the face before it: body and source face of each of its selected faces */
 };
 
 /* REFUSALS. The comment says what the place is. */

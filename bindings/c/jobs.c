@@ -30,7 +30,7 @@ uint64_t job_state(uint64_t seed, uint64_t index)
     return z == 0 ? 1 : z;
 }
 
-static uint32_t word(const uint8_t *at)
+uint32_t word(const uint8_t *at)
 {
     return at[0] | (uint32_t)at[1] << 8 | (uint32_t)at[2] << 16 | (uint32_t)at[3] << 24;
 }
@@ -241,7 +241,7 @@ static void repeat(uint64_t *state, struct job *job)
         insert(job, at, copy, size);
 }
 
-static void put_record(struct job *job, uint32_t kind, const uint32_t *fields, size_t count)
+void put_record(struct job *job, uint32_t kind, const uint32_t *fields, size_t count)
 {
     uint8_t record[6 + 4 * 16];
     put_word(record, (uint32_t)(4 * count));
@@ -252,24 +252,51 @@ static void put_record(struct job *job, uint32_t kind, const uint32_t *fields, s
     insert(job, job->length, record, 6 + 4 * count);
 }
 
-/* A job from nothing: Head, vertices, edges, faces and answers with small fields, mostly of the right lengths. */
+/* What a field is: a small number, one below two, three or five, that of a thing in the job, or a source face. */
+enum sort { ANY, TWO, THREE, FIVE, VERTEX, EDGE, FACE, USE, SOURCE, SORTS };
+
+/* A record of mostly permitted fields, by how many things of each sort there are; gives how many fields are due. */
+static size_t put_some(uint64_t *state, struct job *job, uint32_t kind, const size_t *there)
+{
+    static const size_t lengths[] = {1, 1, 1, 4, 5, 2, 1, 3, 2, 3, 3, 5, 2, 3};
+    static const enum sort sorts[14][5] = {
+        {ANY}, {TWO}, {ANY}, {ANY, TWO, VERTEX, VERTEX}, {ANY, TWO, TWO, TWO, SOURCE}, {EDGE, TWO, EDGE, TWO}, {VERTEX},
+        {EDGE, USE, USE, USE, USE}, {USE, FIVE}, {ANY, ANY, THREE}, {ANY, ANY, THREE}, {ANY, FACE, FACE, ANY, THREE},
+        {FACE, THREE}, {FACE, FACE, THREE},
+    };
+    uint32_t fields[16] = {0};
+    size_t count = lengths[kind] + ((kind == 5 || kind == 7) && below(state, 8) == 0 ? 2 : 0);
+    for (size_t i = 0; i < count; i++) {
+        enum sort sort = sorts[kind][i];
+        fields[i] = sort == SOURCE ? hostile(state) : (uint32_t)below(state, there[sort] + (below(state, 60) == 0));
+    }
+    if (kind == 3 && below(state, 8))
+        fields[2] = fields[3] = UINT32_MAX;
+    if (kind == 9 || kind == 10)
+        fields[1] += fields[0] + 1;
+    put_record(job, kind, fields, below(state, 100) == 0 ? below(state, 16) : count);
+    return count;
+}
+
+/* A job from nothing: Head, vertices, edges that are mostly rings, faces with their loops, and answers. */
 static void from_nothing(uint64_t *state, struct job *job)
 {
-    static const size_t lengths[] = {1, 1, 1, 4, 3, 2, 1, 3, 2, 3, 3, 5, 2, 3};
-    uint32_t fields[16];
+    size_t there[SORTS] = {[ANY] = 4, [TWO] = 2, [THREE] = 3, [FIVE] = 5};
     job->length = 0;
-    for (uint32_t kind = 1; kind <= 13; kind++) {
-        for (size_t left = kind == 1 ? 1 : below(state, 5); left > 0; left--) {
-            size_t count = kind == 5 ? 2 + 2 * below(state, 3) : lengths[kind];
-            if (below(state, 100) == 0)
-                count = below(state, 16);
-            for (size_t i = 0; i < count; i++)
-                fields[i] = (uint32_t)below(state, 1 + below(state, 3));
-            if (kind == 3 && below(state, 2))
-                fields[2] = fields[3] = UINT32_MAX;
-            put_record(job, kind, fields, count);
-        }
+    put_some(state, job, 1, there);
+    for (size_t left = below(state, 4); left > 0; left--, there[VERTEX]++)
+        put_some(state, job, 2, there);
+    for (size_t left = below(state, 4); left > 0; left--, there[EDGE]++)
+        put_some(state, job, 3, there);
+    for (size_t left = below(state, 6); left > 0; left--, there[FACE]++) {
+        put_some(state, job, 4, there);
+        for (size_t loops = there[EDGE] == 0 ? 0 : below(state, 3); loops > 0; loops--)
+            there[USE] += put_some(state, job, 5, there) / 2;
+        if (there[VERTEX] > 0 && below(state, 4) == 0)
+            put_some(state, job, 6, there);
     }
+    for (size_t left = below(state, 12); left > 0; left--)
+        put_some(state, job, 7 + (uint32_t)below(state, 7), there);
 }
 
 /* Noise of any length. */

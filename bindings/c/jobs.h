@@ -13,6 +13,12 @@ struct job {
     uint8_t bytes[LONGEST];
 };
 
+/* The number of 4 bytes, as in all fields of jobs and bodies. */
+uint32_t word(const uint8_t *at);
+
+/* Puts a record at a job's end; it has at most 16 fields. */
+void put_record(struct job *job, uint32_t kind, const uint32_t *fields, size_t count);
+
 /* The jobs of a file of packed vectors (compare/README.md), as stretches of the file's bytes. */
 struct seeds {
     size_t count;

@@ -1,6 +1,6 @@
 /*
  * Tests of the interface at its edges: null pointers with length 0, outputs exactly full and one byte short, guard
- * bytes after job, output and page; and the listing of every stored job.
+ * bytes after job, output and page; the listing and the members of every stored job; faces that are refused.
  *
  * usage: test FILE.job VECTORS      (part P9, and the file of packed vectors)
  */
@@ -165,12 +165,211 @@ static void test_list(const uint8_t *job, size_t length)
         test_page(job, length, due, needed, rooms[i]);
 }
 
+/* MEMBERS */
+
+/* The place of the record after the one at a place, in a job that loads or in a body. */
+static size_t after(const uint8_t *bytes, size_t at)
+{
+    return at + 6 + word(bytes + at);
+}
+
+static int is_kind(const uint8_t *bytes, size_t at, int kind)
+{
+    return bytes[at + 4] == kind && bytes[at + 5] == 0;
+}
+
+/*
+ * Whether a record of members has body and source face of each selected face whose group has this lowest face, in the
+ * order of the job. The groups are what the merge stage writes.
+ */
+static int are_members(const uint8_t *record, const uint8_t *job, size_t length, const uint8_t *groups, size_t lowest)
+{
+    const uint8_t *member = record + 6;
+    const uint8_t *end = member + word(record);
+    for (size_t at = 0; at < length; at = after(job, at)) {
+        if (!is_kind(job, at, ZAXCLOVER_FACE))
+            continue;
+        if (word(groups + 4) == lowest) {
+            if (member == end || memcmp(member, job + at + 18, 8) != 0)
+                return 0;
+            member += 8;
+        }
+        groups += 8;
+    }
+    return member == end;
+}
+
+/* Every face of a body is followed by its members, and nothing else is; gives the number of faces. */
+static size_t test_members(const uint8_t *job, size_t length, const uint8_t *body, size_t body_length)
+{
+    static uint8_t groups[8 * ZAXCLOVER_FACES];
+    size_t value;
+    size_t number = zaxclover_merge_stage(job, length, groups, sizeof groups, &value);
+    expect(number == ZAXCLOVER_DONE, "merge", "the groups of a job that is sewn");
+    if (number != ZAXCLOVER_DONE)
+        return 0;
+    size_t faces = 0;
+    size_t lowest = 0;
+    int follow = 0;
+    for (size_t at = 0; at < body_length; at = after(body, at)) {
+        int found = is_kind(body, at, ZAXCLOVER_BODY_MEMBERS);
+        expect(found == follow, "sew", "members directly after each face and nowhere else");
+        follow = is_kind(body, at, ZAXCLOVER_BODY_FACE);
+        if (!found)
+            continue;
+        while (8 * lowest < value && word(groups + 8 * lowest + 4) != lowest)
+            lowest++;
+        expect(are_members(body + at, job, length, groups, lowest), "sew", "the members of a face");
+        lowest++;
+        faces++;
+    }
+    expect(!follow, "sew", "members after the last face");
+    for (; 8 * lowest < value; lowest++)
+        expect(word(groups + 8 * lowest + 4) != lowest, "sew", "a face for each group");
+    return faces;
+}
+
+/* A job or body by its records, a line each. */
+struct line {
+    uint32_t kind;
+    size_t count;
+    uint32_t fields[6];
+};
+
+static const uint8_t *put_lines(struct job *job, const struct line *lines, size_t count)
+{
+    job->length = 0;
+    for (size_t i = 0; i < count; i++)
+        put_record(job, lines[i].kind, lines[i].fields, lines[i].count);
+    return job->bytes;
+}
+
+/* The members of a job's faces are these lines and no others. */
+static void hold_members(const char *name, const uint8_t *job, size_t length, const struct line *lines, size_t count)
+{
+    static struct job due;
+    uint8_t out[1024];
+    size_t value;
+    size_t number = zaxclover_sew(job, length, out, sizeof out, &value);
+    expect(number == ZAXCLOVER_DONE, name, "a job that is sewn");
+    if (number != ZAXCLOVER_DONE)
+        return;
+    const uint8_t *left = put_lines(&due, lines, count);
+    for (size_t at = 0; at < value; at = after(out, at)) {
+        size_t size = after(out, at) - at;
+        if (!is_kind(out, at, ZAXCLOVER_BODY_MEMBERS))
+            continue;
+        int same = size <= (size_t)(due.bytes + due.length - left) && memcmp(out + at, left, size) == 0;
+        expect(same, name, "the members of a face");
+        left += same ? size : 0;
+    }
+    expect(left == due.bytes + due.length, name, "the members of each face");
+}
+
+/* Every operation refuses a job. */
+static void hold_refused(const char *name, const struct job *job, size_t due, size_t place)
+{
+    uint8_t *out = marked(64);
+    size_t start = 77;
+    size_t value = 77;
+    for (int k = 0; k < OPERATIONS; k++) {
+        size_t number = operations[k].run(job->bytes, job->length, out, 64, &value);
+        expect(number == due && value == place, operations[k].name, name);
+    }
+    size_t number = zaxclover_loop(job->bytes, job->length, 0, &start, &value);
+    expect(number == due && value == place && start == 0, "loop", name);
+    expect(is_marked(out, 0, 64 + GUARD), name, "a refusal leaves the output");
+    free(out);
+}
+
+#define LINES(lines) lines, sizeof lines / sizeof lines[0]
+
+/* Request Seven, with the jobs of compare/parts/requests/seven-three-members, seven-three-fields and seven-body-two. */
+static void test_faces(const uint8_t *p9, size_t length)
+{
+    static struct job job;
+    static const struct line of_p9[] = {{29, 4, {0, 0, 0, 1}}, {29, 2, {0, 2}}};
+    static const struct line three[] = {
+        {ZAXCLOVER_HEAD, 1, {1}},
+        {ZAXCLOVER_VERTEX, 1, {4}},
+        {ZAXCLOVER_EDGE, 4, {5, 0, ZAXCLOVER_NONE, ZAXCLOVER_NONE}},
+        {ZAXCLOVER_EDGE, 4, {6, 0, ZAXCLOVER_NONE, ZAXCLOVER_NONE}},
+        {ZAXCLOVER_EDGE, 4, {9, 0, ZAXCLOVER_NONE, ZAXCLOVER_NONE}},
+        {ZAXCLOVER_FACE, 5, {8, 0, 0, 1, 0}},
+        {ZAXCLOVER_LOOP, 2, {2, 1}},
+        {ZAXCLOVER_FACE, 5, {7, 0, 0, 1, 9}},
+        {ZAXCLOVER_LOOP, 2, {0, 0}},
+        {ZAXCLOVER_LOOP, 2, {2, 0}},
+        {ZAXCLOVER_FACE, 5, {7, 0, 0, 0, UINT32_MAX}},
+        {ZAXCLOVER_LOOP, 2, {1, 1}},
+        {ZAXCLOVER_VERTEX_LOOP, 1, {0}},
+        {ZAXCLOVER_FACE, 5, {7, 0, 0, 0, 3}},
+        {ZAXCLOVER_LOOP, 2, {0, 1}},
+        {ZAXCLOVER_LOOP, 2, {1, 0}},
+        {ZAXCLOVER_SURFACE, 2, {0, 0}},
+        {ZAXCLOVER_SURFACE, 2, {1, 1}},
+        {ZAXCLOVER_SURFACE, 2, {3, 1}},
+    };
+    static const struct line of_three[] = {{29, 2, {1, 0}}, {29, 6, {1, 9, 0, UINT32_MAX, 0, 3}}};
+    static const struct line older[] = {{ZAXCLOVER_HEAD, 1, {1}}, {ZAXCLOVER_FACE, 3, {7, 0, 0}}};
+    static const struct line body_two[] = {
+        {ZAXCLOVER_HEAD, 1, {1}},
+        {ZAXCLOVER_FACE, 5, {7, 0, 0, 0, 0}},
+        {ZAXCLOVER_FACE, 5, {8, 0, 0, 2, 1}},
+    };
+    expect(ZAXCLOVER_VERSION == 2, "header", "the version of the format");
+    expect(ZAXCLOVER_BODY_MEMBERS == 29, "header", "the kind of members");
+    hold_members("P9", p9, length, LINES(of_p9));
+    put_lines(&job, LINES(three));
+    hold_members("three members", job.bytes, job.length, LINES(of_three));
+    put_lines(&job, LINES(older));
+    hold_refused("a face of three fields", &job, ZAXCLOVER_WRONG_RECORD, 10);
+    put_lines(&job, LINES(body_two));
+    hold_refused("a face of body 2", &job, ZAXCLOVER_WRONG_FIELD, 36);
+}
+
+/* STORED AND MADE-UP JOBS */
+
 /* P1 to P9 and every other stored job. */
 static void test_stored(const struct seeds *seeds)
 {
+    static uint8_t out[65536];
+    size_t sewn = 0;
+    size_t faces = 0;
     expect(seeds->count >= 9, "list", "stored jobs");
-    for (size_t i = 0; i < seeds->count; i++)
+    for (size_t i = 0; i < seeds->count; i++) {
+        size_t value;
         test_list(seeds->at[i], seeds->length[i]);
+        if (zaxclover_sew(seeds->at[i], seeds->length[i], out, sizeof out, &value) != ZAXCLOVER_DONE)
+            continue;
+        faces += test_members(seeds->at[i], seeds->length[i], out, value);
+        sewn++;
+    }
+    expect(sewn >= 300 && faces >= 2 * sewn, "sew", "stored jobs with faces");
+}
+
+static int has_face(const struct job *job)
+{
+    for (size_t at = 0; at < job->length; at = after(job->bytes, at))
+        if (is_kind(job->bytes, at, ZAXCLOVER_FACE))
+            return 1;
+    return 0;
+}
+
+/* Jobs from nothing with faces load: otherwise `bindings/load` would make them in vain. */
+static void test_made(const struct seeds *seeds)
+{
+    static struct job job;
+    size_t loaded = 0;
+    for (uint64_t i = 0; i < 2000; i++) {
+        size_t value;
+        uint64_t state = job_state(1, i);
+        const char *way = make_job(seeds, &state, &job);
+        size_t number = zaxclover_read_stage(job.bytes, job.length, NULL, 0, &value);
+        int loads = number == ZAXCLOVER_DONE || number == ZAXCLOVER_NO_ROOM;
+        loaded += strcmp(way, "from nothing") == 0 && loads && has_face(&job);
+    }
+    expect(loaded >= 10, "made-up jobs", "faces from nothing");
 }
 
 int main(int count, char **words)
@@ -192,7 +391,9 @@ int main(int count, char **words)
     test_loops(job, length);
     test_listing(job, length);
     test_list(job, length);
+    test_faces(job, length);
     test_stored(&seeds);
+    test_made(&seeds);
     expect(memcmp(job, bytes, length) == 0 && is_marked(job, length, length + GUARD), "job", "left as it was");
     free(job);
     printf("%d tests, %d failures\n", tests, failures);

@@ -9,6 +9,20 @@
 //! assert_eq!(zaxclover::list(&job[..5]), "refused 2 0\n");
 //! ```
 //!
+//! Jobs and bodies are those of format version 2 ([`VERSION`]): a face of a job has five fields (surface, own
+//! sense, selected sense, body, source face), and each face of a body is followed by its members, a record of kind
+//! 29 with body and source face of each selected face in it:
+//!
+//! ```
+//! let mut job = vec![4, 0, 0, 0, 1, 0, 1, 0, 0, 0]; // Head
+//! job.extend([20, 0, 0, 0, 4, 0]); // a face without loops: source face 12 of body 1, on surface 7
+//! job.extend([7u32, 0, 0, 1, 12].map(u32::to_le_bytes).concat());
+//! let text = "body 1 0 0 0 0 0 0\nface 7 0\nmembers 1 12\nlump\nshell 0\n";
+//! assert_eq!(zaxclover::list(&job), text);
+//! ```
+//!
+//! An older job, whose faces have three fields, is refused with 3; `tools/job convert` makes it one of today.
+//!
 //! The library may assume that the output shares no byte with the job. Rust's borrows see to it:
 //!
 //! ```compile_fail,E0502
@@ -29,6 +43,10 @@ mod raw;
 mod refusal;
 
 pub use refusal::Refusal;
+
+/// The version of the format, as `ZAXCLOVER_VERSION` in `include/sewing.h`: raised when jobs or bodies change. 2: faces
+/// have body and source face, and bodies have members.
+pub const VERSION: u32 = 2;
 
 /// A call takes less stack than this.
 pub const STACK: usize = 512 * 1024;

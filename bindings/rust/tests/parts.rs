@@ -1,7 +1,12 @@
 //! Parts P1 to P9 of document 01, those of the requests, and the edges of the interface.
 use std::fs;
 use std::path::Path;
-use zaxclover::{Refusal, Stage, body, list, listing, loop_payload, sew, stage};
+use zaxclover::{Refusal, Stage, VERSION, body, list, listing, loop_payload, sew, stage};
+
+/// Kinds of records that are looked for below, as the header numbers them.
+const FACE: u16 = 4;
+const BODY_FACE: u16 = 24;
+const BODY_MEMBERS: u16 = 29;
 
 const KINDS: [&str; 13] = [
     "head",
@@ -39,24 +44,37 @@ fn part(name: &str) -> (Vec<u8>, String) {
             .split_whitespace()
             .collect();
         if let Some((kind, fields)) = words.split_first() {
-            put_record(&mut job, kind, fields);
+            job.extend(written(&[record(kind, fields)]));
         }
     }
     (job, expected)
 }
 
-fn put_record(job: &mut Vec<u8>, kind: &str, fields: &[&str]) {
-    let number = 1 + KINDS.iter().position(|name| *name == kind).expect("a kind");
-    job.extend_from_slice(&(4 * fields.len() as u32).to_le_bytes());
-    job.extend_from_slice(&(number as u16).to_le_bytes());
-    for field in fields {
-        let value = if *field == "-" {
-            u32::MAX
-        } else {
-            field.parse().expect("a number")
-        };
-        job.extend_from_slice(&value.to_le_bytes());
+/// Kind and fields.
+type Record = (u16, Vec<u32>);
+
+/// The kind is a name or, for a record of any kind with any fields, a number.
+fn record(kind: &str, words: &[&str]) -> Record {
+    let number = match KINDS.iter().position(|name| *name == kind) {
+        Some(i) => 1 + i as u16,
+        None => kind.parse().expect("a kind"),
+    };
+    let field = |word: &&str| match *word {
+        "-" => u32::MAX,
+        word => word.parse().expect("a number"),
+    };
+    (number, words.iter().map(field).collect())
+}
+
+/// The bytes of records.
+fn written(records: &[Record]) -> Vec<u8> {
+    let mut bytes = Vec::new();
+    for (kind, fields) in records {
+        bytes.extend_from_slice(&(4 * fields.len() as u32).to_le_bytes());
+        bytes.extend_from_slice(&kind.to_le_bytes());
+        bytes.extend(fields.iter().flat_map(|field| field.to_le_bytes()));
     }
+    bytes
 }
 
 fn shown(job: &[u8]) -> String {
@@ -75,19 +93,29 @@ fn parts_list_as_document_01_prints_them() {
     }
 }
 
-/// The parts made for the requests of document 02.
+/// The names of the parts made for the requests of document 02.
+fn parts_of_the_requests() -> Vec<String> {
+    let folder = Path::new(env!("CARGO_MANIFEST_DIR")).join("../../compare/parts/requests");
+    let names: Vec<String> = fs::read_dir(folder)
+        .expect("compare/parts/requests")
+        .map(|file| file.expect("a part").file_name())
+        .map(|name| format!("requests/{}", name.to_string_lossy()))
+        .collect();
+    let of_seven = names
+        .iter()
+        .filter(|name| name.starts_with("requests/seven-"));
+    let seen = (of_seven.count(), names.len());
+    assert!(seen.0 >= 7 && seen.1 >= 27, "{seen:?} parts");
+    names
+}
+
 #[test]
 fn parts_of_the_requests_list_as_their_files_say() {
-    let folder = Path::new(env!("CARGO_MANIFEST_DIR")).join("../../compare/parts/requests");
-    let mut seen = 0;
-    for file in fs::read_dir(folder).expect("compare/parts/requests") {
-        let name = file.expect("a part").file_name();
-        let name = format!("requests/{}", name.to_string_lossy());
+    for name in parts_of_the_requests() {
         let (job, expected) = part(&name);
+        assert!(!expected.is_empty(), "{name} says nothing");
         assert_eq!(shown(&job), expected, "{name}");
-        seen += 1;
     }
-    assert!(seen >= 20, "{seen} parts");
 }
 
 /// Request Six: the last number of the body's line, for P1 to P9 and the parts made for it.
@@ -110,21 +138,176 @@ fn faces_selected_less_face_joins_are_the_faces_written() {
     for (name, joins) in joins {
         let (job, _) = part(name);
         let body = body(&job).expect("an accepted part");
-        let told = u32::from_le_bytes([body[30], body[31], body[32], body[33]]);
+        let told = fields(&body[30..34])[0];
         assert_eq!(told, joins, "{name}");
-        assert_eq!(records(&job, 4), told + records(&body, 24), "{name}");
+        let (selected, written) = (of_kind(&job, FACE).len(), of_kind(&body, BODY_FACE).len());
+        assert_eq!(selected, told as usize + written, "{name}");
     }
 }
 
-/// How many records of a kind there are.
-fn records(bytes: &[u8], kind: u16) -> u32 {
-    let (mut at, mut count) = (0, 0);
+/// The fields of bytes.
+fn fields(bytes: &[u8]) -> Vec<u32> {
+    bytes
+        .chunks(4)
+        .map(|field| u32::from_le_bytes(field.try_into().unwrap()))
+        .collect()
+}
+
+/// The records of a job that loads, or of a body.
+fn records(bytes: &[u8]) -> Vec<Record> {
+    let (mut at, mut list) = (0, Vec::new());
     while at < bytes.len() {
-        let length = u32::from_le_bytes([bytes[at], bytes[at + 1], bytes[at + 2], bytes[at + 3]]);
-        count += u32::from(u16::from_le_bytes([bytes[at + 4], bytes[at + 5]]) == kind);
-        at += 6 + length as usize;
+        let length = fields(&bytes[at..at + 4])[0] as usize;
+        let kind = u16::from_le_bytes([bytes[at + 4], bytes[at + 5]]);
+        list.push((kind, fields(&bytes[at + 6..at + 6 + length])));
+        at += 6 + length;
     }
-    count
+    list
+}
+
+/// The fields of each record of a kind.
+fn of_kind(bytes: &[u8], kind: u16) -> Vec<Vec<u32>> {
+    let list = records(bytes).into_iter();
+    list.filter(|record| record.0 == kind)
+        .map(|record| record.1)
+        .collect()
+}
+
+/// What `sew` writes.
+fn sewn(job: &[u8]) -> Result<Vec<u8>, Refusal> {
+    let mut out = vec![0xA5; 65_536];
+    let length = sew(job, &mut out)?;
+    out.truncate(length);
+    Ok(out)
+}
+
+/// Request Seven: body and source face of the members of each face, in parts P1 to P9 and those made for it.
+#[test]
+fn faces_remember_their_members() {
+    let parts: [(&str, &[&[u32]]); 10] = [
+        ("P1.txt", &[]),
+        ("P2.txt", &[&[0, 0], &[0, 1]]),
+        ("P3.txt", &[&[0, 0, 0, 1]]),
+        ("P7.txt", &[&[0, 0], &[0, 1]]),
+        ("P8.txt", &[&[0, 0], &[0, 1]]),
+        ("P9.txt", &[&[0, 0, 0, 1], &[0, 2]]),
+        (
+            "requests/seven-alternate.txt",
+            &[&[0, 40, 1, 20], &[1, 40, 0, 20]],
+        ),
+        ("requests/seven-member-twice.txt", &[&[1, 6, 1, 6]]),
+        (
+            "requests/seven-no-loops.txt",
+            &[&[0, u32::MAX], &[1, 65_536]],
+        ),
+        (
+            "requests/seven-three-members.txt",
+            &[&[1, 0], &[1, 9, 0, u32::MAX, 0, 3]],
+        ),
+    ];
+    for (name, members) in parts {
+        let (job, _) = part(name);
+        let body = sewn(&job).expect("an accepted part");
+        assert_eq!(of_kind(&body, BODY_MEMBERS), members, "{name}");
+    }
+}
+
+/// Body and source face of the selected faces of each merged face, as the merge stage groups them: by ascending lowest
+/// face, and in each group ascending.
+fn members_by_merging(job: &[u8]) -> Vec<Vec<u32>> {
+    let mut out = vec![0; 8 * 256];
+    let length = stage(Stage::Merge, job, &mut out).expect("a job that merges");
+    let groups: Vec<usize> = fields(&out[..length])
+        .chunks(2)
+        .map(|face| face[1] as usize)
+        .collect();
+    let faces = of_kind(job, FACE);
+    assert_eq!(faces.len(), groups.len());
+    let lowest = (0..groups.len()).filter(|face| groups[*face] == *face);
+    let members = |lowest| {
+        let selected = faces.iter().zip(&groups);
+        selected
+            .filter(|(_, group)| **group == lowest)
+            .flat_map(|(face, _)| face[3..].to_vec())
+            .collect()
+    };
+    lowest.map(members).collect()
+}
+
+/// Every accepted part: the members follow their face directly and stand nowhere else, and each selected face is a
+/// member of the face that merging made of it.
+#[test]
+fn members_follow_their_face_and_are_those_that_merging_joined() {
+    let parts = (1..=9).map(|n| format!("P{n}.txt"));
+    let (mut accepted, mut merged) = (0, 0);
+    for name in parts.chain(parts_of_the_requests()) {
+        let (job, _) = part(&name);
+        let Ok(body) = sewn(&job) else {
+            continue;
+        };
+        for pair in records(&body).windows(2) {
+            let (is_face, is_members) = (pair[0].0 == BODY_FACE, pair[1].0 == BODY_MEMBERS);
+            assert_eq!(is_face, is_members, "{name}: {pair:?}");
+        }
+        let members = of_kind(&body, BODY_MEMBERS);
+        assert_eq!(members, members_by_merging(&job), "{name}");
+        accepted += 1;
+        merged += members.iter().filter(|member| member.len() > 2).count();
+    }
+    assert!(accepted >= 20 && merged >= 12, "{accepted}, {merged}");
+}
+
+/// All that takes a job refuses it.
+fn hold_refused(name: &str, job: &[u8], why: Refusal) {
+    let mut out = [0xA5; 1024];
+    assert_eq!(sew(job, &mut out), Err(why), "{name}");
+    for s in Stage::ALL {
+        assert_eq!(stage(s, job, &mut out), Err(why), "{name} {s:?}");
+    }
+    assert_eq!(loop_payload(job, 0), Err(why), "{name}");
+    assert_eq!(out, [0xA5; 1024], "{name}");
+}
+
+/// Request Seven: faces as they were before it, a body other than 0 and 1, and a record of members in a job.
+#[test]
+fn faces_without_body_and_source_and_of_other_bodies_are_refused() {
+    for (name, why) in [
+        ("requests/seven-three-fields.txt", refused(3, 10)),
+        ("requests/seven-body-two.txt", refused(4, 36)),
+        ("requests/seven-as-before.txt", refused(3, 36)),
+    ] {
+        hold_refused(name, &part(name).0, why);
+    }
+}
+
+/// P9 with another number of fields in one of its faces, or another body.
+#[test]
+fn each_face_of_a_part_has_five_fields_and_body_0_or_1() {
+    let (job, _) = part("P9.txt");
+    let list = records(&job);
+    assert_eq!(written(&list), job);
+    let faces: Vec<usize> = (0..list.len()).filter(|i| list[*i].0 == FACE).collect();
+    assert_eq!(faces.len(), 3);
+    for i in faces {
+        let place = written(&list[..i]).len();
+        for length in [0, 1, 2, 3, 4, 6] {
+            let mut other = list.clone();
+            other[i].1.resize(length, 0);
+            hold_refused("P9", &written(&other), refused(3, place));
+        }
+        for body in [2, 3, 256, 65_536, u32::MAX] {
+            let mut other = list.clone();
+            other[i].1[3] = body;
+            hold_refused("P9", &written(&other), refused(4, place));
+        }
+        for (body, source) in [(0, u32::MAX), (1, 0), (1, 65_536)] {
+            let mut other = list.clone();
+            other[i].1[3..].copy_from_slice(&[body, source]);
+            let body = sewn(&written(&other)).expect("any source face of either body");
+            let members = of_kind(&body, BODY_MEMBERS);
+            assert_eq!(members, members_by_merging(&written(&other)));
+        }
+    }
 }
 
 #[test]
@@ -205,18 +388,15 @@ fn a_refused_job_leaves_the_output() {
 #[test]
 fn loops_are_stretches_of_the_job() {
     let (job, _) = part("P9.txt");
-    let fields = |n| {
+    let loop_fields = |n| {
         let payload = loop_payload(&job, n).expect("a loop");
         let inside = job.as_ptr_range();
         assert!(inside.contains(&payload.as_ptr()));
-        payload
-            .chunks(4)
-            .map(|f| u32::from_le_bytes(f.try_into().unwrap()))
-            .collect::<Vec<_>>()
+        fields(payload)
     };
-    assert_eq!(fields(0), [0, 0, 2, 1]);
-    assert_eq!(fields(1), [2, 0, 1, 0]);
-    assert_eq!(fields(2), [1, 1, 0, 1]);
+    assert_eq!(loop_fields(0), [0, 0, 2, 1]);
+    assert_eq!(loop_fields(1), [2, 0, 1, 0]);
+    assert_eq!(loop_fields(2), [1, 1, 0, 1]);
     assert_eq!(loop_payload(&job, 3), Err(refused(4, 3)));
     assert_eq!(loop_payload(&job, usize::MAX), Err(refused(4, usize::MAX)));
 }
@@ -226,16 +406,9 @@ fn stages_answer_by_themselves() {
     let (job, _) = part("P9.txt");
     let mut out = [0; 256];
     let length = stage(Stage::Pair, &job, &mut out).expect("pairs");
-    let twins: Vec<u32> = out[..length]
-        .chunks(4)
-        .map(|f| u32::from_le_bytes(f.try_into().unwrap()))
-        .collect();
-    assert_eq!(twins, [5, 2, 1, 4, 3, 0]);
+    assert_eq!(fields(&out[..length]), [5, 2, 1, 4, 3, 0]);
     let length = stage(Stage::Walk, &job, &mut out).expect("walks");
-    let walks: Vec<u32> = out[..length]
-        .chunks(4)
-        .map(|f| u32::from_le_bytes(f.try_into().unwrap()))
-        .collect();
+    let walks = fields(&out[..length]);
     assert_eq!(walks, [0, 3, 1, 3, 0, 1, 4, 5, 0, 5, 4, 0]);
 }
 
@@ -292,6 +465,21 @@ fn the_header_has_the_same_words() {
     for number in Refusal::numbers() {
         let name = name_in(&header, number);
         let line = format!("case {name}: return \"{}\";", refused(number, 0).words());
+        assert!(header.contains(&line), "{line}");
+    }
+}
+
+#[test]
+fn the_header_has_the_same_version_and_kinds() {
+    let file = Path::new(env!("CARGO_MANIFEST_DIR")).join("../../include/sewing.h");
+    let header = fs::read_to_string(file).expect("the header");
+    assert_eq!(VERSION, 2);
+    for line in [
+        format!("#define ZAXCLOVER_VERSION {VERSION}\n"),
+        format!("    ZAXCLOVER_FACE = {FACE}, "),
+        format!("    ZAXCLOVER_BODY_FACE = {BODY_FACE}, "),
+        format!("    ZAXCLOVER_BODY_MEMBERS = {BODY_MEMBERS} "),
+    ] {
         assert!(header.contains(&line), "{line}");
     }
 }

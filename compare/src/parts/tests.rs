@@ -86,9 +86,41 @@ fn counts_a_join_more(job: &[u8]) -> Answers {
     answers
 }
 
-/// A program that leaves the face joins out.
+/// A program that leaves the face joins out, and the members.
 fn counts_no_joins(job: &[u8]) -> Answers {
     answers::second(job).compared()
+}
+
+/// The second implementation's answers with other records of a kind, none for
+/// those that are lost.
+fn spoilt(job: &[u8], kind: u16, spoil: fn(&[u32]) -> Option<Vec<u32>>) -> Answers {
+    let mut answers = answers::second(job);
+    if let Ok(body) = &mut answers.body {
+        let list = records::split(body).0.into_iter();
+        let kept = list.filter_map(|(of, fields)| match of == kind {
+            true => Some((of, spoil(&fields)?)),
+            false => Some((of, fields)),
+        });
+        *body = records::to_bytes(&kept.collect::<Vec<_>>());
+        answers.listing = text::listing(body);
+    }
+    answers
+}
+
+fn loses_members(job: &[u8]) -> Answers {
+    spoilt(job, 29, |_| None)
+}
+
+/// A program that tells the lowest member of a face alone.
+fn tells_one_member(job: &[u8]) -> Answers {
+    spoilt(job, 29, |members| Some(members[..2].to_vec()))
+}
+
+/// A program that tells the highest member first.
+fn turns_members(job: &[u8]) -> Answers {
+    spoilt(job, 29, |members| {
+        Some(members.chunks(2).rev().flatten().copied().collect())
+    })
 }
 
 fn refuses_all(job: &[u8]) -> Answers {
@@ -150,6 +182,22 @@ fn wrong_face_joins_are_noticed() {
     ] {
         let held = held(9, tested);
         let wanted = format!("body records: record 0: library `{body}`, second `.. 6 2 2 0 0 1`");
+        assert_eq!(told(&held), [wanted]);
+        assert_eq!(held.third.as_deref(), Some(third));
+    }
+}
+
+/// The reference has no members; the second implementation has.
+#[test]
+fn wrong_members_are_noticed() {
+    let third = "the second implementation agrees with the reference";
+    for (tested, line) in [
+        (loses_members as fn(&[u8]) -> Answers, "loop 0 0 1 0"),
+        (tells_one_member, "members 0 0"),
+        (turns_members, "members 0 1 0 0"),
+    ] {
+        let held = held(9, tested);
+        let wanted = format!("body records: record 6: library `{line}`, second `members 0 0 0 1`");
         assert_eq!(told(&held), [wanted]);
         assert_eq!(held.third.as_deref(), Some(third));
     }
