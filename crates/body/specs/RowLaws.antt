@@ -22,7 +22,7 @@ use Rattle.rules.specs.Job.{faceAt}
 use Rattle.rules.specs.Read.{storedSense}
 use Rattle.rules.specs.Join.{edgeDataAt, noEdgeData}
 use Rattle.rules.specs.Groups.{labelOf, membersOf, lowestMembers}
-use Rattle.rules.specs.GroupLaws.{lowestMembers-in}
+use Rattle.rules.proofs.GroupLaws.{lowestMembers-in}
 use Rattle.rules.specs.Body.{rec, memberAt, memberFields}
 use Rattle.fields.specs.Wrote.{Wrote, wrote-more}
 use Rattle.fields.specs.Tabled.{length-field-bytes}

@@ -3,8 +3,7 @@ use Rattle.std.specs.Prelude.{ℕ, ◌*◌, ◌≤◌, ◌<◌, ◌≡◌, List,
 use Rattle.std.proofs.Common.{arith, sym, subst}
 use Rattle.lists.specs.Lists.{below}
 use Rattle.rules.specs.declared.Counts.{Counts}
-use Rattle.rules.specs.Groups.{labelOf, lowestMembers}
-use Rattle.rules.specs.GroupLaws.{Lowest}
+use Rattle.rules.specs.Groups.{labelOf, lowestMembers, Lowest}
 use Rattle.members.specs.Chain.{nextMember}
 use Rattle.edges.specs.Table.{rowsIn, Laid}
 use Rattle.body.specs.Vertices.{EndsOk}

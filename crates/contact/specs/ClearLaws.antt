@@ -10,7 +10,8 @@ use Rattle.lists.specs.Members.{in-keep, keep-in}
 use Rattle.lists.specs.Counts.{keep-nothing}
 use Rattle.lists.specs.Leasts.{least-is}
 use Rattle.rules.specs.Outcome.{ok, refuse}
-use Rattle.rules.specs.GroupLaws.{Lowest, label-below}
+use Rattle.rules.specs.Groups.{Lowest}
+use Rattle.rules.proofs.GroupLaws.{label-below}
 use Rattle.rules.specs.Contact.{clear}
 use Rattle.contact.specs.Clear.{LowLabels}
 

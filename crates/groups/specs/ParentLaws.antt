@@ -8,7 +8,7 @@ use Rattle.lists.specs.Lists.{below}
 use Rattle.lists.specs.Runs.{length-below, getD-below, length-table, getD-table}
 use Rattle.lists.specs.Tables.{set-each}
 use Rattle.rules.specs.Groups.{alone, labelOf, joined}
-use Rattle.rules.specs.GroupLaws.{length-joined, joined-at, joined-same as joined-none}
+use Rattle.rules.proofs.GroupLaws.{length-joined, joined-at, joined-same as joined-none}
 use Rattle.groups.specs.Parents.{Ordered, Stands, Rooted, JoinedIn, SeparateIn}
 
 past : (l : List ℕ) (i : ℕ) → length l ≤ i → get_or l i 0 ≡ 0

@@ -9,7 +9,7 @@ use Rattle.lists.specs.Members.{flatMap-append}
 use Rattle.rules.specs.declared.Ending.{Ending}
 use Rattle.rules.specs.Outcome.{Outcome, ok, refuse, ◌>>=◌, need}
 use Rattle.rules.specs.Fields.{le16, le32, fieldsIn, bytes16, bytes32, fieldBytes}
-use Rattle.rules.specs.FieldLaws.{le32-here}
+use Rattle.rules.proofs.FieldLaws.{le32-here}
 use Rattle.rules.specs.Frame.{Record, framed, framedAll}
 use Rattle.rules.specs.Job.{Job}
 use Rattle.rules.specs.Load.{loaded}
@@ -19,7 +19,7 @@ use Rattle.rules.specs.Sew.{rebuild, fitting, sewn, Ends}
 use Rattle.rules.specs.Listing.{listingOf, sewnRecords, listing}
 use Rattle.fields.specs.Tabled.{length-bytes32, length-field-bytes}
 use Rattle.fields.specs.Wrote.{Wrote}
-use Rattle.theorems.specs.Reporting.{field-back}
+use Rattle.theorems.proofs.Reporting.{field-back}
 use Rattle.theorems.specs.Narrow.{Below}
 use Rattle.theorems.specs.Shapes.{Shaped, AllShaped}
 use Rattle.lines.specs.Cut.{cut-put}

@@ -9,7 +9,7 @@ use Rattle.rules.specs.declared.Ending.{Ending}
 use Rattle.rules.specs.declared.Ending.TheVariants.{Written, Refused}
 use Rattle.rules.specs.Outcome.{refuse}
 use Rattle.rules.specs.Fields.{le16, le32, fieldsIn}
-use Rattle.rules.specs.FieldLaws.{le16-drop, le32-here, le32-drop, length-fields, fields-first}
+use Rattle.rules.proofs.FieldLaws.{le16-drop, le32-here, le32-drop, length-fields, fields-first}
 use Rattle.rules.specs.Frame.{Record}
 use Rattle.rules.specs.Listing.{decimal, wordOf, fieldText, fieldsText, lineOf, refusedWord, listingOf}
 use Rattle.fields.specs.Wrote.{Wrote, wrote-more}

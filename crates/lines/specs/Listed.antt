@@ -7,7 +7,7 @@ use Rattle.lists.specs.Members.{flatMap-length}
 use Rattle.lists.specs.KeepCounts.{sum-member}
 use Rattle.rules.specs.declared.Ending.{Ending}
 use Rattle.rules.specs.Outcome.{Outcome, ok, refuse}
-use Rattle.rules.specs.OutcomeLaws.{ok-one, bind-ok}
+use Rattle.rules.proofs.OutcomeLaws.{ok-one, bind-ok}
 use Rattle.rules.specs.Frame.{Record, framed, framedAll}
 use Rattle.rules.specs.Load.{loaded}
 use Rattle.rules.specs.Rules.{Table, fullTable, ordinary}
@@ -16,7 +16,8 @@ use Rattle.rules.specs.Sew.{rebuild, fitting, sewn, Ends}
 use Rattle.rules.specs.Listing.{listingOf, sewnRecords, listing}
 use Rattle.fields.specs.Wrote.{Wrote}
 use Rattle.theorems.specs.Demand3.{withTable}
-use Rattle.theorems.specs.Narrow.{Below, rebuilt-narrow}
+use Rattle.theorems.specs.Narrow.{Below}
+use Rattle.theorems.proofs.Narrow.{rebuilt-narrow}
 use Rattle.lines.specs.Text.{recorded}
 use Rattle.lines.specs.Writing.{wrote-same}
 use Rattle.lines.specs.Exact.{Fits, AllFit, framed-length, room-listing, listing-is, Printed, prints}

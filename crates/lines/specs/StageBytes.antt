@@ -8,9 +8,9 @@ use Rattle.lists.specs.Lists.{below, keep}
 use Rattle.lists.specs.Members.{flatMap-append}
 use Rattle.lists.specs.Rows.{flatMap-each, flatMap-single}
 use Rattle.rules.specs.Outcome.{Outcome, ok, refuse, ◌>>=◌, need}
-use Rattle.rules.specs.OutcomeLaws.{bind-then, bind-same}
+use Rattle.rules.proofs.OutcomeLaws.{bind-then, bind-same}
 use Rattle.rules.specs.Fields.{le32, fieldsIn, field, bytes32, fieldBytes}
-use Rattle.rules.specs.FieldLaws.{field-in}
+use Rattle.rules.proofs.FieldLaws.{field-in}
 use Rattle.rules.specs.Job.{Job}
 use Rattle.rules.specs.Load.{loaded}
 use Rattle.rules.specs.Read.{usesOf}

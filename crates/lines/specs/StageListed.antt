@@ -7,7 +7,7 @@ use Rattle.std.proofs.Math.ListN.{get_or-eq_default}
 use Rattle.lists.specs.Lists.{◌∈◌}
 use Rattle.rules.specs.declared.Ending.{Ending}
 use Rattle.rules.specs.Outcome.{Outcome, ok, refuse}
-use Rattle.rules.specs.OutcomeLaws.{ok-one, bind-ok, need-ok}
+use Rattle.rules.proofs.OutcomeLaws.{ok-one, bind-ok, need-ok}
 use Rattle.rules.specs.Fields.{fieldBytes}
 use Rattle.rules.specs.Job.{Job}
 use Rattle.rules.specs.Load.{loaded}
@@ -19,8 +19,9 @@ use Rattle.rules.specs.Operation.{operation}
 use Rattle.fields.specs.Wrote.{Wrote, wrote-none}
 use Rattle.fields.specs.Tabled.{length-field-bytes}
 use Rattle.theorems.specs.Narrow.{Below}
-use Rattle.theorems.specs.Shapes.{Shaped, AllShaped, Laid, read-shaped, pair-shaped, merge-shaped, vertex-loops-shaped, walk-shaped, loops-shaped, fans-shaped, edges-laid, joining-laid, shells-shaped}
-use Rattle.theorems.specs.Shapes.{lumps-shaped}
+use Rattle.theorems.specs.Shapes.{Shaped, AllShaped, Laid}
+use Rattle.theorems.proofs.Shapes.{read-shaped, pair-shaped, merge-shaped, vertex-loops-shaped, walk-shaped}
+use Rattle.theorems.proofs.Shapes.{loops-shaped, fans-shaped, edges-laid, joining-laid, shells-shaped, lumps-shaped}
 use Rattle.lines.specs.Text.{rowsIn, joiningRows, fixedOf, countedOf, stageRows, stageText}
 use Rattle.lines.specs.Writing.{wrote-same}
 use Rattle.lines.specs.Exact.{rows-back, Printed, prints}

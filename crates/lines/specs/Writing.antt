@@ -14,7 +14,7 @@ use Rattle.lists.specs.Tests.{both-ways, cond-true, cond-false}
 use Rattle.lists.specs.Members.{flatMap-append}
 use Rattle.rules.specs.Job.{unset}
 use Rattle.rules.specs.Fields.{le32, fieldsIn}
-use Rattle.rules.specs.FieldLaws.{le32-here}
+use Rattle.rules.proofs.FieldLaws.{le32-here}
 use Rattle.rules.specs.Listing.{digitsBefore, decimal, fieldText, vertexText}
 use Rattle.fields.specs.Wrote.{Wrote, wrote-none, wrote-more, sets-append}
 use Rattle.lines.specs.Text.{fieldTextIn}

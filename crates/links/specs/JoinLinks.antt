@@ -17,11 +17,15 @@ use Rattle.rules.specs.Join.{edgeDataAt, placeIn}
 use Rattle.edges.specs.Table.{itemIn, Laid}
 use Rattle.edges.specs.LoopLaws.{item-is}
 use Rattle.theorems.specs.Linked.{LoopsSound}
-use Rattle.theorems.specs.Ends.{endsOne, ends-active, TwoEdges}
-use Rattle.theorems.specs.EdgesAfter.{active-inside}
-use Rattle.theorems.specs.Trails.{LoopSound, loop-sound}
-use Rattle.theorems.specs.Places.{inSense, inItem, outItem, timesOf, Found, place-cases, found-once}
-use Rattle.theorems.specs.JoinLoops.{joinedItems, newItem, joined-found, joined-missed}
+use Rattle.theorems.specs.Ends.{endsOne, TwoEdges}
+use Rattle.theorems.proofs.Ends.{ends-active}
+use Rattle.theorems.proofs.EdgesAfter.{active-inside}
+use Rattle.theorems.specs.Trails.{LoopSound}
+use Rattle.theorems.proofs.Trails.{loop-sound}
+use Rattle.theorems.specs.Places.{inSense, inItem, outItem, timesOf, Found}
+use Rattle.theorems.proofs.Places.{place-cases, found-once}
+use Rattle.theorems.specs.JoinLoops.{joinedItems, newItem}
+use Rattle.theorems.proofs.JoinLoops.{joined-found, joined-missed}
 use Rattle.links.specs.Tables.{Links, IsLoop, ringAt, loopOf, Linked, fusedAt, Fusable}
 use Rattle.links.specs.Chains.{map-turned, Front, front}
 use Rattle.links.specs.Fuse.{owner-is, can-fuse, Fused, fused}

@@ -18,8 +18,8 @@ use Rattle.rules.specs.declared.EdgeData.{EdgeData}
 use Rattle.rules.specs.Join.{edgeDataAt}
 use Rattle.edges.specs.Table.{itemIn, loopAt, Laid}
 use Rattle.theorems.specs.Linked.{isItem, itemTimes, LoopsSound}
-use Rattle.theorems.specs.EdgesAfter.{active-inside}
-use Rattle.theorems.specs.Trails.{is-item, loop-sound}
+use Rattle.theorems.proofs.EdgesAfter.{active-inside}
+use Rattle.theorems.proofs.Trails.{is-item, loop-sound}
 use Rattle.links.specs.Tables.{IsLoop}
 use Rattle.links.specs.Link.{InLoop, Linkable}
 

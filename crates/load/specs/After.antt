@@ -9,7 +9,7 @@ use Rattle.rules.specs.declared.Kind.{Kind}
 use Rattle.rules.specs.declared.Kind.TheVariants.{Unknown, Head, Vertex, EdgeRecord, FaceRecord, LoopRecord, VertexLoop, Radial, Surface, Points, Curves, Singular, Orientation, Inside}
 use Rattle.rules.specs.declared.Counts.{Counts}
 use Rattle.rules.specs.Fields.{le16, le32}
-use Rattle.rules.specs.FieldLaws.{length-fields}
+use Rattle.rules.proofs.FieldLaws.{length-fields}
 use Rattle.rules.specs.Questions.{Found, missing, found, find, isFound}
 use Rattle.rules.specs.Job.{ofItems, atVertex, itemsOf}
 use Rattle.rules.specs.Kinds.{kindOf, numberOf, partOf, isAnswer, rightLength, rightPosition, limitPassed, questionOf}

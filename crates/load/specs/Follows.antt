@@ -8,9 +8,9 @@ use Rattle.rules.specs.declared.Kind.TheVariants.{Unknown, Head, Vertex, EdgeRec
 use Rattle.rules.specs.declared.Counts.{Counts}
 use Rattle.rules.specs.Fields.{le32}
 use Rattle.rules.specs.Outcome.{Outcome, ok, refuse, ◌>>=◌, need, throughout}
-use Rattle.rules.specs.OutcomeLaws.{need-on, need-stop, through-none, through-on, through-stop}
-use Rattle.rules.specs.Frame.{Frame, frameAt}
-use Rattle.rules.specs.FrameLaws.{framesOf, frames-step, frames-end}
+use Rattle.rules.proofs.OutcomeLaws.{need-on, need-stop, through-none, through-on, through-stop}
+use Rattle.rules.specs.Frame.{Frame, frameAt, framesOf}
+use Rattle.rules.proofs.FrameLaws.{frames-step, frames-end}
 use Rattle.rules.specs.Kinds.{kindOf, numberOf, rightLength, rightPosition, limitPassed, fieldsPermitted}
 use Rattle.rules.specs.Load.{Loading, counted, extended, rightJoints, answeredBefore, loadRecord, noCounts, nothingLoaded, loading}
 use Rattle.theorems.specs.Sound.{Limited}

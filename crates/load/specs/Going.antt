@@ -6,7 +6,7 @@ use Rattle.rules.specs.declared.Counts.{Counts}
 use Rattle.rules.specs.Fields.{le16, le32}
 use Rattle.rules.specs.Outcome.{ok, refuse}
 use Rattle.rules.specs.Frame.{wholeRecord, frameAt, taking}
-use Rattle.rules.specs.FrameLaws.{frame-is, taking-is, whole-within}
+use Rattle.rules.proofs.FrameLaws.{frame-is, taking-is, whole-within}
 use Rattle.rules.specs.Kinds.{kindOf, isLoop, isAnswer, rightLength}
 use Rattle.rules.specs.Load.{counted, extended, loadRecord, loading}
 use Rattle.theorems.specs.Sound.{Limited}

@@ -16,7 +16,7 @@ use Rattle.rules.specs.Fields.{le16, le32, field}
 use Rattle.rules.specs.Kinds.{kindOf, numberOf, partOf, isAnswer, isLoop, rightLength, rightPosition, limitPassed}
 use Rattle.rules.specs.Load.{counted, alsoIf, edgeOf, faceOf, loopOf, answerOf, extended}
 use Rattle.theorems.specs.Sound.{Limited}
-use Rattle.theorems.specs.Permitted.{in-turn}
+use Rattle.theorems.proofs.Permitted.{in-turn}
 use Rattle.job.specs.Lists.{pointsIn, edgeIn, edgePlace, edgesIn, faceByte, loopByte, fieldsAt, faceIn, facesIn, loopsIn, stretchesIn, answerIn, answersIn, jobIn}
 use Rattle.job.specs.FieldLaws.{field-at}
 use Rattle.answers.specs.Index.{entered, Indexed}

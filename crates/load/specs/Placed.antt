@@ -9,7 +9,7 @@ use Rattle.rules.specs.declared.Kind.TheVariants.{Unknown, Head, Vertex, EdgeRec
 use Rattle.rules.specs.declared.Counts.{Counts}
 use Rattle.rules.specs.Kinds.{numberOf, partOf, rightLength, rightPosition}
 use Rattle.rules.specs.Load.{counted, noCounts}
-use Rattle.theorems.specs.Permitted.{in-turn}
+use Rattle.theorems.proofs.Permitted.{in-turn}
 
 -- what the counts say of the byte where the next record begins, and of each other
 pub record Placed (c : Counts) (at : ℕ) : Type 0 where

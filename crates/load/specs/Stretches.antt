@@ -10,14 +10,14 @@ use Rattle.lists.specs.Runs.{length-table, getD-table}
 use Rattle.rules.specs.declared.Counts.{Counts}
 use Rattle.rules.specs.Fields.{le32}
 use Rattle.rules.specs.Outcome.{Outcome, ok, refuse, need}
-use Rattle.rules.specs.OutcomeLaws.{need-on, need-stop}
+use Rattle.rules.proofs.OutcomeLaws.{need-on, need-stop}
 use Rattle.rules.specs.Frame.{Frame, frames}
-use Rattle.rules.specs.FrameLaws.{frames-inside}
+use Rattle.rules.proofs.FrameLaws.{frames-inside}
 use Rattle.rules.specs.Job.{Stretch}
 use Rattle.rules.specs.Kinds.{kindOf, isLoop}
 use Rattle.rules.specs.Load.{Loading, extended, loadRecord, loading, noStretch, requested, shown}
-use Rattle.theorems.specs.Loading.{also-has, record-taken, loading-keeps, loading-counted}
-use Rattle.theorems.specs.Requests.{request-some}
+use Rattle.theorems.proofs.Loading.{also-has, record-taken, loading-keeps, loading-counted}
+use Rattle.theorems.proofs.Requests.{request-some}
 use Rattle.job.specs.Lists.{loopByte, stretchIn, stretchesIn, jobIn}
 use Rattle.load.specs.declared.Stretched.{Stretched}
 use Rattle.load.specs.declared.Stretched.TheVariants.{Refused, At}

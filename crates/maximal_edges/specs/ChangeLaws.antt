@@ -12,9 +12,10 @@ use Rattle.rules.specs.declared.EdgeData.{EdgeData}
 use Rattle.rules.specs.Join.{Joining, noEdgeData, edgeDataAt, endsAt, activeEdges, twoEnds, farEnd, joinedEdge, retired, ringOf, joinEdges, joinAt, ringAt}
 use Rattle.edges.specs.Table.{withRow}
 use Rattle.edges.specs.TableLaws.{count-rows, length-with, paired-at, rows-stored, rows-pushed}
-use Rattle.theorems.specs.Ends.{activeOne, oneAt, one-at-same, one-at-other, one-at-cases, endsOne, ends-active, TwoEdges, two-edges, one-edge}
+use Rattle.theorems.specs.Ends.{activeOne, oneAt, endsOne, TwoEdges}
+use Rattle.theorems.proofs.Ends.{one-at-same, one-at-other, one-at-cases, ends-active, two-edges, one-edge}
 use Rattle.theorems.specs.Changes.{Made}
-use Rattle.theorems.specs.Corners.{corner-none, ends-elsewhere, twos-fall, ring-edges, join-edges}
+use Rattle.theorems.proofs.Corners.{corner-none, ends-elsewhere, twos-fall, ring-edges, join-edges}
 use Rattle.maximal_edges.specs.Joined.{edgesIn, Tabled, lowsAfter, lowsJoined, highsJoined}
 use Rattle.maximal_edges.specs.PairLaws.{pair-each, pair-of, pair-inside, pair-replaced, ring-elsewhere, far-first, far-second, join-elsewhere}
 

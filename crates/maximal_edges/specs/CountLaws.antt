@@ -11,7 +11,8 @@ use Rattle.lists.specs.Tests.{equal-or-not}
 use Rattle.lists.specs.Sums.{sum-nil, sum-cons}
 use Rattle.rules.specs.declared.EdgeData.{EdgeData}
 use Rattle.rules.specs.Join.{noEdgeData, edgeDataAt, oneIf, endsFrom, endsAt}
-use Rattle.theorems.specs.Ends.{endsOne, ends-sum}
+use Rattle.theorems.specs.Ends.{endsOne}
+use Rattle.theorems.proofs.Ends.{ends-sum}
 use Rattle.maximal_edges.specs.Joined.{Blank, Tabled, EndCounted}
 use Rattle.maximal_edges.specs.PairLaws.{exactly-two}
 

@@ -10,10 +10,10 @@ use Rattle.rules.specs.declared.EdgeData.{EdgeData}
 use Rattle.rules.specs.Join.{edgeDataAt, endsAt, activeEdges, joinedEdge, retired, ringOf, joinEdges}
 use Rattle.edges.specs.Table.{itemIn, Laid}
 use Rattle.theorems.specs.Linked.{LoopsSound}
-use Rattle.theorems.specs.Ends.{one-edge, two-edges}
-use Rattle.theorems.specs.RingLoops.{ring-keeps}
+use Rattle.theorems.proofs.Ends.{one-edge, two-edges}
+use Rattle.theorems.proofs.RingLoops.{ring-keeps}
 use Rattle.theorems.specs.JoinLoops.{joinedItems}
-use Rattle.theorems.specs.LoopRuns.{join-keeps}
+use Rattle.theorems.proofs.LoopRuns.{join-keeps}
 use Rattle.links.specs.Tables.{Links, linksOf, loopOf, Linked}
 use Rattle.links.specs.JoinLinks.{loopsOf, Joined, Joinable}
 use Rattle.links.specs.Link.{Linkable, LinkedLoops}

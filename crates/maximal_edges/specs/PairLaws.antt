@@ -9,9 +9,11 @@ use Rattle.lists.specs.Membership.{times-nil, times-hit, times-miss}
 use Rattle.rules.specs.declared.EdgeData.{EdgeData}
 use Rattle.rules.specs.Job.{unset}
 use Rattle.rules.specs.Join.{noEdgeData, edgeDataAt, endsAt, farEnd, retired, ringOf, joinEdges}
-use Rattle.theorems.specs.Ends.{oneAt, one-at-same, one-at-other, one-at-cases, endsOne, active-ends, idle-ends, ends-active, two-ends, ends-of, ends-ascend, TwoEdges, OneEdge, two-edges, one-edge}
-use Rattle.theorems.specs.Corners.{far-ends, new-ends, ring-ends}
-use Rattle.theorems.specs.EdgesAfter.{old-edge, new-edge, no-edge}
+use Rattle.theorems.specs.Ends.{oneAt, endsOne, TwoEdges, OneEdge}
+use Rattle.theorems.proofs.Ends.{one-at-same, one-at-other, one-at-cases, active-ends, idle-ends, ends-active, two-ends}
+use Rattle.theorems.proofs.Ends.{ends-of, ends-ascend, two-edges, one-edge}
+use Rattle.theorems.proofs.Corners.{far-ends, new-ends, ring-ends}
+use Rattle.theorems.proofs.EdgesAfter.{old-edge, new-edge, no-edge}
 
 -- TWO NUMBERS, BY HOW OFTEN EACH STANDS
 

@@ -7,12 +7,12 @@ use Rattle.lists.specs.Lists.{◌∈◌, Nodup, keep}
 use Rattle.lists.specs.Members.{keep-length}
 use Rattle.rules.specs.declared.EdgeData.{EdgeData}
 use Rattle.rules.specs.Outcome.{Outcome, ok, refuse}
-use Rattle.rules.specs.OutcomeLaws.{bind-on, bind-stop}
+use Rattle.rules.proofs.OutcomeLaws.{bind-on, bind-stop}
 use Rattle.rules.specs.Job.{Answer}
 use Rattle.rules.specs.Join.{Joining, edgeDataAt, endsAt, activeEdges, twoEnds, farEnd, ringOf, replacedAll, joinEdges, joinAt, ringAt, unchanged, changed, sweep, afterSweep, maximalEdges}
 use Rattle.edges.specs.Table.{faceLoopsIn, Laid}
 use Rattle.links.specs.Replace.{Replaced}
-use Rattle.theorems.specs.Ends.{one-edge, two-edges}
+use Rattle.theorems.proofs.Ends.{one-edge, two-edges}
 use Rattle.maximal_edges.specs.declared.Change.{Change}
 use Rattle.maximal_edges.specs.declared.Change.TheVariants.{Unchanged, Ring, Join, Refused as Stopped}
 use Rattle.maximal_edges.specs.Joined.{edgesIn, stateIn, Tabled, lowsJoined, highsJoined, changeOf, Real, Ranked, StillBut, nextAfter, Past, Swept, lowerOf, higherOf, JoinedAt, Going}

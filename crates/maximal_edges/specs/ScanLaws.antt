@@ -4,7 +4,8 @@ use Rattle.std.proofs.Common.{arith, sym, ap, ◌∙◌, inl, inr, ⊎_elim}
 use Rattle.lists.specs.Tests.{equal-or-not}
 use Rattle.rules.specs.declared.EdgeData.{EdgeData}
 use Rattle.rules.specs.Join.{edgeDataAt, endsAt}
-use Rattle.theorems.specs.Ends.{oneAt, one-at-same, one-at-other, endsOne, active-ends}
+use Rattle.theorems.specs.Ends.{oneAt, endsOne}
+use Rattle.theorems.proofs.Ends.{one-at-same, one-at-other, active-ends}
 use Rattle.maximal_edges.specs.PairLaws.{pair-each}
 
 -- the active ends of an edge, by its start and its end

@@ -14,9 +14,10 @@ use Rattle.rules.specs.declared.EdgeData.{EdgeData}
 use Rattle.rules.specs.Job.{unset, Answer}
 use Rattle.rules.specs.Fans.{fanPoint}
 use Rattle.rules.specs.Join.{Joining, noEdgeData, edgeDataAt, endsAt, farEnd, ringOf, joinedEdge, joinEdges, joinAt, ringAt, notSingular, mayJoin}
-use Rattle.theorems.specs.Ends.{oneAt, one-at-same, one-at-other, endsOne, two-edges, one-edge}
+use Rattle.theorems.specs.Ends.{oneAt, endsOne}
+use Rattle.theorems.proofs.Ends.{one-at-same, one-at-other, two-edges, one-edge}
 use Rattle.theorems.specs.Changes.{Made}
-use Rattle.theorems.specs.Corners.{corner-none, ends-elsewhere, ring-ends}
+use Rattle.theorems.proofs.Corners.{corner-none, ends-elsewhere, ring-ends}
 use Rattle.maximal_edges.specs.Joined.{RankedTo, Ranked, Still, StillBut, nextAfter, Found, lowerOf, higherOf}
 use Rattle.maximal_edges.specs.PairLaws.{pair-each, pair-of, pair-inside, ring-elsewhere, other-edge, first-gone, second-gone, new-there, join-elsewhere}
 use Rattle.maximal_edges.specs.SweepLaws.{idle-still}

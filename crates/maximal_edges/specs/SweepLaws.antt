@@ -11,7 +11,7 @@ use Rattle.lists.specs.Membership.{getD-in}
 use Rattle.lists.specs.KeepCounts.{keep-counts}
 use Rattle.rules.specs.declared.EdgeData.{EdgeData}
 use Rattle.rules.specs.Outcome.{Outcome, ok, refuse, ◌>>=◌}
-use Rattle.rules.specs.OutcomeLaws.{bind-on}
+use Rattle.rules.proofs.OutcomeLaws.{bind-on}
 use Rattle.rules.specs.Job.{Answer}
 use Rattle.rules.specs.Fans.{fanPoint}
 use Rattle.rules.specs.Questions.{askYes, askSame}
@@ -19,8 +19,8 @@ use Rattle.rules.specs.Join.{Joining, edgeDataAt, endsAt, twoEnds, joinAt, ringA
 use Rattle.ask.specs.declared.Told.{Told}
 use Rattle.ask.specs.declared.Told.TheVariants.{Yes, No, Refused}
 use Rattle.ask.specs.Told.{toldOf}
-use Rattle.theorems.specs.Ends.{ends-ascend}
-use Rattle.theorems.specs.Changes.{corner-still}
+use Rattle.theorems.proofs.Ends.{ends-ascend}
+use Rattle.theorems.proofs.Changes.{corner-still}
 use Rattle.maximal_edges.specs.declared.Change.{Change}
 use Rattle.maximal_edges.specs.declared.Change.TheVariants.{Unchanged, Ring, Join, Refused as Stopped}
 use Rattle.maximal_edges.specs.Joined.{Tabled, changeOf, isStill, AtEdges, mayChange, TriedAt, Real, Still, AllStill, StillBut, nextAfter, Found, Past, Swept}

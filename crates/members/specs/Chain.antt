@@ -9,8 +9,8 @@ use Rattle.lists.specs.Members.{position-le, position-hit, position-before}
 use Rattle.lists.specs.Lists.{below, indexOf, position}
 use Rattle.lists.specs.Tests.{equal-or-not}
 use Rattle.lists.specs.Tables.{table-is}
-use Rattle.rules.specs.Groups.{labelOf}
-use Rattle.rules.specs.GroupLaws.{Lowest, label-below}
+use Rattle.rules.specs.Groups.{labelOf, Lowest}
+use Rattle.rules.proofs.GroupLaws.{label-below}
 
 -- the next number of the group of i, or how many numbers there are
 unfoldable pub nextMember : List ℕ → ℕ → ℕ

@@ -4,7 +4,7 @@
 
 ghost use Rattle.std.specs.Prelude.{◌≡◌, List, map, ℕ, ◌+◌, ◌<◌, ◌≤◌, length, get_or};
 ghost use Rattle.lists.specs.Lists.{below};
-ghost use Rattle.rules.specs.GroupLaws.{Lowest};
+ghost use Rattle.rules.specs.Groups.{Lowest};
 ghost use Rattle.members.specs.Chain.{nextMember, Chaining};
 
 use fields::{get, put};

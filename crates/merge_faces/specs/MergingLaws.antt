@@ -16,7 +16,7 @@ use Rattle.rules.specs.declared.Face.{Face}
 use Rattle.rules.specs.declared.Sense.{Sense}
 use Rattle.rules.specs.declared.Use.{Use}
 use Rattle.rules.specs.Outcome.{Outcome, ok, refuse, throughout}
-use Rattle.rules.specs.OutcomeLaws.{bind-on, bind-stop, through-none, through-on, through-stop}
+use Rattle.rules.proofs.OutcomeLaws.{bind-on, bind-stop, through-none, through-on, through-stop}
 use Rattle.rules.specs.Sense.{sameSense}
 use Rattle.rules.specs.Job.{Answer, faceAt}
 use Rattle.rules.specs.Fields.{field}
@@ -28,7 +28,7 @@ use Rattle.ask.specs.declared.Surface.TheVariants.{Says, Missing}
 use Rattle.ask.specs.Told.{surfaceBy}
 use Rattle.rules.specs.Read.{faceOfUse, storedSense}
 use Rattle.rules.specs.Groups.{alone, labelOf, joined, separate, Grouping, joinGroups}
-use Rattle.rules.specs.GroupLaws.{length-joined}
+use Rattle.rules.proofs.GroupLaws.{length-joined}
 use Rattle.rules.specs.Pair.{twinOf}
 use Rattle.rules.specs.Rules.{fullTable}
 use Rattle.rules.specs.Merge.{otherFace, joinsFaces, unasked, surfaceStep, mergeStep, ungrouped, mergedGroups, boundaryStep, boundaries}

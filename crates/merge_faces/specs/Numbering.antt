@@ -7,8 +7,8 @@ use Rattle.lists.specs.Runs.{from-first}
 use Rattle.lists.specs.Members.{keep-yes, keep-append, indexOf-at}
 use Rattle.lists.specs.Prefixes.{below-split, keep-below-yes, keep-below-no, keep-below-le}
 use Rattle.lists.specs.Tables.{set-each}
-use Rattle.rules.specs.Groups.{labelOf, isLowest, lowestMembers, groupNumbers}
-use Rattle.rules.specs.GroupLaws.{Lowest, lowestMembers-nodup, length-groupNumbers, groupNumbers-at}
+use Rattle.rules.specs.Groups.{labelOf, isLowest, lowestMembers, groupNumbers, Lowest}
+use Rattle.rules.proofs.GroupLaws.{lowestMembers-nodup, length-groupNumbers, groupNumbers-at}
 
 -- after f numbers: their lowest members stand in front of `members`, each one's group in `numbers`
 pub record Numbering (g members numbers : List ℕ) (count f : ℕ) : Type 0 where

@@ -6,8 +6,7 @@ ghost use Rattle.std.specs.Prelude.{◌≡◌, cond, not, ◌+◌, ◌≤◌, �
 ghost use Rattle.lists.specs.Lists.{keep};
 ghost use Rattle.rules.specs.Outcome.{ok};
 ghost use Rattle.rules.specs.Read.{faceOfUse};
-ghost use Rattle.rules.specs.Groups.{Grouping, lowestMembers, groupNumbers};
-ghost use Rattle.rules.specs.GroupLaws.{Lowest};
+ghost use Rattle.rules.specs.Groups.{Grouping, lowestMembers, groupNumbers, Lowest};
 ghost use Rattle.rules.specs.Rules.{fullTable};
 ghost use Rattle.rules.specs.Merge.{boundaries as boundariesOf, otherFace, joinsFaces, mergeStep, mergedGroups, removes, removedUses};
 ghost use Rattle.job.specs.Lists.{facesIn, answersIn};

@@ -17,7 +17,7 @@ use Rattle.lists.specs.Members.{position-le, position-hit}
 use Rattle.lists.specs.KeepCounts.{position-fails}
 use Rattle.rules.specs.declared.Use.{Use}
 use Rattle.rules.specs.Outcome.{Outcome, ok, refuse, ◌>>=◌, need, throughout}
-use Rattle.rules.specs.OutcomeLaws.{bind-on, bind-stop, need-on, need-stop, through-none, through-on, through-stop}
+use Rattle.rules.proofs.OutcomeLaws.{bind-on, bind-stop, need-on, need-stop, through-none, through-on, through-stop}
 use Rattle.rules.specs.Job.{unset, Answer}
 use Rattle.rules.specs.Questions.{Found, missing, found, find, ordered, askRadial}
 use Rattle.rules.specs.Pair.{usesOfEdge, twinned, sameUse, pairTwo, eachOnce, takePredecessor, takePredecessors, lastOf, pairRound, pairUses, pairEdge, complete, pair}

@@ -12,7 +12,7 @@ use Rattle.lists.specs.Tests.{both-ways}
 use Rattle.lists.specs.ListEnds.{all-reverse}
 use Rattle.rules.specs.declared.Use.{Use}
 use Rattle.rules.specs.Outcome.{Outcome, ok, refuse, ◌>>=◌, need}
-use Rattle.rules.specs.OutcomeLaws.{need-on, need-stop}
+use Rattle.rules.proofs.OutcomeLaws.{need-on, need-stop}
 use Rattle.rules.specs.Fields.{fieldsIn}
 use Rattle.rules.specs.Job.{Answer}
 use Rattle.rules.specs.Questions.{askRadial}

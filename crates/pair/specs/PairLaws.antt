@@ -10,7 +10,7 @@ use Rattle.lists.specs.Members.{position-is, position-none}
 use Rattle.rules.specs.declared.Sense.{Sense}
 use Rattle.rules.specs.declared.Use.{Use}
 use Rattle.rules.specs.Outcome.{Outcome, ok, refuse, ◌>>=◌, need}
-use Rattle.rules.specs.OutcomeLaws.{need-on, need-stop}
+use Rattle.rules.proofs.OutcomeLaws.{need-on, need-stop}
 use Rattle.rules.specs.Sense.{sameSense}
 use Rattle.rules.specs.Fields.{le32}
 use Rattle.rules.specs.Job.{unset}

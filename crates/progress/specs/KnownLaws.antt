@@ -5,26 +5,27 @@ use Rattle.std.proofs.Math.Path.{sym, ap}
 use Rattle.rules.specs.declared.Counts.{Counts}
 use Rattle.rules.specs.declared.Use.{Use}
 use Rattle.rules.specs.Outcome.{ok}
-use Rattle.rules.specs.OutcomeLaws.{bind-on}
+use Rattle.rules.proofs.OutcomeLaws.{bind-on}
 use Rattle.rules.specs.Load.{loaded}
 use Rattle.rules.specs.Read.{faceOfUse}
-use Rattle.rules.specs.GroupLaws.{Lowest}
+use Rattle.rules.specs.Groups.{Lowest, Grouping}
 use Rattle.rules.specs.Rules.{fullTable, ordinary}
 use Rattle.rules.specs.Pair.{pair}
-use Rattle.rules.specs.Groups.{Grouping}
 use Rattle.rules.specs.Merge.{boundaries, mergeFaces, removedUses, mergedGroups}
 use Rattle.rules.specs.VertexLoops.{vertexLoops}
 use Rattle.rules.specs.Sew.{walksOf, walked}
 use Rattle.theorems.specs.Sound.{Counted, Limited, Sound}
 use Rattle.theorems.specs.Linked.{Twins, Linked}
-use Rattle.theorems.specs.Loading.{loading-counted, loaded-sound}
-use Rattle.theorems.specs.Reading.{use-face-below}
-use Rattle.theorems.specs.Pairing.{pairs-fully}
-use Rattle.theorems.specs.Connected.{boundaries-lowest}
-use Rattle.theorems.specs.Merging.{merged-length, merged-lowest, length-removedUses}
-use Rattle.theorems.specs.Circuits.{Permuted, linked-permuted}
+use Rattle.theorems.proofs.Loading.{loading-counted, loaded-sound}
+use Rattle.theorems.proofs.Reading.{use-face-below}
+use Rattle.theorems.proofs.Pairing.{pairs-fully}
+use Rattle.theorems.proofs.Connected.{boundaries-lowest}
+use Rattle.theorems.proofs.Merging.{merged-length, merged-lowest, length-removedUses}
+use Rattle.theorems.specs.Circuits.{Permuted}
+use Rattle.theorems.proofs.Circuits.{linked-permuted}
 use Rattle.theorems.specs.Demand3.{Settled as SettledRules}
-use Rattle.theorems.specs.Ground.{Ground, ground, settled-walked}
+use Rattle.theorems.specs.Ground.{Ground}
+use Rattle.theorems.proofs.Ground.{ground, settled-walked}
 use Rattle.job.specs.Lists.{pointsIn, edgesIn, facesIn, loopsIn, answersIn, jobIn}
 use Rattle.vertex_loops.specs.Kept.{keptIn}
 use Rattle.progress.specs.declared.Faces.{Faces}

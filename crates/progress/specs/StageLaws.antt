@@ -6,7 +6,7 @@ use mathlib.Core.List.{List, flat_map}
 use Rattle.std.proofs.Math.Bool.{cond}
 use Rattle.lists.specs.Lists.{below, keep}
 use Rattle.rules.specs.Outcome.{Outcome, ok, ◌>>=◌}
-use Rattle.rules.specs.OutcomeLaws.{bind-then, bind-same}
+use Rattle.rules.proofs.OutcomeLaws.{bind-then, bind-same}
 use Rattle.rules.specs.Frame.{framedAll}
 use Rattle.rules.specs.Job.{Job}
 use Rattle.rules.specs.Load.{loaded}

@@ -9,12 +9,13 @@ use Rattle.rules.specs.declared.Sense.{Sense}
 use Rattle.rules.specs.declared.Sense.TheVariants.{Same, Reversed}
 use Rattle.rules.specs.declared.Item.{Item}
 use Rattle.rules.specs.Sense.{senseOf, reverse, product, FourAnswers}
-use Rattle.rules.specs.SenseLaws.{answers-product}
+use Rattle.rules.proofs.SenseLaws.{answers-product}
 use Rattle.rules.specs.Fields.{le16, le32, fieldsIn}
 use Rattle.rules.specs.Job.{ofItems, atVertex, itemsOf}
 use Rattle.rules.specs.Read.{traversed, contentItems, loopUses, useAt}
-use Rattle.theorems.specs.Reading.{noItem, itemAt, traversed-length, reversed-at, loop-at}
-use Rattle.theorems.specs.Permitted.{items-of-length}
+use Rattle.theorems.specs.Reading.{noItem, itemAt}
+use Rattle.theorems.proofs.Reading.{traversed-length, reversed-at, loop-at}
+use Rattle.theorems.proofs.Permitted.{items-of-length}
 use Rattle.job.specs.Lists.{loopByte, fieldsAt, loopIn}
 use Rattle.job.specs.FieldLaws.{length-fields, field-in}
 use Rattle.read.specs.Items.{itemIn, itemsIn, itemCount, placeOf}

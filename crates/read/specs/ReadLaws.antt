@@ -12,7 +12,7 @@ use Rattle.rules.specs.declared.Use.{Use}
 use Rattle.rules.specs.declared.Counts.{Counts}
 use Rattle.rules.specs.Job.{Loop, faceAt}
 use Rattle.rules.specs.Read.{traversed, contentItems, loopItems, loopUses, read, usesOf, noUse, useAt}
-use Rattle.theorems.specs.Reading.{traversed-length, loop-length}
+use Rattle.theorems.proofs.Reading.{traversed-length, loop-length}
 use Rattle.job.specs.Lists.{loopByte, facesIn, loopIn, loopsIn, jobIn}
 use Rattle.uses.specs.Table.{usesIn, withUse}
 use Rattle.uses.specs.TableLaws.{length-uses, stored, unstored}

@@ -13,7 +13,7 @@ use Rattle.rules.specs.declared.EdgeData.{EdgeData}
 use Rattle.rules.specs.declared.Ending.{Ending}
 use Rattle.rules.specs.declared.Ending.TheVariants.{Refused as Stopped}
 use Rattle.rules.specs.Outcome.{refuse, ◌>>=◌}
-use Rattle.rules.specs.OutcomeLaws.{bind-on, bind-stop}
+use Rattle.rules.proofs.OutcomeLaws.{bind-on, bind-stop}
 use Rattle.rules.specs.Frame.{framedAll}
 use Rattle.rules.specs.Job.{Job}
 use Rattle.rules.specs.Contact.{edgesClear, pointsClear}

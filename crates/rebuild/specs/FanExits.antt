@@ -9,7 +9,7 @@ use Rattle.rules.specs.declared.Use.{Use}
 use Rattle.rules.specs.declared.Ending.{Ending}
 use Rattle.rules.specs.declared.Ending.TheVariants.{Refused as Stopped}
 use Rattle.rules.specs.Outcome.{refuse}
-use Rattle.rules.specs.OutcomeLaws.{bind-on, bind-stop}
+use Rattle.rules.proofs.OutcomeLaws.{bind-on, bind-stop}
 use Rattle.rules.specs.Job.{Job}
 use Rattle.rules.specs.Walk.{successors, circuits, loopsOf}
 use Rattle.rules.specs.Fans.{keptWithEnds, fans as fansBy}
@@ -20,9 +20,10 @@ use Rattle.rules.specs.Sew.{Walked, walksOf, Fanned, fansOf, Joined, unjoined, E
 use Rattle.rules.specs.Stage.{fanFields, stageBytes}
 use Rattle.theorems.specs.Linked.{EndsAreFans, LoopsSound}
 use Rattle.theorems.specs.Ground.{Ground}
-use Rattle.theorems.specs.Fanning.{FansHold, fans-hold}
-use Rattle.theorems.specs.Edging.{edges-hold}
-use Rattle.theorems.specs.Starting.{ends-are-fans, starts-sound}
+use Rattle.theorems.specs.Fanning.{FansHold}
+use Rattle.theorems.proofs.Fanning.{fans-hold}
+use Rattle.theorems.proofs.Edging.{edges-hold}
+use Rattle.theorems.proofs.Starting.{ends-are-fans, starts-sound}
 use Rattle.job.specs.Lists.{edgesIn, jobIn}
 use Rattle.contact.specs.declared.Clear.{Clear}
 use Rattle.contact.specs.declared.Clear.TheVariants.{Done, Refused}

@@ -14,7 +14,7 @@ use Rattle.lists.specs.Membership.{getD-in}
 use Rattle.lists.specs.Runs.{in-below, below-in, length-below, length-table}
 use Rattle.lists.specs.Members.{keep-in, keep-length, positions-in, in-map, map-in, getD-map}
 use Rattle.rules.specs.Outcome.{Outcome, ok, ◌>>=◌, forEach}
-use Rattle.rules.specs.OutcomeLaws.{refuse-ok, ok-one, bind-ok, cond-ok, each-none, each-ok}
+use Rattle.rules.proofs.OutcomeLaws.{refuse-ok, ok-one, bind-ok, cond-ok, each-none, each-ok}
 use Rattle.rules.specs.Job.{Answer}
 use Rattle.rules.specs.Groups.{labelOf, isLowest, lowestMembers}
 use Rattle.rules.specs.Shells.{Shell, lowestFace, shellFaces, shellInside, Taken, none, shell, innermost, enclosingShell, orRefuse, outers, Nested, nest, nested, lumpLabels}

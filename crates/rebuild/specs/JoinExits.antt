@@ -8,12 +8,12 @@ use Rattle.rules.specs.declared.Use.{Use}
 use Rattle.rules.specs.declared.Ending.{Ending}
 use Rattle.rules.specs.declared.Ending.TheVariants.{Refused as Stopped}
 use Rattle.rules.specs.Outcome.{refuse}
-use Rattle.rules.specs.OutcomeLaws.{bind-on, bind-stop}
+use Rattle.rules.proofs.OutcomeLaws.{bind-on, bind-stop}
 use Rattle.rules.specs.Job.{Job}
 use Rattle.rules.specs.Join.{Joining as State, maximalEdges}
 use Rattle.rules.specs.Sew.{Fanned, Joined, Ends}
 use Rattle.rules.specs.Stage.{joiningFields, stageBytes}
-use Rattle.theorems.specs.RingCounts.{joining-fans}
+use Rattle.theorems.proofs.RingCounts.{joining-fans}
 use Rattle.job.specs.Lists.{answersIn, jobIn}
 use Rattle.maximal_edges.specs.declared.Joins.{Joins}
 use Rattle.maximal_edges.specs.declared.Joining.{Joining}

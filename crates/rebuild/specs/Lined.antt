@@ -11,7 +11,8 @@ use Rattle.rules.specs.declared.Use.{Use}
 use Rattle.rules.specs.Walk.{circuitUses, circuits, loopsOf}
 use Rattle.rules.specs.Edges.{edgesOf, FaceLoop, faceLoops}
 use Rattle.theorems.specs.Successors.{Kept}
-use Rattle.theorems.specs.Circuits.{Permuted, circuits-parting, closed-kept}
+use Rattle.theorems.specs.Circuits.{Permuted}
+use Rattle.theorems.proofs.Circuits.{circuits-parting, closed-kept}
 use Rattle.edges.specs.Table.{itemIn, itemCode, loopAt, loopFace, faceLoopsIn, Laid}
 use Rattle.edges.specs.Made.{Mated, Made}
 use Rattle.edges.specs.LoopLaws.{face-loops, laid-first}

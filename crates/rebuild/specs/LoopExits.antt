@@ -7,7 +7,7 @@ use Rattle.rules.specs.declared.Use.{Use}
 use Rattle.rules.specs.declared.Ending.{Ending}
 use Rattle.rules.specs.declared.Ending.TheVariants.{Refused as Stopped}
 use Rattle.rules.specs.Outcome.{refuse}
-use Rattle.rules.specs.OutcomeLaws.{bind-on, bind-stop}
+use Rattle.rules.proofs.OutcomeLaws.{bind-on, bind-stop}
 use Rattle.rules.specs.Job.{Job}
 use Rattle.rules.specs.Contact.{edgesClear}
 use Rattle.rules.specs.Sew.{Walked, walksOf, Fanned, fansOf, Ends}

@@ -4,9 +4,8 @@ use Rattle.std.proofs.Common.{arith, sym, ap, subst, ◌∙◌, length-take-le}
 use Rattle.rules.specs.declared.Counts.{Counts}
 use Rattle.rules.specs.declared.Use.{Use}
 use Rattle.rules.specs.Outcome.{Outcome, ◌>>=◌}
-use Rattle.rules.specs.OutcomeLaws.{bind-on, bind-stop}
-use Rattle.rules.specs.Groups.{lowestMembers}
-use Rattle.rules.specs.GroupLaws.{Lowest}
+use Rattle.rules.proofs.OutcomeLaws.{bind-on, bind-stop}
+use Rattle.rules.specs.Groups.{lowestMembers, Lowest}
 use Rattle.rules.specs.Contact.{edgesClear, pointsClear}
 use Rattle.rules.specs.Shells.{lumpLabels}
 use Rattle.contact.specs.declared.Clear.{Clear}

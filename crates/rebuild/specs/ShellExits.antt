@@ -8,7 +8,7 @@ use Rattle.rules.specs.declared.Use.{Use}
 use Rattle.rules.specs.declared.Ending.{Ending}
 use Rattle.rules.specs.declared.Ending.TheVariants.{Refused as Stopped}
 use Rattle.rules.specs.Outcome.{ok, refuse}
-use Rattle.rules.specs.OutcomeLaws.{bind-on, bind-stop}
+use Rattle.rules.proofs.OutcomeLaws.{bind-on, bind-stop}
 use Rattle.rules.specs.Fields.{le32}
 use Rattle.rules.specs.Job.{Answer, Job}
 use Rattle.rules.specs.Groups.{lowestMembers}

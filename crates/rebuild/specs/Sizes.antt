@@ -8,14 +8,15 @@ use Rattle.lists.specs.Lists.{◌∈◌, Nodup, keep, sumOf}
 use Rattle.lists.specs.Runs.{pigeon-below}
 use Rattle.rules.specs.declared.Counts.{Counts}
 use Rattle.rules.specs.declared.Use.{Use}
-use Rattle.rules.specs.GroupLaws.{Lowest, label-below}
-use Rattle.rules.specs.Groups.{lowestMembers}
+use Rattle.rules.specs.Groups.{Lowest, lowestMembers}
+use Rattle.rules.proofs.GroupLaws.{label-below}
 use Rattle.rules.specs.Fans.{fans as fansBy, fanNames, startPoints}
 use Rattle.rules.specs.Sew.{walksOf, Fanned, fansOf}
 use Rattle.theorems.specs.Sound.{Limited}
 use Rattle.theorems.specs.Linked.{Twins, EndsAreFans}
 use Rattle.theorems.specs.Circuits.{Permuted}
-use Rattle.theorems.specs.Fanning.{FansHold, fans-hold, fanList}
+use Rattle.theorems.specs.Fanning.{FansHold, fanList}
+use Rattle.theorems.proofs.Fanning.{fans-hold}
 use Rattle.job.specs.Lists.{pointsIn, edgesIn, jobIn}
 use Rattle.answers.specs.Index.{Indexed}
 use Rattle.vertex_loops.specs.Kept.{keptIn}

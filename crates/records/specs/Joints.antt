@@ -12,9 +12,9 @@ use Rattle.rules.specs.declared.Sense.{Sense}
 use Rattle.rules.specs.declared.Kind.{Kind}
 use Rattle.rules.specs.declared.Kind.TheVariants.{LoopRecord}
 use Rattle.rules.specs.Fields.{le32, fieldsIn}
-use Rattle.rules.specs.FieldLaws.{itemAt, itemsFrom, item-more, item-none, items-half}
+use Rattle.rules.specs.Job.{itemAt, itemsFrom, unset, edgeAt, ofRing, startBy, endBy, pointAt, startPoint, endPoint}
+use Rattle.rules.proofs.FieldLaws.{item-more, item-none, items-half}
 use Rattle.rules.specs.Sense.{senseOf}
-use Rattle.rules.specs.Job.{unset, edgeAt, ofRing, startBy, endBy, pointAt, startPoint, endPoint}
 use Rattle.rules.specs.Kinds.{numberOf}
 use Rattle.rules.specs.Load.{joint, loneRing, jointed, rightJoints}
 use Rattle.records.specs.declared.Ends.{Ends}

@@ -8,7 +8,7 @@ use Rattle.rules.specs.declared.Kind.{Kind}
 use Rattle.rules.specs.declared.Kind.TheVariants.{Unknown, Head, Vertex, EdgeRecord, FaceRecord, LoopRecord, VertexLoop, Radial, Surface, Points, Curves, Singular, Orientation, Inside}
 use Rattle.rules.specs.declared.Counts.{Counts}
 use Rattle.rules.specs.Fields.{le32, fieldsIn, field}
-use Rattle.rules.specs.FieldLaws.{field-in, fields-first, pair-more}
+use Rattle.rules.proofs.FieldLaws.{field-in, fields-first, pair-more}
 use Rattle.rules.specs.Kinds.{isSense, isBody, exists, endsPermitted, itemsPermitted, fieldsPermitted, rightLength}
 
 -- the fields of a record with n fields, whose payload stands at p, are permitted

@@ -5,8 +5,7 @@
 ghost use Rattle.std.specs.Prelude.{◌≡◌, true, ◌&&◌, ◌||◌, not, ◌+◌, ◌*◌, ◌-◌, ◌%◌, ◌/◌, ◌<◌, ◌^◌, drop, eqb, ltb, leb};
 ghost use Rattle.lists.specs.Lists.{all, neighbours};
 ghost use Rattle.rules.specs.Fields.{le32, fieldsIn};
-ghost use Rattle.rules.specs.FieldLaws.{itemAt, itemsFrom};
-ghost use Rattle.rules.specs.Job.{ofRing};
+ghost use Rattle.rules.specs.Job.{itemAt, itemsFrom, ofRing};
 ghost use Rattle.rules.specs.Kinds.{isAnswer, inTurn, isSense, isBody, exists, endsPermitted, itemsPermitted, fieldsPermitted, rightLength, rightPosition, limitPassed};
 ghost use Rattle.rules.specs.Load.{joint, jointed as jointedOf, rightJoints, counted};
 ghost use Rattle.theorems.specs.Sound.{Limited};

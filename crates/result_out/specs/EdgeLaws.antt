@@ -21,7 +21,7 @@ use Rattle.edges.specs.Table.{rowsIn, itemIn, loopAt, faceLoopsIn}
 use Rattle.edges.specs.TableLaws.{length-rows, count-rows, paired-at}
 use Rattle.maximal_edges.specs.Joined.{stateIn}
 use Rattle.stages_out.specs.Writing.{wrote-both, wrote-same}
-use Rattle.stages_out.specs.RowLaws.{part-short}
+use Rattle.stages_out.proofs.RowLaws.{part-short}
 use Rattle.result_out.specs.Rows.{edgeRow, itemRow, loopRow}
 use Rattle.result_out.specs.Writing.{three-fields, rows-short}
 

@@ -55,3 +55,7 @@ framed r = bytes32 (4 * length r.fields) ++ bytes16 r.kind ++ fieldBytes r.field
 -- Body records, same framing: the bytes of records one after the other
 abbrev pub framedAll : List Record → List ℕ
 framedAll rs = flat_map framed rs
+
+-- the records of the bytes from a place on
+abbrev pub framesOf : ℕ → List ℕ → List Frame
+framesOf at rest = framesFrom (length rest) at rest

@@ -1,5 +1,5 @@
 -- Groups of the numbers below n as a list of labels: a number's label is the lowest member of its group.
-use Rattle.std.specs.Prelude.{ℕ, ◌+◌, min, max, List, map, Bool, not, cond, length, get_or, eqb}
+use Rattle.std.specs.Prelude.{ℕ, ◌+◌, min, max, List, map, Bool, not, cond, length, get_or, eqb, ◌≡◌, ◌≤◌, ◌<◌}
 use Rattle.lists.specs.Lists.{below, keep, indexOf}
 
 -- each number alone in its group
@@ -46,3 +46,8 @@ lowestMembers g = keep (isLowest g) (below (length g))
 -- the groups numbered by ascending lowest member: each number's group
 unfoldable pub groupNumbers : List ℕ → List ℕ
 groupNumbers g = map (λ label. indexOf label (lowestMembers g)) g
+
+-- no label lies above its number, and a label is its own label
+pub record Lowest (g : List ℕ) : Type 0 where
+  pub low : (i : ℕ) → i < length g → labelOf g i ≤ i
+  pub stands : (i : ℕ) → i < length g → labelOf g (labelOf g i) ≡ labelOf g i

@@ -1,11 +1,12 @@
 -- The loaded job.
-use Rattle.std.specs.Prelude.{ℕ, List, [], ◌∷◌, Bool, get_or, eqb}
+use Rattle.std.specs.Prelude.{ℕ, List, [], ◌∷◌, Bool, get_or, eqb, ◌+◌, ◌*◌, drop}
 use Rattle.rules.specs.declared.Sense.{Sense}
 use Rattle.rules.specs.declared.Sense.TheVariants.{Same, Reversed}
 use Rattle.rules.specs.declared.Edge.{Edge}
 use Rattle.rules.specs.declared.Face.{Face}
 use Rattle.rules.specs.declared.Item.{Item}
 use Rattle.rules.specs.Sense.{senseOf}
+use Rattle.rules.specs.Fields.{le32, fieldsIn}
 
 -- the mark for no vertex, no fan, no twin
 abbrev pub unset : ℕ
@@ -96,3 +97,11 @@ unfoldable pub itemsOf : List ℕ → List Item
 itemsOf [] = []
 itemsOf (e ∷ []) = []
 itemsOf (e ∷ s ∷ rest) = record { edge = e; sense = senseOf s } ∷ itemsOf rest
+
+-- the item whose two fields stand at a place
+abbrev pub itemAt : List ℕ → ℕ → Item
+itemAt s p = record { edge = le32 s p; sense = senseOf (le32 s (p + 4)) }
+
+-- the items from a place on, so many
+abbrev pub itemsFrom : List ℕ → ℕ → ℕ → List Item
+itemsFrom s p m = itemsOf (fieldsIn (2 * m) (drop p s))

@@ -1,18 +1,13 @@
 pub mod Outcome
-pub mod OutcomeLaws
 pub mod Sense
 pub mod Fields
 pub mod Frame
 pub mod Job
-pub mod FieldLaws
-pub mod FrameLaws
 pub mod Questions
-pub mod QuestionLaws
 pub mod Kinds
 pub mod Load
 pub mod Read
 pub mod Groups
-pub mod GroupLaws
 pub mod Pair
 pub mod Rules
 pub mod Merge
@@ -22,7 +17,6 @@ pub mod Fans
 pub mod Contact
 pub mod Edges
 pub mod Join
-pub mod SenseLaws
 pub mod Shells
 pub mod Body
 pub mod Sew

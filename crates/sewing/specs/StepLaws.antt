@@ -13,12 +13,11 @@ use Rattle.rules.specs.declared.Counts.{Counts}
 use Rattle.rules.specs.declared.Use.{Use}
 use Rattle.rules.specs.declared.Ending.{Ending}
 use Rattle.rules.specs.Outcome.{Outcome, ok, refuse, ◌>>=◌}
-use Rattle.rules.specs.OutcomeLaws.{bind-on, bind-stop}
+use Rattle.rules.proofs.OutcomeLaws.{bind-on, bind-stop}
 use Rattle.rules.specs.Job.{Job}
 use Rattle.rules.specs.Load.{loading}
 use Rattle.rules.specs.Read.{usesOf}
-use Rattle.rules.specs.Groups.{isLowest, lowestMembers, groupNumbers}
-use Rattle.rules.specs.GroupLaws.{Lowest}
+use Rattle.rules.specs.Groups.{isLowest, lowestMembers, groupNumbers, Lowest}
 use Rattle.rules.specs.Rules.{fullTable}
 use Rattle.rules.specs.Pair.{pair}
 use Rattle.rules.specs.Merge.{boundaries, mergeFaces, mergedGroups, removedUses}
@@ -28,9 +27,9 @@ use Rattle.rules.specs.Frame.{framedAll}
 use Rattle.rules.specs.Body.{emptyBody, bodyRecords}
 use Rattle.rules.specs.Sew.{Walked, walksOf, fitting, Ends}
 use Rattle.rules.specs.Stage.{useFields, stageBytes, readStage}
-use Rattle.theorems.specs.Ground.{ground}
+use Rattle.theorems.proofs.Ground.{ground}
 use Rattle.theorems.specs.Circuits.{Permuted}
-use Rattle.theorems.specs.Successors.{length-successors}
+use Rattle.theorems.proofs.Successors.{length-successors}
 use Rattle.job.specs.Lists.{pointsIn, facesIn, loopsIn, answersIn, jobIn}
 use Rattle.load.specs.declared.Loaded.{Loaded}
 use Rattle.load.specs.declared.Loaded.TheVariants.{Refused as Stopped, Done as Read}

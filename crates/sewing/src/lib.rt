@@ -6,7 +6,7 @@
 ghost use Rattle.std.specs.Prelude.{◌≡◌, ◌*◌, ◌≤◌, length, take};
 ghost use Rattle.rules.specs.Read.{usesOf};
 ghost use Rattle.rules.specs.Rules.{ordinary, fullTable};
-ghost use Rattle.rules.specs.GroupLaws.{Lowest};
+ghost use Rattle.rules.specs.Groups.{Lowest};
 ghost use Rattle.rules.specs.Merge.{removedUses};
 ghost use Rattle.rules.specs.Walk.{circuits, loopsOf};
 ghost use Rattle.rules.specs.Sew.{sewn, Ends};

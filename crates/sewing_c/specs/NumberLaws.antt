@@ -8,7 +8,7 @@ use Rattle.rules.specs.declared.Face.{Face}
 use Rattle.rules.specs.declared.EdgeData.{EdgeData}
 use Rattle.rules.specs.declared.KeptVertexLoop.{KeptVertexLoop}
 use Rattle.rules.specs.Outcome.{Outcome, ok, refuse, ◌>>=◌, need, throughout, forEach}
-use Rattle.rules.specs.OutcomeLaws.{refuse-ok}
+use Rattle.rules.proofs.OutcomeLaws.{refuse-ok}
 use Rattle.rules.specs.Fields.{fieldBytes}
 use Rattle.rules.specs.Frame.{Frame, framedAll}
 use Rattle.rules.specs.Job.{Job, Answer, Loop, Content, ofItems, atVertex}

@@ -2,7 +2,7 @@
 use Rattle.std.specs.Prelude.{ℕ, ◌≡◌, List, [], ◌∷◌, ◌++◌}
 use Rattle.std.proofs.Common.{sym, ap, ◌∙◌}
 use Rattle.rules.specs.Outcome.{Outcome, ok, refuse, forEach}
-use Rattle.rules.specs.OutcomeLaws.{ok-one, bind-on, bind-stop, each-none, each-ok}
+use Rattle.rules.proofs.OutcomeLaws.{ok-one, bind-on, bind-stop, each-none, each-ok}
 
 each-first : {A B : Type 0} (f : A → Outcome B) (x : A) (xs : List A) (y : B) (ys : List B) → f x ≡ ok y → forEach f xs ≡ ok ys → forEach f (x ∷ xs) ≡ ok (y ∷ ys)
 unfolding forEach

@@ -8,8 +8,8 @@ use Rattle.lists.specs.Members.{indexOf-in, getD-map}
 use Rattle.lists.specs.Prefixes.{keep-below-yes, keep-below-no, keep-below-le}
 use Rattle.lists.specs.KeepBelow.{index-below}
 use Rattle.lists.specs.Tables.{set-each}
-use Rattle.rules.specs.Groups.{labelOf, isLowest, lowestMembers}
-use Rattle.rules.specs.GroupLaws.{Lowest, label-in-lowestMembers}
+use Rattle.rules.specs.Groups.{labelOf, isLowest, lowestMembers, Lowest}
+use Rattle.rules.proofs.GroupLaws.{label-in-lowestMembers}
 use Rattle.rules.specs.Shells.{lumpLabels}
 use Rattle.shells.specs.Table.{boundaryIn, nestedOne, nestedIn, Shelled}
 

@@ -16,7 +16,7 @@ use Rattle.lists.specs.Members.{keep-yes, keep-no, keep-same, map-append, map-sa
 use Rattle.lists.specs.Prefixes.{below-split}
 use Rattle.lists.specs.TableMore.{table-same, table-more}
 use Rattle.rules.specs.Outcome.{Outcome, ok, refuse, ◌>>=◌, forEach}
-use Rattle.rules.specs.OutcomeLaws.{refuse-ok, ok-one, bind-on, bind-stop, each-none}
+use Rattle.rules.proofs.OutcomeLaws.{refuse-ok, ok-one, bind-on, bind-stop, each-none}
 use Rattle.rules.specs.Job.{Answer}
 use Rattle.rules.specs.Shells.{Shell, shellFaces, lowestFace, shellInside, Taken, none, shell, innermost, enclosingShell, orRefuse, outers, Nested, nest, nested}
 use Rattle.ask.specs.declared.Asked.{Asked}

@@ -15,7 +15,7 @@ use Rattle.lists.specs.Members.{keep-yes, keep-append, keep-length, map-append}
 use Rattle.lists.specs.Prefixes.{below-split, keep-below-yes, keep-below-no}
 use Rattle.lists.specs.TableMore.{table-more}
 use Rattle.rules.specs.Outcome.{ok, refuse, forEach}
-use Rattle.rules.specs.OutcomeLaws.{bind-on, bind-stop, each-none}
+use Rattle.rules.proofs.OutcomeLaws.{bind-on, bind-stop, each-none}
 use Rattle.rules.specs.Job.{Answer}
 use Rattle.rules.specs.Groups.{labelOf, isLowest, lowestMembers}
 use Rattle.rules.specs.Questions.{askYes}

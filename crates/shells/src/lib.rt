@@ -6,8 +6,7 @@
 
 ghost use Rattle.std.specs.Prelude.{◌≡◌, ℕ, ◌+◌, ◌*◌, ◌<◌, ◌≤◌, ◌^◌, List, map, length, get_or, replicate, eqb};
 ghost use Rattle.rules.specs.Fields.{le32};
-ghost use Rattle.rules.specs.Groups.{lowestMembers};
-ghost use Rattle.rules.specs.GroupLaws.{Lowest};
+ghost use Rattle.rules.specs.Groups.{lowestMembers, Lowest};
 ghost use Rattle.rules.specs.Shells.{shellFaces, shells as shellsBy, nested, innermost, enclosingShell, none, lumpLabels};
 ghost use Rattle.job.specs.Lists.{answersIn};
 ghost use Rattle.answers.specs.Index.{Indexed};

@@ -11,7 +11,8 @@ use Rattle.rules.specs.Groups.{labelOf}
 use Rattle.rules.specs.Merge.{Merged, mergedFaces, mergedFaceOf}
 use Rattle.rules.specs.Walk.{successor}
 use Rattle.rules.specs.Sew.{Walked, Ends}
-use Rattle.rules.specs.Stage.{groupFields, keptFields, keptUses, walkFields, loopFields, stageBytes}
+use Rattle.rules.specs.Stage.{groupFields, keptFields, keptUses, walkFields, loopFields, stageBytes, useFields}
+use Rattle.rules.specs.Read.{useAt}
 
 -- a stage with these fields: its ending, and what the output holds after it
 abbrev pub Staged : List ℕ → List ℕ → List ℕ → Ending → Type 0
@@ -68,3 +69,6 @@ round-rows w ls = refl
 unfoldable pub endOf : List ℕ → ℕ → ℕ
 endOf stretches zero = 0
 endOf stretches (suc k) = get_or stretches (2 * k + 1) 0
+
+abbrev pub useRow : List Use → ℕ → List ℕ
+useRow us h = useFields (useAt us h)

@@ -11,7 +11,7 @@ ghost use Rattle.rules.specs.Stage.{useFields, keptUses};
 ghost use Rattle.fields.specs.Wrote.{Wrote};
 ghost use Rattle.uses.specs.Table.{usesIn};
 ghost use Rattle.walk.specs.Walks.{loopsIn, Following};
-ghost use Rattle.stages_out.specs.RowLaws.{useRow};
+ghost use Rattle.stages_out.specs.Rows.{useRow};
 ghost use Rattle.stages_out.specs.Writing.{Rowed};
 ghost use Rattle.stages_out.specs.Rows.{Staged, walkRow, walkRows, pairRows, keptRows, roundRow, roundRows, endOf};
 

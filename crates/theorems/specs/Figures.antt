@@ -1,6 +1,6 @@
--- The executable parts of demand 3, computed on some jobs.
-use Rattle.std.specs.Prelude.{ℕ, ◌≡◌, refl, List, [], ◌∷◌, ◌++◌, Bool, true, false, length}
-use Rattle.lists.specs.Lists.{same, all, keep}
+-- The executable parts of demand 3, and jobs to compute them on.
+use Rattle.std.specs.Prelude.{ℕ, List, [], ◌∷◌, ◌++◌, Bool, false, length}
+use Rattle.lists.specs.Lists.{same, keep}
 use Rattle.rules.specs.Outcome.{Outcome, ok, refuse, ◌>>=◌}
 use Rattle.rules.specs.Frame.{Record, framedAll}
 use Rattle.rules.specs.Load.{loaded}
@@ -8,8 +8,7 @@ use Rattle.rules.specs.Rules.{ordinary}
 use Rattle.rules.specs.Join.{Joining, corners, activeEdges}
 use Rattle.rules.specs.Body.{rec}
 use Rattle.rules.specs.Sew.{Walked, walked, Fanned, fansOf, unjoined, throughJoining}
-use Rattle.rules.specs.Parts.{P3, P7, P8, P9, ringJob, lensJob}
-use Rattle.rules.specs.Open.{computes}
+use Rattle.rules.specs.Parts.{P3, P7, P8, P9}
 use Rattle.theorems.specs.Demand3.{passedSum, reached}
 
 -- uses, removed uses, the sum of the passed counts, the removed uses whose turn holds a kept one
@@ -90,8 +89,3 @@ table =
     record { job = fourEdges; have = 8 ∷ 0 ∷ 0 ∷ 0 ∷ 4 ∷ 4 ∷ 0 ∷ 1 ∷ 3 ∷ 1 ∷ [] } ∷
     record { job = pentagon; have = 14 ∷ 4 ∷ 4 ∷ 4 ∷ 5 ∷ 5 ∷ 5 ∷ 5 ∷ 0 ∷ 0 ∷ [] } ∷
     record { job = spur; have = 4 ∷ 2 ∷ 2 ∷ 2 ∷ 1 ∷ 1 ∷ 0 ∷ 1 ∷ 0 ∷ 1 ∷ [] } ∷ []
-
--- each job has its figures
-pub figures-right : all right table ≡ true
-unfolding computes figures reached ringJob lensJob P3 P7 P8 P9 cylinder fourEdges pentagon spur table
-figures-right = refl

@@ -1,32 +1,9 @@
--- Loading: the facts of every loaded job.
-use Rattle.std.specs.Prelude.{ℕ, ◌≤◌, ◌≡◌, refl, Bool, true, false, ◌&&◌, List, length, ltb}
-use Rattle.std.proofs.Common.{not-suc-le-zero, arith, sym, ◌∙◌, subst, ⊎_elim, ltb-true, ltb-false}
-use mathlib.Core.List.Memᴰ
-use Rattle.std.proofs.lemmas.Bool.{not-true}
-use Rattle.lists.specs.Lists.{◌∈◌}
-use Rattle.lists.specs.Tests.{both-ways, and-both}
-use Rattle.lists.specs.OneMore.{snoc-members}
-use Rattle.lists.specs.Sums.{sum-nil}
-use Rattle.rules.specs.declared.Counts.{Counts}
-use Rattle.rules.specs.Outcome.{ok}
-use Rattle.rules.specs.OutcomeLaws.{ok-one, bind-ok, need-ok, through-keeps}
-use Rattle.rules.specs.Frame.{Frame, frames}
-use Rattle.rules.specs.Job.{Job}
-use Rattle.rules.specs.Kinds.{kindOf, rightLength, rightPosition}
-use Rattle.rules.specs.Load.{Loading, alsoIf, counted, extended, loadRecord, nothingLoaded, loading, loaded}
-use Rattle.rules.specs.Read.{usesOf}
-use Rattle.theorems.specs.Sound.{Counted, Limited, Sound}
-use Rattle.theorems.specs.Reading.{itemsIn, uses-length, use-face-below}
-use Rattle.theorems.specs.Fit.{Fit, Taken, fit-kept}
-
--- what holds of each member, and of one more where that is added, holds of each member then
-pub also-has : {A : Type 0} (P : A → Type 0) (b : Bool) (xs : List A) (y : A) → ((x : A) → x ∈ xs → P x) → (b ≡ true → P y) → (x : A) → x ∈ alsoIf b xs y → P x
-also-has P true xs y each last = snoc-members P xs y each (last refl)
-also-has P false xs y each last = each
-
--- what is loaded so far is fit
-FitLoading : Loading → Type 0
-FitLoading s = Fit s.counts s.job
+-- What a record that is taken leaves of a load.
+use Rattle.std.specs.Prelude.{◌≡◌, true, length}
+use Rattle.rules.specs.Frame.{Frame}
+use Rattle.rules.specs.Kinds.{kindOf, rightLength}
+use Rattle.rules.specs.Load.{Loading, counted, extended}
+use Rattle.theorems.specs.Fit.{Taken}
 
 -- what a record that loading takes has, and what is loaded after it
 pub record RecordTaken (f : Frame) (s t : Loading) : Type 0 where
@@ -34,83 +11,3 @@ pub record RecordTaken (f : Frame) (s t : Loading) : Type 0 where
   pub sized : rightLength (kindOf f.kind) f.size ≡ true
   pub taken : Taken (kindOf f.kind) f.fields s.counts s.job
   pub after : t ≡ record { counts = counted (kindOf f.kind) (length f.fields) s.counts; job = extended (kindOf f.kind) f.at f.fields s.job }
-
--- a record that loading takes
-pub record-taken : (f : Frame) (s t : Loading) → loadRecord f s ≡ ok t → RecordTaken f s t
-unfolding loadRecord
-record-taken f s t e =
-    let whole = need-ok f.whole _ _ _ t e in
-    let framed = need-ok (rightLength (kindOf f.kind) f.size && rightPosition (kindOf f.kind) s.counts.part) _ _ _ t whole.1 in
-    let limit = need-ok _ _ _ _ t framed.1 in
-    let permitted = need-ok _ _ _ _ t limit.1 in
-    let joints = need-ok _ _ _ _ t permitted.1 in
-    let new = need-ok _ _ _ _ t joints.1 in
-    let right = and-both (rightLength (kindOf f.kind) f.size) _ framed.0 in
-    record {
-      whole = whole.0;
-      sized = right.0;
-      taken = record { position = right.1; limit = not-true _ limit.0; permitted = permitted.0; joints = joints.0 };
-      after = sym (ok-one new.1);
-    }
-
--- what each record of a job that loading takes keeps holds when all are taken
-pub loading-keeps : (job : List ℕ) (P : Loading → Type 0) (s : Loading) → ((f : Frame) (u v : Loading) → f ∈ frames job → P u → loadRecord f u ≡ ok v → P v) → P nothingLoaded
-    → loading job ≡ ok s → P s
-unfolding loading
-loading-keeps job P s keeps none e =
-    let small = need-ok _ _ _ _ s e in
-    let some = need-ok _ _ _ _ s small.1 in
-    through-keeps loadRecord P (frames job) nothingLoaded s keeps none some.1
-
-fit-nothing : FitLoading nothingLoaded
-unfolding FitLoading
-fit-nothing = record {
-  counted = record { vertices = refl; edges = refl; faces = refl; loops = refl; stretches = refl; uses = sym (uses-length nothingLoaded.job ∙ sum-nil itemsIn); answers = refl };
-  limited = record { vertices = omega arith; edges = omega arith; faces = omega arith; loops = omega arith; uses = omega arith; answers = omega arith };
-  sound = record {
-    ends = λ e h. absurd (not-suc-le-zero h);
-    face = λ l m. absurd (Memᴰ.not-nil m);
-    items = λ l m. absurd (Memᴰ.not-nil m);
-    joints = λ l xs m. absurd (Memᴰ.not-nil m);
-    vertex = λ l v m. absurd (Memᴰ.not-nil m);
-    few = omega (arith, uses-length nothingLoaded.job, sum-nil itemsIn);
-  };
-  late = λ l m. absurd (Memᴰ.not-nil m);
-  faced = λ (e : ◌≡◌ {A = ℕ} 0 4). absurd (omega arith);
-}
-
--- what is loaded when a job's records are all taken is fit
-pub loading-fit : (job : List ℕ) (s : Loading) → loading job ≡ ok s → Fit s.counts s.job
-unfolding FitLoading
-loading-fit job s =
-    loading-keeps job FitLoading s
-    (λ f u v m F q. let r = record-taken f u v q in subst FitLoading (sym r.after) (fit-kept (kindOf f.kind) f.at f.fields u.counts u.job F r.taken))
-    fit-nothing
-
--- the counts of a loaded job are the lengths of its lists, within the limits
-pub loading-counted : (job : List ℕ) (s : Loading) → loading job ≡ ok s → Counted s.counts s.job × Limited s.counts
-loading-counted job s e = let F = loading-fit job s e in (F.counted, F.limited)
-
--- a loaded job is within the limits
-pub loaded-limits : (job : List ℕ) (j : Job) → loaded job ≡ ok j → (c : Counts) × Counted c j × Limited c
-loaded-limits job j e =
-    let r = bind-ok (loading job) _ j e in
-    let F = loading-counted job r.0 r.1 in
-    (r.0.counts, subst (Counted r.0.counts) (ok-one r.2) F.0, F.1)
-
--- it has at most 256 faces
-pub faces-few : (job : List ℕ) (j : Job) → loaded job ≡ ok j → length j.faces ≤ 256
-faces-few job j e = let c = loaded-limits job j e in omega (arith, c.1.faces, c.2.faces)
-
--- a loaded job is sound
-pub loaded-sound : (job : List ℕ) (j : Job) → loaded job ≡ ok j → Sound j
-loaded-sound job j e =
-    let r = bind-ok (loading job) _ j e in
-    subst Sound (ok-one r.2) (loading-fit job r.0 r.1).sound
-
--- without faces there is no use
-pub no-face-no-use : (job : List ℕ) (j : Job) → loaded job ≡ ok j → length j.faces ≡ 0 → length (usesOf j) ≡ 0
-no-face-no-use job j e none =
-    ⊎_elim (λ t. absurd (omega (arith, use-face-below j (loaded-sound job j e) 0 (ltb-true 0 (length (usesOf j)) t))))
-    (λ t. omega (arith, ltb-false 0 (length (usesOf j)) t))
-    (both-ways (ltb 0 (length (usesOf j))))

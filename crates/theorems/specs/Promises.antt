@@ -2,9 +2,8 @@
 use Rattle.std.specs.Prelude.{List, ℕ}
 use Rattle.rules.specs.Rules.{Table}
 use Rattle.theorems.specs.Demand3.{Demand3}
-use Rattle.theorems.specs.Assembly.{demand3}
-use Rattle.theorems.specs.FaceJoins.{FaceJoins, face-joins}
-use Rattle.theorems.specs.FaceMembers.{FaceMembers, face-members}
+use Rattle.theorems.specs.FaceJoins.{FaceJoins}
+use Rattle.theorems.specs.FaceMembers.{FaceMembers}
 
 -- a request that promises more of an accepted job adds a field here
 pub record Promises (t : Table) (job : List ℕ) : Type 0 where
@@ -14,6 +13,3 @@ pub record Promises (t : Table) (job : List ℕ) : Type 0 where
   pub faceJoins : FaceJoins t job
   -- request Seven of document 02
   pub faceMembers : FaceMembers t job
-
-pub promises : (t : Table) (job : List ℕ) → Promises t job
-promises t job = record { demand3 = demand3 t job; faceJoins = face-joins t job; faceMembers = face-members t job }

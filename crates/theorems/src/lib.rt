@@ -1,3 +1,3 @@
-// Theorems about the definitions of `rules`: see specs/. No code.
+// Theorems about the definitions of `rules`: statements in specs/, laws and their proofs in proofs/. No code.
 
 #![tactic(auto)]

@@ -11,7 +11,7 @@ use Rattle.lists.specs.Members.{map-append, map-same}
 use Rattle.rules.specs.declared.Counts.{Counts}
 use Rattle.rules.specs.declared.KeptVertexLoop.{KeptVertexLoop}
 use Rattle.rules.specs.Outcome.{ok, refuse, throughout}
-use Rattle.rules.specs.OutcomeLaws.{bind-on, bind-stop, through-none, through-on, through-stop}
+use Rattle.rules.proofs.OutcomeLaws.{bind-on, bind-stop, through-none, through-on, through-stop}
 use Rattle.rules.specs.Fields.{le16, le32}
 use Rattle.rules.specs.Job.{Loop, Answer}
 use Rattle.rules.specs.Questions.{askSame}

@@ -20,7 +20,8 @@ use Rattle.lists.specs.Appended.{below-split, some-snoc}
 use Rattle.lists.specs.Cuts.{startAt, start-none, start-end, start-snoc, start-next, start-within, cuts}
 use Rattle.rules.specs.Merge.{isRemoved}
 use Rattle.rules.specs.Walk.{Circuit, closes, neverCloses, successor, circuit, circuitUses, visited, loopStep, circuits, loopsOf}
-use Rattle.theorems.specs.Circuits.{Permuted, Closed, circuits-parting, closed-kept}
+use Rattle.theorems.specs.Circuits.{Permuted, Closed}
+use Rattle.theorems.proofs.Circuits.{circuits-parting, closed-kept}
 use Rattle.walk.specs.Walks.{Closes, marked, unvisited, Round, loopsIn, Following, started, Held, Walking}
 
 -- MARKS

@@ -1,7 +1,7 @@
 use Prim.Native.Nat.{◌*◌, ◌-◌}
 use Rattle.body.specs.Writing.{after-head}
 use Rattle.body.specs.RowLaws.{loop-wrote, loop-skipped}
-use Rattle.stages_out.specs.RowLaws.{part-short}
+use Rattle.stages_out.proofs.RowLaws.{part-short}
 use native.Mathlib.Omega.{arith}
 use Rattle.body.proofs.put_loop.Goals as goal
 

@@ -1,4 +1,4 @@
-use Rattle.rules.specs.SenseLaws.{answers-told}
+use Rattle.rules.proofs.SenseLaws.{answers-told}
 use Rattle.rules.specs.declared.Sense.TheVariants.{Same, Reversed}
 use mathlib.Core.Path.{refl}
 use Rattle.job.proofs.product.Goals as goal

@@ -1,5 +1,5 @@
 use Rattle.rules.specs.Sense.{product}
-use Rattle.rules.specs.SenseLaws.{answers-product}
+use Rattle.rules.proofs.SenseLaws.{answers-product}
 use mathlib.Core.Path.{◌∙◌}
 use Rattle.job.proofs.stored_sense.Goals as goal
 

@@ -1,4 +1,4 @@
-use Rattle.rules.specs.FrameLaws.{whole-is, head-cut, payload-cut}
+use Rattle.rules.proofs.FrameLaws.{whole-is, head-cut, payload-cut}
 use mathlib.Core.Path.{sym}
 use native.Mathlib.Omega.{arith}
 use Rattle.load.proofs.is_whole.Goals as goal

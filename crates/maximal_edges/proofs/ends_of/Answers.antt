@@ -1,5 +1,5 @@
 use Rattle.maximal_edges.specs.ScanLaws.{ends-active}
-use Rattle.theorems.specs.Ends.{idle-ends}
+use Rattle.theorems.proofs.Ends.{idle-ends}
 use Rattle.edges.specs.Table.{rowsIn}
 use Rattle.rules.specs.Join.{edgeDataAt}
 use native.Mathlib.Omega.{arith}

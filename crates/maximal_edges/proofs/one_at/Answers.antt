@@ -1,4 +1,4 @@
-use Rattle.theorems.specs.Ends.{one-at-same, one-at-other}
+use Rattle.theorems.proofs.Ends.{one-at-same, one-at-other}
 use native.Mathlib.Omega.{arith}
 use mathlib.Core.Path.{sym}
 use Rattle.maximal_edges.proofs.one_at.Goals as goal

@@ -1,7 +1,6 @@
 use Rattle.records.specs.Joints.{jointsFrom, allJoints}
 use Rattle.job.specs.Lists.{pointsIn, edgesIn}
-use Rattle.rules.specs.Job.{ofRing, endPoint}
-use Rattle.rules.specs.FieldLaws.{itemAt}
+use Rattle.rules.specs.Job.{ofRing, endPoint, itemAt}
 use Prim.Native.Nat.{◌+◌, ◌*◌}
 use mathlib.Core.Path.{◌≡◌}
 use mathlib.Core.Bool.{false}

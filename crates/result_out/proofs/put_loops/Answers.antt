@@ -1,6 +1,6 @@
 use Rattle.result_out.specs.EdgeLaws.{faceLoopRow, loop-wrote, loop-short, loop-rows}
 use Rattle.result_out.specs.Writing.{rowed-start, rowed-step, rowed-end}
-use Rattle.stages_out.specs.RowLaws.{part-short}
+use Rattle.stages_out.proofs.RowLaws.{part-short}
 use Rattle.edges.specs.Table.{faceLoopsIn}
 use Rattle.rules.specs.Stage.{faceLoopFields}
 use lib.ListN.{length}

@@ -1,6 +1,6 @@
 use Rattle.progress.specs.Endings.{ends-as, ends-refused}
 use Rattle.sewing.specs.StepLaws.{opened-from, sew-refused}
-use Rattle.theorems.specs.Promises.{promises}
+use Rattle.theorems.proofs.Promised.{promises}
 use Rattle.progress.specs.StageLaws.{stage-body}
 use Rattle.rules.specs.Rules.{fullTable}
 use mathlib.Core.Path.{◌∙◌, sym}

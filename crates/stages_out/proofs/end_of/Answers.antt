@@ -1,5 +1,5 @@
 use mathlib.Core.Path.{◌∙◌}
-use Rattle.stages_out.specs.RowLaws.{end-none, end-at}
+use Rattle.stages_out.proofs.RowLaws.{end-none, end-at}
 use native.Mathlib.Omega.{arith}
 use Rattle.stages_out.proofs.end_of.Goals as goal
 

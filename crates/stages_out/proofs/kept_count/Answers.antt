@@ -1,4 +1,4 @@
-use Rattle.stages_out.specs.RowLaws.{counted-start, counted-step, counted-end}
+use Rattle.stages_out.proofs.RowLaws.{counted-start, counted-step, counted-end}
 use native.Mathlib.Omega.{arith}
 use Rattle.stages_out.proofs.kept_count.Goals as goal
 

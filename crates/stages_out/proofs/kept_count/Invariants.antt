@@ -1,4 +1,4 @@
-use Rattle.stages_out.specs.RowLaws.{Counted}
+use Rattle.stages_out.proofs.RowLaws.{Counted}
 use Prim.Native.Nat.{◌-◌, ◌≤◌}
 use lib.ListN.{length}
 use Rattle.stages_out.proofs.kept_count.Given as goal

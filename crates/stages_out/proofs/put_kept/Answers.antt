@@ -1,5 +1,5 @@
 use Rattle.stages_out.specs.Rows.{keptRow, keptRows}
-use Rattle.stages_out.specs.RowLaws.{two-same, kept-rows-all}
+use Rattle.stages_out.proofs.RowLaws.{two-same, kept-rows-all}
 use Rattle.stages_out.specs.Writing.{rowed-start, rowed-step, wrote-same}
 use native.Mathlib.Omega.{arith}
 use Rattle.stages_out.proofs.put_kept.Goals as goal

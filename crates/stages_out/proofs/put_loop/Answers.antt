@@ -2,7 +2,7 @@ use mathlib.Core.List.{[], ◌∷◌}
 use lib.ListN.{length}
 use Rattle.uses.specs.Table.{usesIn}
 use Rattle.stages_out.specs.Writing.{place-after}
-use Rattle.stages_out.specs.RowLaws.{round-row}
+use Rattle.stages_out.proofs.RowLaws.{round-row}
 use native.Mathlib.Omega.{arith}
 use Rattle.stages_out.proofs.put_loop.Goals as goal
 

@@ -1,8 +1,7 @@
-use Rattle.stages_out.specs.RowLaws.{loop-wrote, part-short}
+use Rattle.stages_out.proofs.RowLaws.{loop-wrote, part-short, loopRow, loop-rows, loop-row-short}
 use Rattle.walk.specs.Walks.{loopsIn}
 use Rattle.uses.specs.Table.{usesIn}
 use Rattle.stages_out.specs.Rows.{roundRows}
-use Rattle.stages_out.specs.RowLaws.{loopRow, loop-rows, loop-row-short}
 use Prim.Native.Nat.{◌-◌}
 use Rattle.stages_out.specs.Writing.{rowed-start, rowed-step, wrote-same}
 use native.Mathlib.Omega.{arith}

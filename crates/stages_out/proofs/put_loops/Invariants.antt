@@ -1,5 +1,5 @@
 use Rattle.uses.specs.Table.{usesIn}
-use Rattle.stages_out.specs.RowLaws.{loopRow}
+use Rattle.stages_out.proofs.RowLaws.{loopRow}
 use Prim.Native.Nat.{◌-◌, ◌≤◌}
 use Rattle.stages_out.specs.Writing.{Rowed}
 use Rattle.stages_out.proofs.put_loops.Given as goal

@@ -1,5 +1,5 @@
 use Rattle.stages_out.specs.Rows.{pairRow, pairRows}
-use Rattle.stages_out.specs.RowLaws.{two-same, pair-rows-all}
+use Rattle.stages_out.proofs.RowLaws.{two-same, pair-rows-all}
 use Rattle.stages_out.specs.Writing.{rowed-start, rowed-step, wrote-same}
 use native.Mathlib.Omega.{arith}
 use Rattle.stages_out.proofs.put_pairs.Goals as goal

@@ -3,7 +3,7 @@ use Rattle.rules.specs.declared.Use.{Use}
 use Rattle.rules.specs.Stage.{useFields}
 use Rattle.rules.specs.Fields.{fieldBytes}
 use Rattle.fields.specs.Wrote.{Wrote}
-use Rattle.stages_out.specs.RowLaws.{useRow}
+use Rattle.stages_out.specs.Rows.{useRow}
 use Rattle.stages_out.specs.Writing.{Rowed, rowed-start, rowed-step}
 use Rattle.stages_out.proofs.put_records.Goals as goal
 

@@ -1,5 +1,5 @@
 use Rattle.std.proofs.Common.{◌-◌, ◌≤◌}
-use Rattle.stages_out.specs.RowLaws.{useRow}
+use Rattle.stages_out.specs.Rows.{useRow}
 use Rattle.stages_out.specs.Writing.{Rowed}
 use Rattle.stages_out.proofs.put_records.Given as goal
 

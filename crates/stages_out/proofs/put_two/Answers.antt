@@ -1,5 +1,5 @@
 use Rattle.fields.specs.Tabled.{length-bytes32}
-use Rattle.stages_out.specs.RowLaws.{two-fields}
+use Rattle.stages_out.proofs.RowLaws.{two-fields}
 use native.Mathlib.Omega.{arith}
 use Rattle.stages_out.proofs.put_two.Goals as goal
 

@@ -1,6 +1,6 @@
 use mathlib.Core.List.{[], ◌∷◌}
 use Rattle.stages_out.specs.Writing.{place-after}
-use Rattle.stages_out.specs.RowLaws.{use-fields}
+use Rattle.stages_out.proofs.RowLaws.{use-fields}
 use native.Mathlib.Omega.{arith}
 use Rattle.stages_out.proofs.put_use.Goals as goal
 

@@ -1,5 +1,5 @@
 use Rattle.uses.specs.Table.{usesIn}
-use Rattle.stages_out.specs.RowLaws.{record-rows}
+use Rattle.stages_out.proofs.RowLaws.{record-rows}
 use Rattle.stages_out.proofs.put_uses.Goals as goal
 
 pub returns : goal.returns

@@ -1,7 +1,7 @@
 use mathlib.Core.List.{[], ◌∷◌}
 use Rattle.stages_out.specs.Writing.{place-after}
 use mathlib.Core.Path.{sym, ◌∙◌}
-use Rattle.stages_out.specs.RowLaws.{walked-removed, walked-kept}
+use Rattle.stages_out.proofs.RowLaws.{walked-removed, walked-kept}
 use native.Mathlib.Omega.{arith}
 use Rattle.stages_out.proofs.put_walked.Goals as goal
 

@@ -1,5 +1,5 @@
 use Rattle.stages_out.specs.Rows.{walkRows}
-use Rattle.stages_out.specs.RowLaws.{walkedRow, walked-short, walked-rows}
+use Rattle.stages_out.proofs.RowLaws.{walkedRow, walked-short, walked-rows}
 use Rattle.stages_out.specs.Writing.{rowed-start, rowed-step, wrote-same}
 use native.Mathlib.Omega.{arith}
 use Rattle.stages_out.proofs.put_walks.Goals as goal

@@ -1,4 +1,4 @@
-use Rattle.stages_out.specs.RowLaws.{walkedRow}
+use Rattle.stages_out.proofs.RowLaws.{walkedRow}
 use Prim.Native.Nat.{◌-◌, ◌≤◌}
 use lib.ListN.{length}
 use Rattle.stages_out.specs.Writing.{Rowed}

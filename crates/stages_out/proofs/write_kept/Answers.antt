@@ -1,6 +1,6 @@
 use Prim.Native.Nat.{◌*◌}
 use Rattle.stages_out.specs.Rows.{keptRows}
-use Rattle.stages_out.specs.RowLaws.{kept-rows-length}
+use Rattle.stages_out.proofs.RowLaws.{kept-rows-length}
 use Rattle.stages_out.specs.Writing.{staged-written, staged-short}
 use native.Mathlib.Omega.{arith}
 use Rattle.stages_out.proofs.write_kept.Goals as goal

@@ -2,7 +2,7 @@ use Rattle.walk.specs.Walks.{loopsIn}
 use Rattle.uses.specs.Table.{usesIn}
 use Prim.Native.Nat.{◌+◌, ◌*◌}
 use Rattle.stages_out.specs.Rows.{roundRows}
-use Rattle.stages_out.specs.RowLaws.{round-rows-length}
+use Rattle.stages_out.proofs.RowLaws.{round-rows-length}
 use Rattle.stages_out.specs.Writing.{staged-written, staged-short}
 use native.Mathlib.Omega.{arith}
 use Rattle.stages_out.proofs.write_loops.Goals as goal

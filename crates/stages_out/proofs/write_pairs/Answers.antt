@@ -1,7 +1,7 @@
 use lib.ListN.{length}
 use Prim.Native.Nat.{◌*◌}
 use Rattle.stages_out.specs.Rows.{pairRows}
-use Rattle.stages_out.specs.RowLaws.{pair-rows-length}
+use Rattle.stages_out.proofs.RowLaws.{pair-rows-length}
 use Rattle.stages_out.specs.Writing.{staged-written, staged-short}
 use native.Mathlib.Omega.{arith}
 use Rattle.stages_out.proofs.write_pairs.Goals as goal

@@ -2,7 +2,7 @@ use Rattle.rules.specs.Stage.{useFields}
 use mathlib.Core.List.{flat_map}
 use Rattle.uses.specs.Table.{usesIn}
 use Prim.Native.Nat.{◌*◌}
-use Rattle.stages_out.specs.RowLaws.{use-rows-length}
+use Rattle.stages_out.proofs.RowLaws.{use-rows-length}
 use Rattle.stages_out.specs.Writing.{staged-written, staged-short}
 use native.Mathlib.Omega.{arith}
 use Rattle.stages_out.proofs.write_read.Goals as goal

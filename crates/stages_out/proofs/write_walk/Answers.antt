@@ -1,6 +1,6 @@
 use Prim.Native.Nat.{◌*◌}
 use Rattle.stages_out.specs.Rows.{walkRows}
-use Rattle.stages_out.specs.RowLaws.{walked-rows-length}
+use Rattle.stages_out.proofs.RowLaws.{walked-rows-length}
 use Rattle.stages_out.specs.Writing.{staged-written, staged-short}
 use native.Mathlib.Omega.{arith}
 use Rattle.stages_out.proofs.write_walk.Goals as goal

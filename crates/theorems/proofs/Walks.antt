@@ -20,8 +20,8 @@ use Rattle.rules.specs.Sew.{Walked, walksOf}
 use Rattle.rules.specs.Stage.{keptUses}
 use Rattle.theorems.specs.Linked.{Linked}
 use Rattle.theorems.specs.Demand3.{holdsKept, reached, PassedCounted, EachOnce, OneFace, NeverBreaks, WalksHold}
-use Rattle.theorems.specs.Successors.{passes, kept-in, in-kept, over-perm, kept-entry, successor-perm, successor-group}
-use Rattle.theorems.specs.Circuits.{linked-permuted, circuits-parting, circuits-once, circuits-constant}
+use Rattle.theorems.proofs.Successors.{passes, kept-in, in-kept, over-perm, kept-entry, successor-perm, successor-group}
+use Rattle.theorems.proofs.Circuits.{linked-permuted, circuits-parting, circuits-once, circuits-constant}
 
 module _ (us : List Use) (ts : List ℕ) (m : Merged) (ks : List KeptVertexLoop) (L : Linked us ts m.removed m.groups) where
   abbrev W : Walked

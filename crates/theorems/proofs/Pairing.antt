@@ -20,12 +20,13 @@ use Rattle.rules.specs.declared.Sense.{Sense}
 use Rattle.rules.specs.declared.Sense.TheVariants.{Same, Reversed}
 use Rattle.rules.specs.declared.Use.{Use}
 use Rattle.rules.specs.Outcome.{ok, need, throughout}
-use Rattle.rules.specs.OutcomeLaws.{refuse-ok, ok-one, bind-ok, need-ok, cond-ok}
+use Rattle.rules.proofs.OutcomeLaws.{refuse-ok, ok-one, bind-ok, need-ok, cond-ok}
 use Rattle.rules.specs.Sense.{sameSense, isSame}
 use Rattle.rules.specs.Job.{unset, Answer}
 use Rattle.rules.specs.Questions.{askRadial}
 use Rattle.rules.specs.Read.{useAt, noUse}
-use Rattle.rules.specs.Pair.{onEdge, usesOfEdge, twinOf, twinned, sameUse, pairTwo, eachOnce, takePredecessor, takePredecessors, lastOf, pairRound, pairUses, pairEdge, complete, pair}
+use Rattle.rules.specs.Pair.{onEdge, usesOfEdge, twinOf, twinned, sameUse, pairTwo, eachOnce, takePredecessor}
+use Rattle.rules.specs.Pair.{takePredecessors, lastOf, pairRound, pairUses, pairEdge, complete, pair}
 use Rattle.theorems.specs.Linked.{Twins}
 
 -- the uses of an edge are uses, and of that edge

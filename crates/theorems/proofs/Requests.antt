@@ -1,5 +1,6 @@
 -- A loop request that is not refused shows at least one byte.
-use Rattle.std.specs.Prelude.{ℕ, zero, suc, ◌+◌, ◌*◌, ◌/◌, ◌%◌, ◌≤◌, ◌<◌, ◌≡◌, true, cond, List, [], ◌∷◌, length, get_or, drop, eqb, ltb}
+use Rattle.std.specs.Prelude.{ℕ, zero, suc, ◌+◌, ◌*◌, ◌/◌, ◌%◌, ◌≤◌, ◌<◌, ◌≡◌, true, cond, List, [], ◌∷◌, length}
+use Rattle.std.specs.Prelude.{get_or, drop, eqb, ltb}
 use Rattle.std.proofs.Common.{arith, sym, ap, ◌∙◌, subst, ⊎_elim, ltb-true, eqb-true}
 use Rattle.std.proofs.lemmas.Bool.{false≢true}
 use mathlib.Core.List.Memᴰ
@@ -7,16 +8,17 @@ use Rattle.lists.specs.Lists.{◌∈◌}
 use Rattle.lists.specs.Tests.{and-both}
 use Rattle.lists.specs.Membership.{getD-in}
 use Rattle.rules.specs.declared.Kind.{Kind}
-use Rattle.rules.specs.declared.Kind.TheVariants.{Unknown, Head, Vertex, EdgeRecord, FaceRecord, LoopRecord, VertexLoop, Radial, Surface, Points, Curves, Singular, Orientation, Inside}
+use Rattle.rules.specs.declared.Kind.TheVariants.{Unknown, Head, Vertex, EdgeRecord, FaceRecord, LoopRecord, VertexLoop}
+use Rattle.rules.specs.declared.Kind.TheVariants.{Radial, Surface, Points, Curves, Singular, Orientation, Inside}
 use Rattle.rules.specs.Outcome.{ok}
-use Rattle.rules.specs.OutcomeLaws.{ok-one, bind-ok, need-ok}
+use Rattle.rules.proofs.OutcomeLaws.{ok-one, bind-ok, need-ok}
 use Rattle.rules.specs.Fields.{le32}
-use Rattle.rules.specs.FieldLaws.{length-fields}
+use Rattle.rules.proofs.FieldLaws.{length-fields}
 use Rattle.rules.specs.Frame.{Frame, wholeRecord, frameAt, taking, framesFrom, frames}
 use Rattle.rules.specs.Job.{Stretch, Job}
 use Rattle.rules.specs.Kinds.{kindOf, numberOf, isLoop, rightLength}
 use Rattle.rules.specs.Load.{Loading, extended, loadRecord, loading, loaded, noStretch, requested}
-use Rattle.theorems.specs.Loading.{also-has, record-taken, loading-keeps}
+use Rattle.theorems.proofs.Loading.{also-has, record-taken, loading-keeps}
 
 -- a whole record has a field for each four bytes
 frames-sized : (most at : ℕ) (rest : List ℕ) (f : Frame) → f ∈ framesFrom most at rest → f.whole ≡ true → length f.fields ≡ f.size / 4

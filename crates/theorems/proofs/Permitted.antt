@@ -1,5 +1,6 @@
 -- What permitted fields and positions of job records give.
-use Rattle.std.specs.Prelude.{ℕ, suc, ◌/◌, ◌≤◌, ◌<◌, ◌≡◌, refl, Bool, true, ◌&&◌, cond, List, [], ◌∷◌, length, eqb, ltb, leb}
+use Rattle.std.specs.Prelude.{ℕ, suc, ◌/◌, ◌≤◌, ◌<◌, ◌≡◌, refl, Bool, true, ◌&&◌, cond, List, [], ◌∷◌, length, eqb, ltb}
+use Rattle.std.specs.Prelude.{leb}
 use Rattle.std.proofs.Common.{arith, sym, ap, ◌∙◌, subst, inl, inr, ⊎_elim, eqb-true, ltb-true, leb-true}
 use mathlib.Core.List.Memᴰ
 use Rattle.lists.specs.Lists.{◌∈◌}

@@ -2,7 +2,8 @@
 use Rattle.std.specs.Prelude.{ℕ, zero, suc, ◌≡◌, refl, true}
 use Rattle.std.proofs.Common.{arith, leb-true}
 use Rattle.rules.specs.declared.SurfaceAnswer.{SurfaceAnswer}
-use Rattle.rules.specs.declared.SurfaceAnswer.TheVariants.{Different, Agreeing, Opposed, Vanishing, Undecided as SurfaceUndecided}
+use Rattle.rules.specs.declared.SurfaceAnswer.TheVariants.{Different, Agreeing, Opposed, Vanishing}
+use Rattle.rules.specs.declared.SurfaceAnswer.TheVariants.{Undecided as SurfaceUndecided}
 use Rattle.rules.specs.declared.Verdict.{Verdict}
 use Rattle.rules.specs.declared.Verdict.TheVariants.{No, Yes, Undecided}
 use Rattle.rules.specs.Questions.{surfaceNumber, verdictNumber, isSurface, isVerdict, numbered, surfaceAnswer, verdict}

@@ -11,15 +11,12 @@ use Rattle.lists.specs.Sums.{sum-map, sum-same}
 use Rattle.lists.specs.Tests.{both-ways, equal-or-not}
 use Rattle.lists.specs.Membership.{getD-in, times-out, times-once}
 use Rattle.lists.specs.Runs.{in-below, below-in, below-nodup, length-below, getD-below}
-use Rattle.lists.specs.Members.{in-keep, keep-in, keep-nodup, keep-length, position-le, getD-map, map-same, indexOf-in, indexOf-at}
+use Rattle.lists.specs.Members.{in-keep, keep-in, keep-nodup, keep-length, position-le, getD-map, map-same, indexOf-in}
+use Rattle.lists.specs.Members.{indexOf-at}
 use Rattle.lists.specs.Counts.{keep-all}
 use Rattle.lists.specs.KeepCounts.{keep-fall}
-use Rattle.rules.specs.Groups.{alone, labelOf, moved, joined, separate, membersOf, isLowest, lowestMembers, groupNumbers}
-
--- no label lies above its number, and a label is its own label
-pub record Lowest (g : List ℕ) : Type 0 where
-  pub low : (i : ℕ) → i < length g → labelOf g i ≤ i
-  pub stands : (i : ℕ) → i < length g → labelOf g (labelOf g i) ≡ labelOf g i
+use Rattle.rules.specs.Groups.{alone, labelOf, moved, joined, separate, membersOf, isLowest, lowestMembers}
+use Rattle.rules.specs.Groups.{groupNumbers, Lowest}
 
 -- the label of a number is a number of the groups
 pub label-below : {g : List ℕ} → Lowest g → (i : ℕ) → i < length g → labelOf g i < length g

@@ -20,12 +20,14 @@ use Rattle.rules.specs.Contact.{useLabel}
 use Rattle.rules.specs.Shells.{Nested, lumpLabels}
 use Rattle.rules.specs.Sew.{Walked}
 use Rattle.theorems.specs.Demand3.{Meets, KeptUse, Settled}
-use Rattle.theorems.specs.Connected.{value-equivalence, boundaries-twin, fans-within}
-use Rattle.theorems.specs.Reading.{use-face-below}
-use Rattle.theorems.specs.Loading.{loaded-sound}
-use Rattle.theorems.specs.Merging.{merge-boundaries, merge-boundaries-length}
-use Rattle.theorems.specs.Ground.{Ground, ground, settled-uses}
-use Rattle.theorems.specs.Fanning.{twin, succ, EndedUse, ended-kept, fanLabels, succ-below, fan-lowest, fan-size}
+use Rattle.theorems.proofs.Connected.{value-equivalence, boundaries-twin, fans-within}
+use Rattle.theorems.proofs.Reading.{use-face-below}
+use Rattle.theorems.proofs.Loading.{loaded-sound}
+use Rattle.theorems.proofs.Merging.{merge-boundaries, merge-boundaries-length}
+use Rattle.theorems.specs.Ground.{Ground}
+use Rattle.theorems.proofs.Ground.{ground, settled-uses}
+use Rattle.theorems.specs.Fanning.{twin, succ, EndedUse, fanLabels}
+use Rattle.theorems.proofs.Fanning.{ended-kept, succ-below, fan-lowest, fan-size}
 
 module _ (t : Table) (job : List ℕ) (j : Job) (w : Walked) (l : loaded job ≡ ok j) (s : Settled t j w) where
   abbrev G : Ground j w

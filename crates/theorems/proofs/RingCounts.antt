@@ -12,18 +12,20 @@ use Rattle.lists.specs.KeepCounts.{keep-none, keep-cons}
 use Rattle.lists.specs.Tables.{set-each, set-two}
 use Rattle.rules.specs.declared.EdgeData.{EdgeData}
 use Rattle.rules.specs.Job.{unset, Answer}
-use Rattle.rules.specs.Join.{Joining, noEdgeData, edgeDataAt, farEnd, joinedEdge, retired, ringOf, joinEdges, joinAt, ringAt, maximalEdges}
+use Rattle.rules.specs.Join.{Joining, noEdgeData, edgeDataAt, farEnd, joinedEdge, retired, ringOf, joinEdges, joinAt}
+use Rattle.rules.specs.Join.{ringAt, maximalEdges}
 use Rattle.rules.specs.Outcome.{ok}
 use Rattle.rules.specs.Sew.{Fanned}
 use Rattle.theorems.specs.Demand3.{Change, Run, isRing, ringsOf, isActiveRing, activeRings}
 use Rattle.theorems.specs.Linked.{NoEnds, RingOrFans, EndsAreFans}
-use Rattle.theorems.specs.Ends.{endsOne, one-at-other, active-ends, ends-active, TwoEdges, OneEdge, two-edges, one-edge}
-use Rattle.theorems.specs.Changes.{Made, ring-is, join-is, joining-keeps}
-use Rattle.theorems.specs.Corners.{join-sum}
-use Rattle.theorems.specs.ChangeRuns.{Steps, run-steps}
-use Rattle.theorems.specs.EdgesAfter.{first-in, apart-edges, old-edge, new-edge, no-edge}
-
--- ONE EDGE
+use Rattle.theorems.specs.Ends.{endsOne, TwoEdges, OneEdge}
+use Rattle.theorems.proofs.Ends.{one-at-other, active-ends, ends-active, two-edges, one-edge}
+use Rattle.theorems.specs.Changes.{Made}
+use Rattle.theorems.proofs.Changes.{ring-is, join-is, joining-keeps}
+use Rattle.theorems.proofs.Corners.{join-sum}
+use Rattle.theorems.specs.ChangeRuns.{Steps}
+use Rattle.theorems.proofs.ChangeRuns.{run-steps}
+use Rattle.theorems.proofs.EdgesAfter.{first-in, apart-edges, old-edge, new-edge, no-edge}
 
 -- 1 for an active ring
 abbrev ringOne : EdgeData → ℕ

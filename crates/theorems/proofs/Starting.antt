@@ -27,9 +27,10 @@ use Rattle.rules.specs.Join.{noEdgeData, edgeDataAt}
 use Rattle.rules.specs.Sew.{Walked, fansOf, unjoined}
 use Rattle.theorems.specs.Linked.{RingOrFans, EndsAreFans, Trail, isItem, itemTimes, LoopsSound}
 use Rattle.theorems.specs.Demand3.{KeptUse, Closes}
-use Rattle.rules.specs.SenseLaws.{tested-sense, sense-tested}
+use Rattle.rules.proofs.SenseLaws.{tested-sense, sense-tested}
 use Rattle.theorems.specs.Ground.{onRing, Ground}
-use Rattle.theorems.specs.Fanning.{twin, succ, kept-ended, ring-twin, succ-kept, twin-kept, fanLabels, fanList, FansHold}
+use Rattle.theorems.specs.Fanning.{twin, succ, fanLabels, fanList, FansHold}
+use Rattle.theorems.proofs.Fanning.{kept-ended, ring-twin, succ-kept, twin-kept}
 use Rattle.theorems.specs.Edging.{firstEdges, item, fanAt, EdgesHold}
 
 -- ENDS

@@ -1,10 +1,10 @@
 -- Laws of fields: a field at a place, the fields and items from a place on, one at a time.
 use Rattle.std.specs.Prelude.{ℕ, zero, suc, ◌+◌, ◌*◌, ◌-◌, ◌/◌, ◌<◌, ◌≤◌, ◌≡◌, refl, List, [], ◌∷◌, length, drop}
-use Rattle.std.proofs.Common.{not-suc-le-zero, le_of_suc-le-suc, add_assoc, add-zero, sub-one, arith, sym, ap, ◌∙◌, get_or-drop, drop-drop}
+use Rattle.std.proofs.Common.{not-suc-le-zero, le_of_suc-le-suc, add_assoc, add-zero, sub-one, arith, sym, ap, ◌∙◌}
+use Rattle.std.proofs.Common.{get_or-drop, drop-drop}
 use Rattle.rules.specs.declared.Item.{Item}
-use Rattle.rules.specs.Sense.{senseOf}
 use Rattle.rules.specs.Fields.{le16, le32, fieldsIn, field}
-use Rattle.rules.specs.Job.{itemsOf}
+use Rattle.rules.specs.Job.{itemsOf, itemAt, itemsFrom}
 
 -- a field of the bytes from a place on
 pub le16-drop : (n : ℕ) (s : List ℕ) (p : ℕ) → le16 (drop n s) p ≡ le16 s (n + p)
@@ -33,14 +33,6 @@ pub field-in : (n : ℕ) (s : List ℕ) (p i : ℕ) → i < n → field (fieldsI
 field-in zero s p i h = absurd (not-suc-le-zero h)
 field-in (suc n) s p zero h = ap (λ l. field l 0) (fields-first n s p) ∙ ap (le32 s) (omega arith)
 field-in (suc n) s p (suc i) h = ap (λ l. field l (suc i)) (fields-first n s p) ∙ field-in n s (p + 4) i (le_of_suc-le-suc h) ∙ ap (le32 s) (omega arith)
-
--- the item whose two fields stand at a place
-abbrev pub itemAt : List ℕ → ℕ → Item
-itemAt s p = record { edge = le32 s p; sense = senseOf (le32 s (p + 4)) }
-
--- the items from a place on, so many
-abbrev pub itemsFrom : List ℕ → ℕ → ℕ → List Item
-itemsFrom s p m = itemsOf (fieldsIn (2 * m) (drop p s))
 
 two-fields : (n : ℕ) (s : List ℕ) (p : ℕ) → fieldsIn (suc (suc n)) (drop p s) ≡ le32 s p ∷ le32 s (p + 4) ∷ fieldsIn n (drop (p + 8) s)
 two-fields n s p =

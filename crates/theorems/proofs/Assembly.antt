@@ -15,17 +15,24 @@ use Rattle.rules.specs.Join.{Joining, maximalEdges}
 use Rattle.rules.specs.Shells.{Nested}
 use Rattle.rules.specs.Body.{Body, emptyBody, bodyKind, bodyRecords}
 use Rattle.rules.specs.Sew.{Walked, Fanned, fansOf, unjoined, Joined, throughJoining, totalsOf, bodyOf, sewn}
-use Rattle.theorems.specs.Demand3.{holdsKept, reached, passedSum, WalksHold, Change, Run, ringsOf, joinsOf, Reports, withTable, Settled, JoiningHolds, Demand3}
-use Rattle.theorems.specs.Loading.{no-face-no-use, faces-few}
-use Rattle.theorems.specs.ChangeRuns.{runs-to-end, run-few, run-counts}
-use Rattle.theorems.specs.Balance.{run-balance}
-use Rattle.theorems.specs.RingCounts.{run-rings}
-use Rattle.theorems.specs.LoopRuns.{SoundLoops, run-places}
-use Rattle.theorems.specs.Ground.{Ground, ground, settled-walked, settled-uses}
-use Rattle.theorems.specs.Fanning.{FansHold, fans-hold}
-use Rattle.theorems.specs.Edging.{EdgesHold, edges-hold}
-use Rattle.theorems.specs.Starting.{starts-at-fans, starts-sound}
-use Rattle.theorems.specs.Reporting.{Small, Begins, read-back, sewn-body, rebuild-cases, first-record, body-totals, through-joined, none-joined, passed-total}
+use Rattle.theorems.specs.Demand3.{holdsKept, reached, passedSum, WalksHold, Change, Run, ringsOf, joinsOf, Reports}
+use Rattle.theorems.specs.Demand3.{withTable, Settled, JoiningHolds, Demand3}
+use Rattle.theorems.proofs.Loading.{no-face-no-use, faces-few}
+use Rattle.theorems.proofs.ChangeRuns.{runs-to-end, run-few, run-counts}
+use Rattle.theorems.proofs.Balance.{run-balance}
+use Rattle.theorems.proofs.RingCounts.{run-rings}
+use Rattle.theorems.specs.LoopRuns.{SoundLoops}
+use Rattle.theorems.proofs.LoopRuns.{run-places}
+use Rattle.theorems.specs.Ground.{Ground}
+use Rattle.theorems.proofs.Ground.{ground, settled-walked, settled-uses}
+use Rattle.theorems.specs.Fanning.{FansHold}
+use Rattle.theorems.proofs.Fanning.{fans-hold}
+use Rattle.theorems.specs.Edging.{EdgesHold}
+use Rattle.theorems.proofs.Edging.{edges-hold}
+use Rattle.theorems.proofs.Starting.{starts-at-fans, starts-sound}
+use Rattle.theorems.specs.Reporting.{Small, Begins}
+use Rattle.theorems.proofs.Reporting.{read-back, sewn-body, rebuild-cases, first-record, body-totals}
+use Rattle.theorems.proofs.Reporting.{through-joined, none-joined, passed-total}
 
 -- the sum of the passed counts is at most the number of uses
 passed-few : (w : Walked) → WalksHold w → passedSum w ≤ length w.uses

@@ -1,6 +1,7 @@
 -- A change takes two active edge ends from its corner and none from elsewhere: so it takes one corner away, and a join takes one active edge.
 use Rattle.std.specs.Prelude.{◌≡◌, refl, Bool, true, false, length, set, eqb, ltb}
-use Rattle.std.proofs.Common.{sym, ◌∙◌, inl, inr, ⊎_elim, arith, length-set, get_or-set_other, eq-eqb, ne_eqb, lt-ltb, le-ltb}
+use Rattle.std.proofs.Common.{sym, ◌∙◌, inl, inr, ⊎_elim, arith, length-set, get_or-set_other, eq-eqb, ne_eqb, lt-ltb}
+use Rattle.std.proofs.Common.{le-ltb}
 use Rattle.std.proofs.Math.Path.{ap}
 use Rattle.std.proofs.Math.Bool.{cond}
 use mathlib.Core.List.{List, [], ◌∷◌}
@@ -11,8 +12,11 @@ use Rattle.lists.specs.Sums.{sum-append, sum-one, sum-set, keep-sum}
 use Rattle.lists.specs.KeepCounts.{keep-fall}
 use Rattle.rules.specs.declared.EdgeData.{EdgeData}
 use Rattle.rules.specs.Job.{unset}
-use Rattle.rules.specs.Join.{Joining, noEdgeData, edgeDataAt, endsAt, isCorner, corners, activeEdges, twoEnds, farEnd, joinedEdge, retired, ringOf, joinEdges, joinAt, ringAt}
-use Rattle.theorems.specs.Ends.{activeOne, oneAt, one-at-same, one-at-other, endsOne, active-ends, idle-ends, ends-active, one-end, two-ends, ends-sum, TwoEdges, OneEdge, two-edges, one-edge}
+use Rattle.rules.specs.Join.{Joining, noEdgeData, edgeDataAt, endsAt, isCorner, corners, activeEdges, twoEnds, farEnd}
+use Rattle.rules.specs.Join.{joinedEdge, retired, ringOf, joinEdges, joinAt, ringAt}
+use Rattle.theorems.specs.Ends.{activeOne, oneAt, endsOne, TwoEdges, OneEdge}
+use Rattle.theorems.proofs.Ends.{one-at-same, one-at-other, active-ends, idle-ends}
+use Rattle.theorems.proofs.Ends.{ends-active, one-end, two-ends, ends-sum, two-edges, one-edge}
 use Rattle.theorems.specs.Changes.{AsRing, AsJoin, Made}
 
 -- ENDS OF ONE EDGE

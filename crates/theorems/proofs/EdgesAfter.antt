@@ -10,8 +10,10 @@ use Rattle.rules.specs.declared.Sense.{Sense}
 use Rattle.rules.specs.declared.Sense.TheVariants.{Same, Reversed}
 use Rattle.rules.specs.declared.Item.{Item}
 use Rattle.rules.specs.declared.EdgeData.{EdgeData}
-use Rattle.rules.specs.Join.{noEdgeData, edgeDataAt, startFan, endFan, itemStart, itemEnd, joinedEdge, retired, joinEdges}
-use Rattle.theorems.specs.Ends.{activeOne, oneAt, one-at-same, one-at-other, ends-active, TwoEdges}
+use Rattle.rules.specs.Join.{noEdgeData, edgeDataAt, startFan, endFan, itemStart, itemEnd, joinedEdge, retired}
+use Rattle.rules.specs.Join.{joinEdges}
+use Rattle.theorems.specs.Ends.{activeOne, oneAt, TwoEdges}
+use Rattle.theorems.proofs.Ends.{one-at-same, one-at-other, ends-active}
 
 -- an active edge exists
 pub active-inside : (es : List EdgeData) (e : ℕ) → (edgeDataAt es e).active ≡ true → e < length es

@@ -23,6 +23,7 @@ use Rattle.rules.specs.Stage.{useFields, keptUses}
 use Rattle.fields.specs.Wrote.{Wrote}
 use Rattle.walk.specs.Walks.{loopIn, loopsIn, Following}
 use Rattle.stages_out.specs.Rows.{walkRow, walkRows, pairRow, pairRows, keptRow, keptRows, roundRow, roundRows, endOf}
+use Rattle.stages_out.specs.Rows.{useRow}
 use Rattle.uses.specs.Table.{Records}
 use Rattle.stages_out.specs.Writing.{Rowed, wrote-one, wrote-both, wrote-same, wrote-nothing}
 
@@ -34,9 +35,6 @@ pub two-same : (before after : List ℕ) (at a b x y q : ℕ) → a ≡ x → b 
 two-same before after at a b x y q e g w = wrote-same (a ∷ b ∷ []) (x ∷ y ∷ []) before after at q (λ t. e t ∷ g t ∷ []) w
 
 -- READ
-
-abbrev pub useRow : List Use → ℕ → List ℕ
-useRow us h = useFields (useAt us h)
 
 pub use-fields : (u : Use) (before mid after : List ℕ) (at p q a b c d : ℕ) → a ≡ u.edge → b ≡ u.face → c ≡ senseNumber u.sense → d ≡ u.next
     → Wrote before at (fieldBytes (a ∷ b ∷ [])) mid p → Wrote mid p (fieldBytes (c ∷ d ∷ [])) after q → Wrote before at (fieldBytes (useFields u)) after q

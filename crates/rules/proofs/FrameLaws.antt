@@ -1,13 +1,15 @@
 -- Laws of frames: the records from a place on without the bound, and what a record that is whole takes and holds.
-use Rattle.std.specs.Prelude.{ℕ, zero, suc, ◌+◌, ◌*◌, ◌/◌, ◌<◌, ◌≤◌, ◌≡◌, refl, List, [], ◌∷◌, Bool, true, false, cond, length, drop, leb}
-use Rattle.std.proofs.Common.{not-suc-le-zero, le_refl, arith, sym, ap, ◌∙◌, subst, ⊎_elim, length-drop, drop_of_length-le, drop-drop, leb-true, le-leb}
+use Rattle.std.specs.Prelude.{ℕ, zero, suc, ◌+◌, ◌*◌, ◌/◌, ◌<◌, ◌≤◌, ◌≡◌, refl, List, [], ◌∷◌, Bool, true, false, cond}
+use Rattle.std.specs.Prelude.{length, drop, leb}
+use Rattle.std.proofs.Common.{not-suc-le-zero, le_refl, arith, sym, ap, ◌∙◌, subst, ⊎_elim, length-drop}
+use Rattle.std.proofs.Common.{drop_of_length-le, drop-drop, leb-true, le-leb}
 use mathlib.Core.List.Memᴰ
 use Rattle.std.proofs.lemmas.Bool.{lt-leb}
 use Rattle.lists.specs.Lists.{◌∈◌}
 use Rattle.lists.specs.Tests.{and-both}
 use Rattle.rules.specs.Fields.{le16, le32, fieldsIn}
-use Rattle.rules.specs.Frame.{Frame, wholeRecord, frameAt, taking, framesFrom}
-use Rattle.rules.specs.FieldLaws.{le16-drop, le32-here, length-fields}
+use Rattle.rules.specs.Frame.{Frame, wholeRecord, frameAt, taking, framesFrom, framesOf}
+use Rattle.rules.proofs.FieldLaws.{le16-drop, le32-here, length-fields}
 
 -- a record takes a byte at least
 taking-some : (b : ℕ) (bs : List ℕ) → 1 ≤ taking (b ∷ bs)
@@ -32,10 +34,6 @@ enough (suc n) (suc m) at (b ∷ bs) h k =
     (enough n m (at + taking (b ∷ bs)) (drop (taking (b ∷ bs)) (b ∷ bs))
     (omega (arith, length-drop (taking (b ∷ bs)) (b ∷ bs), taking-some b bs))
     (omega (arith, length-drop (taking (b ∷ bs)) (b ∷ bs), taking-some b bs)))
-
--- the records of the bytes from a place on
-abbrev pub framesOf : ℕ → List ℕ → List Frame
-framesOf at rest = framesFrom (length rest) at rest
 
 frames-more : (at : ℕ) (rest : List ℕ) → 0 < length rest → framesOf at rest ≡ frameAt at rest ∷ framesOf (at + taking rest) (drop (taking rest) rest)
 unfolding framesFrom

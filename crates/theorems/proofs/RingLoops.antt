@@ -15,8 +15,10 @@ use Rattle.rules.specs.declared.EdgeData.{EdgeData}
 use Rattle.rules.specs.Job.{unset}
 use Rattle.rules.specs.Join.{noEdgeData, edgeDataAt, startFan, endFan, itemStart, itemEnd, turned, ringOf}
 use Rattle.theorems.specs.Linked.{itemTimes, LoopsSound}
-use Rattle.theorems.specs.Ends.{two-ends, OneEdge}
-use Rattle.theorems.specs.Trails.{edgeTimes, start-counts, Closed, closed-unturned, closed-next, closed-same, LoopSound, loop-sound}
+use Rattle.theorems.proofs.Ends.{two-ends}
+use Rattle.theorems.specs.Ends.{OneEdge}
+use Rattle.theorems.specs.Trails.{edgeTimes, Closed, LoopSound}
+use Rattle.theorems.proofs.Trails.{start-counts, closed-unturned, closed-next, closed-same, loop-sound}
 
 module _ (es : List EdgeData) (v a : ℕ) (k : OneEdge es v a) where
   abbrev ringed : List EdgeData

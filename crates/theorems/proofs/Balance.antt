@@ -8,9 +8,11 @@ use Rattle.rules.specs.Job.{unset, Answer}
 use Rattle.rules.specs.Join.{Joining, corners, activeEdges, cornersLessEdges}
 use Rattle.rules.specs.Sew.{Fanned}
 use Rattle.theorems.specs.Demand3.{Change, Run, isRing, ringsOf}
-use Rattle.theorems.specs.Changes.{Made, ring-is, join-is}
-use Rattle.theorems.specs.Corners.{corners-fall, ring-edges, join-edges}
-use Rattle.theorems.specs.ChangeRuns.{Steps, run-steps}
+use Rattle.theorems.specs.Changes.{Made}
+use Rattle.theorems.proofs.Changes.{ring-is, join-is}
+use Rattle.theorems.proofs.Corners.{corners-fall, ring-edges, join-edges}
+use Rattle.theorems.specs.ChangeRuns.{Steps}
+use Rattle.theorems.proofs.ChangeRuns.{run-steps}
 
 abbrev cornerCount : Joining → List ℕ → ℕ
 cornerCount s names = length (corners s.edges names)

@@ -1,0 +1,6 @@
+pub mod OutcomeLaws
+pub mod FieldLaws
+pub mod FrameLaws
+pub mod QuestionLaws
+pub mod GroupLaws
+pub mod SenseLaws
