@@ -25,25 +25,20 @@ const ROWS: usize = 24;
 
 const HEAD: &str = "\
 -- Jobs of every class and ending with the judge's answers. Written by `judge table`.
-use mathlib.Core.Path.{_≡_, refl}
-use mathlib.Core.List.{List, [], _∷_}
-use mathlib.Core.Bool.{Bool, true, false, not, _&&_, cond}
-use Prim.Native.Nat.{ℕ}
-use lib.Dec.{eqb}
-use lib.ListN.{replicate}
-use Rattle·lists.specs.Lists.{positions, same}
-use Rattle·rules·specs.specs.Outcome.{Outcome, ok, refuse}
-use Rattle·rules·specs.specs.Rules.{ordinary}
-use Rattle·rules·specs.specs.Sew.{sewn}
-use Rattle·rules·specs.specs.Stage.{readStage, pairStage, mergeStage, vertexLoopStage, walkStage, loopStage, fanStage, edgeStage, joiningStage, shellStage, lumpStage}
-use Rattle·rules·specs.specs.Open.{computes}
+use Rattle.std.specs.Prelude.{◌≡◌, refl, List, [], ◌∷◌, Bool, true, false, not, ◌&&◌, cond, ℕ, eqb, replicate}
+use Rattle.lists.specs.Lists.{positions, same}
+use Rattle.rules.specs.Outcome.{Outcome, ok, refuse}
+use Rattle.rules.specs.Rules.{ordinary}
+use Rattle.rules.specs.Sew.{sewn}
+use Rattle.rules.specs.Stage.{readStage, pairStage, mergeStage, vertexLoopStage, walkStage, loopStage, fanStage, edgeStage, joiningStage, shellStage, lumpStage}
+use Rattle.rules.specs.Open.{computes}
 
 -- a job, the operation (0 sewing, 1 to 11 the stages), the room, the answer
-record Row : Type 0 where
-  job : List ℕ
-  operation : ℕ
-  room : ℕ
-  answer : Outcome (List ℕ)
+pub record Row : Type 0 where
+  pub job : List ℕ
+  pub operation : ℕ
+  pub room : ℕ
+  pub answer : Outcome (List ℕ)
 
 abbrev agrees : Outcome (List ℕ) → Outcome (List ℕ) → Bool
 agrees (ok a) (ok b) = same a b
@@ -51,7 +46,7 @@ agrees (ok a) (refuse n p) = false
 agrees (refuse n p) (ok b) = false
 agrees (refuse n p) (refuse m q) = eqb n m && eqb p q
 
-stages : ℕ → List ℕ → ℕ → Outcome (List ℕ)
+unfoldable stages : ℕ → List ℕ → ℕ → Outcome (List ℕ)
 stages o job room =
     cond (eqb o 1) (readStage job room)
     (cond (eqb o 2) (pairStage job room)
@@ -66,8 +61,8 @@ stages o job room =
     (cond (eqb o 11) (lumpStage ordinary job room)
     (sewn ordinary job room)))))))))))
 
-wrong : Row → Bool
-wrong r = not (agrees (stages (r .operation) (r .job) (r .room)) (r .answer))
+unfoldable wrong : Row → Bool
+wrong r = not (agrees (stages r.operation r.job r.room) r.answer)
 ";
 
 struct Row {
@@ -193,7 +188,7 @@ fn list(bytes: &[u8]) -> String {
 fn module(rows: &[Row]) -> String {
     let mut text = HEAD.to_string();
     for (i, chunk) in rows.chunks(ROWS).enumerate() {
-        let _ = write!(text, "\ntable{i} : List Row\ntable{i} =\n");
+        let _ = write!(text, "\nunfoldable table{i} : List Row\ntable{i} =\n");
         for row in chunk {
             let answer = match &row.answer {
                 Ok(bytes) => format!("ok ({})", list(bytes)),

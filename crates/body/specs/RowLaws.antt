@@ -1,17 +1,16 @@
 -- Laws of the records of edges, loops and faces: one as the code writes it, and all of them.
 use Prim.Native.Nat.{ℕ, zero, suc, ◌+◌, ◌*◌, ◌-◌, ◌/◌, ◌%◌, ◌<◌, ◌≤◌}
-use Rattle.std.proofs.Common.{arith, subst, ◌∙◌, eq-eqb, ne_eqb}
+use Rattle.std.proofs.Common.{arith, ◌∙◌, eq-eqb, ne_eqb}
 use Rattle.std.specs.Prelude.{◌≡◌, Bool, true, false, length, get_or, drop, eqb}
 use Rattle.std.proofs.Math.Path.{refl, sym, ap}
-use mathlib.Core.List.{List, [], ◌∷◌, ◌++◌, flat_map}
+use mathlib.Core.List.{List, [], ◌∷◌, ◌++◌, map, flat_map}
 use Rattle.std.proofs.Math.ListN.{take}
-use Rattle.lists.specs.Lists.{◌∈◌, below}
-use Rattle.lists.specs.Membership.{getD-in}
+use Rattle.lists.specs.Lists.{below}
 use Rattle.lists.specs.Members.{flatMap-append}
 use Rattle.lists.specs.Rows.{flatMap-places, flatMap-even, flatMap-map, flatMap-keep}
 use Rattle.lists.specs.Tests.{cond-true, cond-false}
 use Rattle.lists.specs.Stretches.{length-stretch}
-use Rattle.lists.specs.Runs.{getD-table}
+use Rattle.std.proofs.lemmas.List.{length-map}
 use Rattle.rules.specs.declared.EdgeData.{EdgeData}
 use Rattle.rules.specs.declared.Face.{Face}
 use Rattle.rules.specs.declared.Sense.{Sense}
@@ -21,16 +20,14 @@ use Rattle.rules.specs.Frame.{framed}
 use Rattle.rules.specs.Job.{faceAt}
 use Rattle.rules.specs.Read.{storedSense}
 use Rattle.rules.specs.Join.{edgeDataAt, noEdgeData}
-use Rattle.rules.specs.Groups.{labelOf, membersOf, lowestMembers}
-use Rattle.rules.proofs.GroupLaws.{lowestMembers-in}
+use Rattle.rules.specs.Groups.{labelOf, membersOf}
 use Rattle.rules.specs.Body.{rec, memberAt, memberFields}
 use Rattle.fields.specs.Wrote.{Wrote, wrote-more}
-use Rattle.fields.specs.Tabled.{length-field-bytes}
 use Rattle.stages_out.specs.Writing.{wrote-both}
 use Rattle.edges.specs.Table.{loopAt}
 use Rattle.body.specs.Numbers.{numberOf, vertexIn}
-use Rattle.members.specs.Chain.{nextMember, next-after, next-within, next-own, next-between}
-use Rattle.body.specs.Sized.{Chained, Leading}
+use Rattle.members.specs.Chain.{nextMember, next-after}
+use Rattle.members.specs.Group.{Chained, Leading, none-before, none-between}
 use Rattle.body.specs.Writing.{Rowed, rowed-start, rowed-step, rowed-skip, wrote-as, wrote-if, wrote-not, wrote-record}
 use Rattle.body.specs.Rows.{edgeRow, itemRow, loopRow, loopRows, vertexLoopRow, vertexLoopRows, faceHead, memberRow, memberRows, groupRecord, faceRow}
 
@@ -157,32 +154,24 @@ module _ (fs : List Face) (groups : List ℕ) (m : ℕ) where
       ∙ sym (ap fieldBytes (flatMap-map memberFields (memberAt fs) (membersOf groups m) ∙ flatMap-keep (λ i. memberFields (memberAt fs i)) own (below (length groups)))
       ∙ flatMap-flatMap bytes32 (memberRow fs groups m) (below (length groups)))
 
-  -- the record's header has the size that the members take where there is no room
-  pub members-wrote : (before mid after : List ℕ) (at p q size : ℕ) → size ≡ 0 + length (fieldBytes (memberRows fs groups m)) → Wrote before at (bytes32 (4 * (size / 4)) ++ bytes16 29) mid p
+  -- two fields for each member
+  pub members-wrote : (before mid after : List ℕ) (at p q size : ℕ) → size ≡ length (membersOf groups m) → Wrote before at (bytes32 (4 * (2 * size)) ++ bytes16 29) mid p
       → Wrote mid p (fieldBytes (memberRows fs groups m)) after q → Wrote before at (framed (groupRecord fs groups m)) after q
   members-wrote before mid after at p q size e u w =
-      wrote-record (memberRows fs groups m) before mid after at p q 29 (size / 4) (omega (arith, e, length-field-bytes (memberRows fs groups m))) u w
-
--- a merged face's label leads its group
-pub leading-at : (groups members : List ℕ) (f m : ℕ) → members ≡ lowestMembers groups → f < length members → m ≡ get_or members f 0 → Leading groups m
-leading-at groups members f m own h e =
-    let r = lowestMembers-in groups m (subst (λ l. m ∈ l) own (subst (λ x. x ∈ members) (sym e) (getD-in members f 0 h))) in
-    record { inside = r.0; own = r.1 }
+      let two : length (memberRows fs groups m) ≡ 2 * length (membersOf groups m) =
+      flatMap-even memberFields 2 (map (memberAt fs) (membersOf groups m)) (λ x. refl) ∙ ap (λ n. 2 * n) (length-map (membersOf groups m) (memberAt fs)) in
+      wrote-record (memberRows fs groups m) before mid after at p q 29 (2 * size) (ap (λ n. 2 * n) e ∙ sym two) u w
 
 -- along the chain of a group
 module _ (fs : List Face) (groups next : List ℕ) (m : ℕ) (C : Chained groups next) (L : Leading groups m) where
   abbrev row : ℕ → List ℕ
   row i = fieldBytes (memberRow fs groups m i)
 
-  -- what stands in the chain at i
-  pub chain-at : (i j : ℕ) → i < length groups → j ≡ get_or next i 0 → j ≡ nextMember groups i
-  chain-at i j h e = e ∙ ap (λ t. get_or t i 0) C.nexts ∙ getD-table (nextMember groups) (length groups) i 0 h
-
   -- no number before the lowest is of the group
   pub group-start : (before : List ℕ) (at : ℕ) → Rowed row 8 before at before at m
   group-start before at =
       rowed-skip row 8 before at before at 0 m (rowed-start row 8 before at) (omega arith)
-      (λ k low high. member-none fs groups m k (λ e. absurd (omega (arith, high, e, C.lowest.low k (omega (arith, high, L.inside))))))
+      (λ k low high. member-none fs groups m k (none-before groups next m C L k high))
 
   -- one member more, then on to the next
   pub group-step : (before mid after : List ℕ) (at p i j q : ℕ) → i < length groups → labelOf groups i ≡ m → j ≡ nextMember groups i → Rowed row 8 before at mid p i
@@ -191,15 +180,7 @@ module _ (fs : List Face) (groups next : List ℕ) (m : ℕ) (C : Chained groups
       rowed-skip row 8 before at after q (i + 1) j
       (rowed-step row 8 before at mid after p i q R (wrote-as (fieldBytes (memberFields (memberAt fs i))) (row i) mid after p q (member-row fs groups m i own) w) few)
       (omega (arith, e, next-after groups i))
-      (λ k low high. member-none fs groups m k (λ o. next-between groups i k (omega (arith, low)) (omega (arith, high, e)) (o ∙ sym own)))
-
-  -- the next is a number of the group, or past the last number
-  pub group-next : (i j : ℕ) → i < length groups → labelOf groups i ≡ m → j ≡ nextMember groups i → (i < j) × (j ≤ length groups) × (j < length groups → labelOf groups j ≡ m)
-  group-next i j h own e = (
-    omega (arith, e, next-after groups i),
-    omega (arith, e, next-within groups i h),
-    λ few. ap (labelOf groups) e ∙ next-own groups i h (omega (arith, e, few)) ∙ own,
-  )
+      (λ k low high. member-none fs groups m k (none-between groups next m C L i j k own e (omega (arith, low)) high))
 
 module _ (fs : List Face) (groups items stretches faces members kept : List ℕ) (k : ℕ) (t : List ℕ) (count : ℕ) where
   -- merged face f, its members, its loops, its vertex loops

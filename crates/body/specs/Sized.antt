@@ -1,10 +1,8 @@
 -- The sizes of what a body is written from.
-use Rattle.std.specs.Prelude.{ℕ, ◌*◌, ◌≤◌, ◌<◌, ◌≡◌, List, map, length}
+use Rattle.std.specs.Prelude.{ℕ, ◌*◌, ◌≤◌, ◌≡◌, List, length}
 use Rattle.std.proofs.Common.{arith, sym, subst}
-use Rattle.lists.specs.Lists.{below}
 use Rattle.rules.specs.declared.Counts.{Counts}
-use Rattle.rules.specs.Groups.{labelOf, lowestMembers, Lowest}
-use Rattle.members.specs.Chain.{nextMember}
+use Rattle.rules.specs.Groups.{lowestMembers, Lowest}
 use Rattle.edges.specs.Table.{rowsIn, Laid}
 use Rattle.body.specs.Vertices.{EndsOk}
 
@@ -14,17 +12,6 @@ pub record LoopsSized (items stretches faces : List ℕ) : Type 0 where
   pub few-items : length items ≤ 2048
   pub few : length faces ≤ 2048
   pub room : 2 * length faces ≤ length stretches
-
--- groups by lowest member, and each number's next of its group
-pub record Chained (groups next : List ℕ) : Type 0 where
-  pub few : length groups ≤ 256
-  pub lowest : Lowest groups
-  pub nexts : next ≡ map (nextMember groups) (below (length groups))
-
--- the lowest member of a group
-pub record Leading (groups : List ℕ) (m : ℕ) : Type 0 where
-  pub inside : m < length groups
-  pub own : labelOf groups m ≡ m
 
 -- the tables of a body of k kept vertex loops and n shells, with room for the numbers of edges and vertices
 pub record BodySized (c : Counts) (groups rows items stretches faces members : List ℕ) (k n : ℕ) (numbers vertices : List ℕ) : Type 0 where

@@ -20,11 +20,12 @@ ghost use Rattle.shells.specs.Table.{nestedIn};
 ghost use Rattle.body.specs.Numbers.{Blank, Numbering, numberOf, vertexIn};
 ghost use Rattle.body.specs.Vertices.{EndOk, EndsOk, Meeting, metBelow, activeBelow};
 ghost use Rattle.body.specs.Rows.{totalsIn, vertexAndEdgeBytes, edgeRow, itemRow, loopRow, loopRows, vertexLoopRow, vertexLoopRows, faceHead, memberRows, shellFaceRow, voidRow, voidRows, lumpRow};
-ghost use Rattle.body.specs.Sized.{LoopsSized, Chained, Leading, BodySized};
+ghost use Rattle.body.specs.Sized.{LoopsSized, BodySized};
+ghost use Rattle.members.specs.Group.{Chained, Leading};
 
 use edges::{edge_active, edge_at, edge_end, edge_start};
 use fields::{UNSET, get, put, put_head, put_word};
-use members::chain;
+use members::{chain, group_size};
 use rules::{Counts, Ending};
 use shells::{shell_boundary, shell_home, shell_outer};
 
@@ -387,7 +388,7 @@ fn put_group(
     p
 }
 
-// Kind 29: the members of the merged group with label m; its size is what they take where there is no room.
+// Kind 29: the members of the merged group with label m, two fields for each.
 fn put_members(
     job: &[u8],
     index: &[u32],
@@ -401,9 +402,8 @@ fn put_members(
     requires { (at < 2 ^ 56) × (c.faces ≤ 256) × Chained groups.now next.now × Leading groups.now m }
     ensures { Wrote out.old at (framed (membersRecord (map (memberAt (facesIn job.now index.now c)) (membersOf groups.now m)))) out.new result × (result ≤ at + 2054) }
 {
-    let mut none = [0u8; 1];
-    let size = put_group(job, index, c, groups, next, m, &mut none, 0);
-    let p = put_head(out, at, 29, size / 4);
+    let size = group_size(groups, next, m);
+    let p = put_head(out, at, 29, 2 * size);
     put_group(job, index, c, groups, next, m, out, p)
 }
 

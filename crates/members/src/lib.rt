@@ -4,8 +4,9 @@
 
 ghost use Rattle.std.specs.Prelude.{◌≡◌, List, map, ℕ, ◌+◌, ◌<◌, ◌≤◌, length, get_or};
 ghost use Rattle.lists.specs.Lists.{below};
-ghost use Rattle.rules.specs.Groups.{Lowest};
+ghost use Rattle.rules.specs.Groups.{Lowest, membersOf};
 ghost use Rattle.members.specs.Chain.{nextMember, Chaining};
+ghost use Rattle.members.specs.Group.{Chained, Leading};
 
 use fields::{get, put};
 
@@ -44,4 +45,18 @@ pub fn chain(groups: &[u32], next: &mut [u32])
         i -= 1;
         chain_one(groups, &mut first, next, i);
     }
+}
+
+// How many members the group with label m has.
+pub fn group_size(groups: &[u32], next: &[u32], m: usize) -> usize
+    requires { Chained groups.now next.now × Leading groups.now m }
+    ensures { (result ≡ length (membersOf groups.now m)) × (result ≤ 256) }
+{
+    let mut n: usize = 0;
+    let mut i = m;
+    while i < groups.len() {
+        n += 1;
+        i = get(next, i);
+    }
+    n
 }

@@ -6,7 +6,8 @@ use Rattle.job.specs.Lists.{facesIn}
 use Rattle.edges.specs.Table.{rowsIn, faceLoopsIn}
 use Rattle.vertex_loops.specs.Kept.{keptIn}
 use Rattle.body.specs.Rows.{faceRow}
-use Rattle.body.specs.RowLaws.{leading-at, face-row-wrote}
+use Rattle.members.specs.Group.{leading-at}
+use Rattle.body.specs.RowLaws.{face-row-wrote}
 use Rattle.body.specs.BodyLaws.{face-rows}
 use Rattle.body.specs.Writing.{rowed-start, rowed-step, rowed-end}
 use native.Mathlib.Omega.{arith}

@@ -2,7 +2,8 @@ use Rattle.rules.specs.Fields.{fieldBytes}
 use Rattle.job.specs.Lists.{facesIn}
 use Rattle.body.specs.Writing.{rowed-end}
 use Rattle.body.specs.Rows.{memberRow, memberRows}
-use Rattle.body.specs.RowLaws.{member-rows, chain-at, group-start, group-step, group-next}
+use Rattle.members.specs.Group.{chain-at, group-next}
+use Rattle.body.specs.RowLaws.{member-rows, group-start, group-step}
 use native.Mathlib.Omega.{arith}
 use Rattle.body.proofs.put_group.Goals as goal
 
@@ -34,8 +35,8 @@ loop-i-preserved c =
     let fs = facesIn a.job.now a.index.now a.c in
     let inside = c.loop-i-test.true in
     let own = l.invariant.1 inside in
-    let leads = chain-at fs a.groups.now a.next.now a.m chained leading l.i c.get-i.result inside c.get-i.ensures.0 in
-    let next = group-next fs a.groups.now a.next.now a.m chained leading l.i c.get-i.result inside own leads in (
+    let leads = chain-at a.groups.now a.next.now a.m chained leading l.i c.get-i.result inside c.get-i.ensures.0 in
+    let next = group-next a.groups.now a.next.now a.m chained leading l.i c.get-i.result inside own leads in (
       next.1,
       next.2,
       group-step fs a.groups.now a.next.now a.m chained leading a.out.now l.out x.new.out a.at l.p l.i c.get-i.result
@@ -48,8 +49,8 @@ loop-i-smaller c =
     let l = c.loop-i in
     let fs = facesIn a.job.now a.index.now a.c in
     let inside = c.loop-i-test.true in
-    let leads = chain-at fs a.groups.now a.next.now a.m c.requires.2 c.requires.3 l.i c.get-i.result inside c.get-i.ensures.0 in
-    let next = group-next fs a.groups.now a.next.now a.m c.requires.2 c.requires.3 l.i c.get-i.result inside
+    let leads = chain-at a.groups.now a.next.now a.m c.requires.2 c.requires.3 l.i c.get-i.result inside c.get-i.ensures.0 in
+    let next = group-next a.groups.now a.next.now a.m c.requires.2 c.requires.3 l.i c.get-i.result inside
     (l.invariant.1 inside) leads in
     omega (arith, inside, next.0, next.1)
 

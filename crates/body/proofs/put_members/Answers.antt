@@ -1,4 +1,4 @@
-use Prim.Native.Nat.{◌/◌}
+use Prim.Native.Nat.{◌*◌}
 use Rattle.job.specs.Lists.{facesIn}
 use Rattle.body.specs.Writing.{after-head}
 use Rattle.body.specs.RowLaws.{members-wrote}
@@ -12,7 +12,7 @@ put_group-requires c =
       omega (
         arith,
         c.requires.0,
-        after-head a.out.now h.new.out a.at h.result 29 (c.put_group-size.result / 4) h.ensures,
+        after-head a.out.now h.new.out a.at h.result 29 (2 * c.group_size-size.result) h.ensures,
       ),
       c.requires.1,
       c.requires.2,
@@ -22,14 +22,10 @@ put_group-requires c =
 pub returns : goal.returns
 returns c =
     let a = c.args in
-    let s = c.put_group-size in
+    let s = c.group_size-size in
     let h = c.put_head-p in
     let x = c.put_group in (
       members-wrote (facesIn a.job.now a.index.now a.c) a.groups.now a.m a.out.now h.new.out x.new.out a.at h.result
-          x.result s.result s.ensures.0.1 h.ensures x.ensures.0,
-      omega (
-        arith,
-        x.ensures.1,
-        after-head a.out.now h.new.out a.at h.result 29 (c.put_group-size.result / 4) h.ensures,
-      ),
+          x.result s.result s.ensures.0 h.ensures x.ensures.0,
+      omega (arith, x.ensures.1, after-head a.out.now h.new.out a.at h.result 29 (2 * s.result) h.ensures),
     )
