@@ -1,8 +1,8 @@
 -- Chains of the members of groups: each number leads to the next of its group.
-use Rattle.std.specs.Prelude.{◌≡◌, refl, List, [], ◌∷◌, map, ℕ, zero, suc, ◌+◌, ◌-◌, ◌≤◌, ◌<◌, eqb, length, get_or, set, drop}
+use Rattle.std.specs.Prelude.{◌≡◌, refl, List, ◌∷◌, map, ℕ, suc, ◌+◌, ◌-◌, ◌≤◌, ◌<◌, eqb, length, get_or, set, drop}
 use Rattle.std.proofs.Common.{add-one, zero-le, arith, sym, ap, subst, ◌∙◌, ⊎_elim, eqb-true, eq-eqb, ne_eqb}
 use Rattle.std.proofs.Math.ListN.{length-set}
-use Rattle.std.proofs.Math.Seq.{drop-length, get_or-set_same, get_or-set_other}
+use Rattle.std.proofs.Math.Seq.{drop-cons, drop-length, get_or-set_same, get_or-set_other}
 use Rattle.std.proofs.lemmas.List.{get_or-drop, length-drop}
 use mathlib.Core.Bool.{true≢false}
 use Rattle.lists.specs.Members.{position-le, position-hit, position-before}
@@ -50,11 +50,6 @@ pub record Chaining (g first next : List ℕ) (i : ℕ) : Type 0 where
   pub firsts : (l : ℕ) → l < length g → get_or first l 0 ≡ i + indexOf l (drop i g)
   pub nexts : (k : ℕ) → i ≤ k → k < length g → get_or next k 0 ≡ nextMember g k
 
-drop-one : (g : List ℕ) (i : ℕ) → i < length g → drop i g ≡ labelOf g i ∷ drop (suc i) g
-drop-one [] i h = absurd (omega arith)
-drop-one (x ∷ g) zero h = refl
-drop-one (x ∷ g) (suc i) h = drop-one g i (omega arith)
-
 index-hit : (l : ℕ) (g : List ℕ) → indexOf l (l ∷ g) ≡ 0
 unfolding position
 index-hit l g = rw (eq-eqb l l refl) refl
@@ -98,12 +93,12 @@ chaining-step g first next first' next' i label later L h D el er en ef =
       size = ap length en ∙ length-set next i later ∙ C.size;
       firsts = λ l few. ⊎_elim
           (λ same.
-          let here : indexOf l (drop i g) ≡ 0 = ap (indexOf l) (drop-one g i h) ∙ ap (λ x. indexOf l (x ∷ drop (suc i) g)) (sym el ∙ sym same.0) ∙ index-hit l (drop (suc i) g) in
+          let here : indexOf l (drop i g) ≡ 0 = ap (indexOf l) (drop-cons g i 0 h) ∙ ap (λ x. indexOf l (x ∷ drop (suc i) g)) (sym el ∙ sym same.0) ∙ index-hit l (drop (suc i) g) in
           let got : get_or first' l 0 ≡ i =
           ap (λ t. get_or t l 0) ef ∙ ap (λ k. get_or (set first label i) k 0) same.0 ∙ get_or-set_same first label i 0 (omega (arith, own, C.room)) in
           omega (arith, here, got))
           (λ other.
-          let away : indexOf l (drop i g) ≡ suc (indexOf l (drop (suc i) g)) = ap (indexOf l) (drop-one g i h) ∙ index-miss l (labelOf g i) (drop (suc i) g) (λ e. other.0 (e ∙ sym el)) in
+          let away : indexOf l (drop i g) ≡ suc (indexOf l (drop (suc i) g)) = ap (indexOf l) (drop-cons g i 0 h) ∙ index-miss l (labelOf g i) (drop (suc i) g) (λ e. other.0 (e ∙ sym el)) in
           let got : get_or first' l 0 ≡ get_or first l 0 = ap (λ t. get_or t l 0) ef ∙ get_or-set_other first label l i 0 other.0 in
           omega (arith, away, got, C.firsts l few))
           (equal-or-not l label);
