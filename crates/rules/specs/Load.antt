@@ -1,6 +1,6 @@
--- Loading: refusals 1 to 7 in their order, the job that the bytes hold, and the loop request.
+-- Loading: refusals 1 to 7 and 45 in their order, the job that the bytes hold, and the loop request.
 use Rattle.std.specs.Prelude.{ℕ, ◌+◌, ◌*◌, ◌-◌, ◌/◌, List, [], ◌∷◌, ◌++◌, Bool, true, false, ◌&&◌, ◌||◌, not, cond, length, get_or, take, drop, eqb, ltb, leb}
-use Rattle.lists.specs.Lists.{Neighbours, neighbours, all}
+use Rattle.lists.specs.Lists.{Neighbours, neighbours, all, some}
 use Rattle.rules.specs.declared.Kind.{Kind}
 use Rattle.rules.specs.declared.Counts.{Counts}
 use Rattle.rules.specs.declared.Edge.{Edge}
@@ -91,11 +91,19 @@ extended k at x j = record {
 unfoldable pub rightJoints : Kind → List ℕ → List Edge → List ℕ → Bool
 rightJoints k points es x = not (eqb (numberOf k) 5) || jointed points es (itemsOf x)
 
+-- document 02, Eight: two selected faces are the same face of the same body
+abbrev pub sameSource : Face → Face → Bool
+sameSource f g = eqb f.body g.body && eqb f.source g.source
+
+-- document 02, Eight, 45: the same body and source face stand in a kind 4 record before
+unfoldable pub selectedBefore : Kind → List Face → List ℕ → Bool
+selectedBefore k faces x = eqb (numberOf k) 4 && some (sameSource (faceOf x)) faces
+
 -- Endings, 7: the question is answered before
 unfoldable pub answeredBefore : Kind → List Answer → List ℕ → Bool
 answeredBefore k answers x = isAnswer k && isFound (find answers (numberOf k) (questionOf k x))
 
--- Endings, load, each record in this order: 2, 3, 5, 4, 6, 7 at the record's first byte; else it is taken
+-- Endings, load, each record in this order: 2, 3, 5, 4, document 02's 45, 6, 7 at the record's first byte; else it is taken
 unfoldable pub loadRecord : Frame → Loading → Outcome Loading
 loadRecord f s =
     let k = kindOf f.kind in
@@ -106,9 +114,10 @@ loadRecord f s =
     (need (rightLength k f.size && rightPosition k c.part) 3 f.at
     (need (not (limitPassed k c (length x))) 5 f.at
     (need (fieldsPermitted k c x) 4 f.at
+    (need (not (selectedBefore k j.faces x)) 45 f.at
     (need (rightJoints k j.points j.edges x) 6 f.at
     (need (not (answeredBefore k j.answers x)) 7 f.at
-    (ok (record { counts = counted k (length x) c; job = extended k f.at x j })))))))
+    (ok (record { counts = counted k (length x) c; job = extended k f.at x j }))))))))
 
 -- ALL RECORDS
 

@@ -1,12 +1,12 @@
 -- Jobs made by hand from document 02, request by request.
-use Rattle.std.specs.Prelude.{◌≡◌, refl, List, [], ◌∷◌, ◌++◌, map, ℕ, length, Bool, true}
+use Rattle.std.specs.Prelude.{◌≡◌, refl, List, [], ◌∷◌, ◌++◌, map, ℕ, length, take, Bool, true}
 use Rattle.lists.specs.Lists.{same, all, below}
 use Rattle.rules.specs.Outcome.{Outcome, ok, refuse, ◌>>=◌, throughout}
 use Rattle.rules.specs.Fields.{fieldBytes}
 use Rattle.rules.specs.Frame.{Record, framedAll}
 use Rattle.rules.specs.Listing.{listing}
 use Rattle.rules.specs.Job.{unset}
-use Rattle.rules.specs.Load.{loaded}
+use Rattle.rules.specs.Load.{loaded, requested, shown}
 use Rattle.rules.specs.Read.{usesOf, useStart}
 use Rattle.rules.specs.Pair.{pair}
 use Rattle.rules.specs.Rules.{fullTable, ordinary}
@@ -14,6 +14,7 @@ use Rattle.rules.specs.Merge.{mergeStep, ungrouped}
 use Rattle.rules.specs.Body.{rec}
 use Rattle.rules.specs.Tables.{Row, right, sameRecords}
 use Rattle.rules.specs.Cases.{sameBytes}
+use Rattle.rules.specs.MoreCases.{sameStretch}
 use Rattle.rules.specs.Sew.{sewn}
 use Rattle.rules.specs.Stage.{readStage, fanStage}
 use Rattle.rules.specs.Open.{computes}
@@ -377,25 +378,16 @@ membersAlternate = record {
       rec 27 [] ∷ rec 28 (0 ∷ []) ∷ rec 27 [] ∷ rec 28 (1 ∷ []) ∷ []);
 }
 
--- a face selected twice is a member twice
-unfoldable pub memberTwice : Row
-memberTwice = record {
-  job =
-      rec 1 (1 ∷ []) ∷ rec 3 (5 ∷ 0 ∷ unset ∷ unset ∷ []) ∷ rec 4 (7 ∷ 0 ∷ 0 ∷ 1 ∷ 6 ∷ []) ∷ rec 5 (0 ∷ 0 ∷ []) ∷
-      rec 4 (7 ∷ 0 ∷ 0 ∷ 1 ∷ 6 ∷ []) ∷ rec 5 (0 ∷ 1 ∷ []) ∷ rec 8 (0 ∷ 1 ∷ []) ∷ [];
-  ending = ok (rec 21 (1 ∷ 2 ∷ 2 ∷ 0 ∷ 0 ∷ 0 ∷ 1 ∷ []) ∷ rec 24 (7 ∷ 0 ∷ []) ∷ rec 29 (1 ∷ 6 ∷ 1 ∷ 6 ∷ []) ∷ rec 27 [] ∷ rec 28 (0 ∷ []) ∷ []);
-}
-
 -- kind 29 is a record of the body alone
 unfoldable pub membersInJob : Row
 membersInJob = record { job = faceOfFields (9 ∷ 0 ∷ 0 ∷ 0 ∷ 0 ∷ []) ++ (rec 29 (0 ∷ 0 ∷ []) ∷ []); ending = refuse 3 36 }
 
 unfoldable pub memberRows : List Row
 memberRows =
-    threeFields ∷ fourFields ∷ sixFields ∷ bodyTwo ∷ bodyHighest ∷ sourceAnything ∷ threeMembers ∷ membersAlternate ∷ memberTwice ∷ membersInJob ∷ []
+    threeFields ∷ fourFields ∷ sixFields ∷ bodyTwo ∷ bodyHighest ∷ sourceAnything ∷ threeMembers ∷ membersAlternate ∷ membersInJob ∷ []
 
 pub members-right : all right memberRows ≡ true
-unfolding computes sameRecords memberRows faceOfFields threeFields fourFields sixFields bodyTwo bodyHighest sourceAnything threeMembers membersAlternate memberTwice membersInJob
+unfolding computes sameRecords memberRows faceOfFields threeFields fourFields sixFields bodyTwo bodyHighest sourceAnything threeMembers membersAlternate membersInJob
 members-right = refl
 
 -- the lines of a listing: `members`, pairs, and 4,294,967,295 as a number
@@ -413,3 +405,138 @@ memberTexts =
 pub member-texts-right : all (λ b. b) memberTexts ≡ true
 unfolding computes memberTexts faceOfFields sourceAnything
 member-texts-right = refl
+
+-- EIGHT, NO FACE SELECTED TWICE
+
+-- a job that selects faces with such fields: surface, own sense, selected sense, body, source face; face i stands at byte 10 + 26 i
+unfoldable pub selecting : List (List ℕ) → List Record
+selecting faces = rec 1 (1 ∷ []) ∷ map (rec 4) faces
+
+-- the same face selected twice, in both senses: the pairing error that puzzled the user is not reached
+unfoldable pub selectedTwice : Row
+selectedTwice = record {
+  job =
+      rec 1 (1 ∷ []) ∷ rec 3 (5 ∷ 0 ∷ unset ∷ unset ∷ []) ∷ rec 4 (7 ∷ 0 ∷ 0 ∷ 1 ∷ 9 ∷ []) ∷ rec 5 (0 ∷ 0 ∷ []) ∷
+      rec 4 (7 ∷ 0 ∷ 1 ∷ 1 ∷ 9 ∷ []) ∷ rec 5 (0 ∷ 1 ∷ []) ∷ [];
+  ending = refuse 45 72;
+}
+
+-- two that would be joined into one face
+unfoldable pub twiceAndJoined : Row
+twiceAndJoined = record {
+  job =
+      rec 1 (1 ∷ []) ∷ rec 3 (5 ∷ 0 ∷ unset ∷ unset ∷ []) ∷ rec 4 (7 ∷ 0 ∷ 0 ∷ 1 ∷ 6 ∷ []) ∷ rec 5 (0 ∷ 0 ∷ []) ∷
+      rec 4 (7 ∷ 0 ∷ 0 ∷ 1 ∷ 6 ∷ []) ∷ rec 5 (0 ∷ 1 ∷ []) ∷ rec 8 (0 ∷ 1 ∷ []) ∷ [];
+  ending = refuse 45 72;
+}
+
+-- neither the surface nor a sense makes it another face
+unfoldable pub twiceOnAnotherSurface : Row
+twiceOnAnotherSurface = record { job = selecting ((7 ∷ 0 ∷ 0 ∷ 0 ∷ 5 ∷ []) ∷ (8 ∷ 0 ∷ 0 ∷ 0 ∷ 5 ∷ []) ∷ []); ending = refuse 45 36 }
+
+-- nor the own sense
+unfoldable pub twiceWithAnotherOwnSense : Row
+twiceWithAnotherOwnSense = record { job = selecting ((7 ∷ 0 ∷ 0 ∷ 0 ∷ 5 ∷ []) ∷ (7 ∷ 1 ∷ 0 ∷ 0 ∷ 5 ∷ []) ∷ []); ending = refuse 45 36 }
+
+-- in body 1 as in body 0
+unfoldable pub twiceInTheOtherBody : Row
+twiceInTheOtherBody = record { job = selecting ((7 ∷ 0 ∷ 0 ∷ 1 ∷ 5 ∷ []) ∷ (7 ∷ 0 ∷ 0 ∷ 1 ∷ 5 ∷ []) ∷ []); ending = refuse 45 36 }
+
+-- the number 0, and the highest, are numbers as any other
+unfoldable pub zeroTwice : Row
+zeroTwice = record { job = selecting ((7 ∷ 0 ∷ 0 ∷ 0 ∷ 0 ∷ []) ∷ (7 ∷ 0 ∷ 0 ∷ 0 ∷ 0 ∷ []) ∷ []); ending = refuse 45 36 }
+
+unfoldable pub highestTwice : Row
+highestTwice = record { job = selecting ((7 ∷ 0 ∷ 0 ∷ 0 ∷ unset ∷ []) ∷ (7 ∷ 0 ∷ 0 ∷ 0 ∷ unset ∷ []) ∷ []); ending = refuse 45 36 }
+
+-- each face is held against all before it, and not only against the one before
+unfoldable pub notTheFaceBefore : Row
+notTheFaceBefore = record { job = selecting ((7 ∷ 0 ∷ 0 ∷ 0 ∷ 5 ∷ []) ∷ (7 ∷ 0 ∷ 0 ∷ 0 ∷ 6 ∷ []) ∷ (7 ∷ 0 ∷ 0 ∷ 0 ∷ 5 ∷ []) ∷ []); ending = refuse 45 62 }
+
+-- or against the first
+unfoldable pub notTheFirstFace : Row
+notTheFirstFace = record { job = selecting ((7 ∷ 0 ∷ 0 ∷ 0 ∷ 5 ∷ []) ∷ (7 ∷ 0 ∷ 0 ∷ 0 ∷ 6 ∷ []) ∷ (7 ∷ 0 ∷ 0 ∷ 0 ∷ 6 ∷ []) ∷ []); ending = refuse 45 62 }
+
+-- with the same number of the other body between
+unfoldable pub afterTheOtherBody : Row
+afterTheOtherBody = record { job = selecting ((7 ∷ 0 ∷ 0 ∷ 0 ∷ 5 ∷ []) ∷ (7 ∷ 0 ∷ 0 ∷ 1 ∷ 5 ∷ []) ∷ (7 ∷ 0 ∷ 0 ∷ 0 ∷ 5 ∷ []) ∷ []); ending = refuse 45 62 }
+
+-- the first record that repeats one is told, though an earlier face is repeated later
+unfoldable pub firstOfTwoRepeats : Row
+firstOfTwoRepeats = record { job = selecting ((7 ∷ 0 ∷ 0 ∷ 0 ∷ 5 ∷ []) ∷ (7 ∷ 0 ∷ 0 ∷ 0 ∷ 6 ∷ []) ∷ (7 ∷ 0 ∷ 0 ∷ 0 ∷ 6 ∷ []) ∷ (7 ∷ 0 ∷ 0 ∷ 0 ∷ 5 ∷ []) ∷ []); ending = refuse 45 62 }
+
+-- of that record the length comes first
+unfoldable pub lengthBeforeTwice : Row
+lengthBeforeTwice = record { job = selecting ((7 ∷ 0 ∷ 0 ∷ 0 ∷ 0 ∷ []) ∷ (7 ∷ 0 ∷ 0 ∷ []) ∷ []); ending = refuse 3 36 }
+
+-- and the fields: a sense that is none
+unfoldable pub fieldsBeforeTwice : Row
+fieldsBeforeTwice = record { job = selecting ((7 ∷ 0 ∷ 0 ∷ 0 ∷ 9 ∷ []) ∷ (7 ∷ 0 ∷ 2 ∷ 0 ∷ 9 ∷ []) ∷ []); ending = refuse 4 36 }
+
+-- before a later loop that does not join
+unfoldable pub twiceBeforeJoints : Row
+twiceBeforeJoints = record {
+  job =
+      rec 1 (1 ∷ []) ∷ rec 2 (0 ∷ []) ∷ rec 2 (1 ∷ []) ∷ rec 3 (5 ∷ 0 ∷ 0 ∷ 1 ∷ []) ∷ rec 4 (7 ∷ 0 ∷ 0 ∷ 0 ∷ 9 ∷ []) ∷ rec 4 (7 ∷ 0 ∷ 0 ∷ 0 ∷ 9 ∷ []) ∷
+      rec 5 (0 ∷ 0 ∷ []) ∷ [];
+  ending = refuse 45 78;
+}
+
+-- and after an earlier one
+unfoldable pub jointsBeforeTwice : Row
+jointsBeforeTwice = record {
+  job =
+      rec 1 (1 ∷ []) ∷ rec 2 (0 ∷ []) ∷ rec 2 (1 ∷ []) ∷ rec 3 (5 ∷ 0 ∷ 0 ∷ 1 ∷ []) ∷ rec 4 (7 ∷ 0 ∷ 0 ∷ 0 ∷ 9 ∷ []) ∷ rec 5 (0 ∷ 0 ∷ []) ∷
+      rec 4 (7 ∷ 0 ∷ 0 ∷ 0 ∷ 9 ∷ []) ∷ [];
+  ending = refuse 6 78;
+}
+
+-- before a later record of no kind
+unfoldable pub twiceBeforeUnknown : Row
+twiceBeforeUnknown = record { job = selecting ((7 ∷ 0 ∷ 0 ∷ 0 ∷ 9 ∷ []) ∷ (7 ∷ 0 ∷ 0 ∷ 0 ∷ 9 ∷ []) ∷ []) ++ (rec 14 [] ∷ []); ending = refuse 45 36 }
+
+-- the same number in the other body is another face
+unfoldable pub sameNumberOfBoth : Row
+sameNumberOfBoth = record {
+  job =
+      rec 1 (1 ∷ []) ∷ rec 3 (5 ∷ 0 ∷ unset ∷ unset ∷ []) ∷ rec 4 (7 ∷ 0 ∷ 0 ∷ 0 ∷ 9 ∷ []) ∷ rec 5 (0 ∷ 0 ∷ []) ∷
+      rec 4 (7 ∷ 0 ∷ 0 ∷ 1 ∷ 9 ∷ []) ∷ rec 5 (0 ∷ 1 ∷ []) ∷ rec 8 (0 ∷ 1 ∷ []) ∷ [];
+  ending = ok (rec 21 (1 ∷ 2 ∷ 2 ∷ 0 ∷ 0 ∷ 0 ∷ 1 ∷ []) ∷ rec 24 (7 ∷ 0 ∷ []) ∷ rec 29 (0 ∷ 9 ∷ 1 ∷ 9 ∷ []) ∷ rec 27 [] ∷ rec 28 (0 ∷ []) ∷ []);
+}
+
+-- numbers that agree in their lowest 8, 16, 24 or 31 bits are different
+unfoldable pub byAllBits : Row
+byAllBits = record {
+  job = selecting ((7 ∷ 0 ∷ 0 ∷ 0 ∷ 1 ∷ []) ∷ (7 ∷ 0 ∷ 0 ∷ 0 ∷ 257 ∷ []) ∷ (7 ∷ 0 ∷ 0 ∷ 0 ∷ 65537 ∷ []) ∷ (7 ∷ 0 ∷ 0 ∷ 0 ∷ 16777217 ∷ []) ∷ (7 ∷ 0 ∷ 0 ∷ 0 ∷ 2147483649 ∷ []) ∷ []);
+  ending = ok
+      (rec 21 (1 ∷ 0 ∷ 0 ∷ 0 ∷ 0 ∷ 0 ∷ 0 ∷ []) ∷ rec 24 (7 ∷ 0 ∷ []) ∷ rec 29 (0 ∷ 1 ∷ []) ∷ rec 24 (7 ∷ 0 ∷ []) ∷ rec 29 (0 ∷ 257 ∷ []) ∷
+      rec 24 (7 ∷ 0 ∷ []) ∷ rec 29 (0 ∷ 65537 ∷ []) ∷ rec 24 (7 ∷ 0 ∷ []) ∷ rec 29 (0 ∷ 16777217 ∷ []) ∷ rec 24 (7 ∷ 0 ∷ []) ∷
+      rec 29 (0 ∷ 2147483649 ∷ []) ∷ rec 27 [] ∷ rec 28 (0 ∷ []) ∷ rec 27 [] ∷ rec 28 (1 ∷ []) ∷ rec 27 [] ∷ rec 28 (2 ∷ []) ∷
+      rec 27 [] ∷ rec 28 (3 ∷ []) ∷ rec 27 [] ∷ rec 28 (4 ∷ []) ∷ []);
+}
+
+unfoldable pub selectedRows : List Row
+selectedRows =
+    selectedTwice ∷ twiceAndJoined ∷ twiceOnAnotherSurface ∷ twiceWithAnotherOwnSense ∷ twiceInTheOtherBody ∷ zeroTwice ∷ highestTwice ∷ notTheFaceBefore ∷ notTheFirstFace ∷
+    afterTheOtherBody ∷ firstOfTwoRepeats ∷ lengthBeforeTwice ∷ fieldsBeforeTwice ∷ twiceBeforeJoints ∷ jointsBeforeTwice ∷ twiceBeforeUnknown ∷ sameNumberOfBoth ∷ byAllBits ∷ []
+
+pub selected-right : all right selectedRows ≡ true
+unfolding computes sameRecords selectedRows selecting selectedTwice twiceAndJoined twiceOnAnotherSurface twiceWithAnotherOwnSense twiceInTheOtherBody zeroTwice highestTwice notTheFaceBefore notTheFirstFace afterTheOtherBody firstOfTwoRepeats lengthBeforeTwice fieldsBeforeTwice twiceBeforeJoints jointsBeforeTwice twiceBeforeUnknown sameNumberOfBoth byAllBits
+selected-right = refl
+
+-- a record that is cut, after the second of two; and as the second of them
+unfoldable pub selectedTests : List Bool
+selectedTests =
+    sameBytes (sewn ordinary (framedAll selectedTwice.job ++ (4 ∷ 0 ∷ 0 ∷ [])) 65536) (refuse 45 72) ∷
+    sameBytes (sewn ordinary (take 60 (framedAll twiceBeforeUnknown.job)) 65536) (refuse 2 36) ∷
+    -- in a stage, and in the loop request before a loop that there is none of; that shows nothing
+    sameBytes (readStage (framedAll selectedTwice.job) 65536) (refuse 45 72) ∷
+    sameBytes (fanStage ordinary (framedAll selectedTwice.job) 65536) (refuse 45 72) ∷
+    sameStretch (requested (framedAll selectedTwice.job) 9) (refuse 45 72) ∷
+    sameStretch (requested (framedAll selectedTwice.job) 0) (refuse 45 72) ∷
+    same (shown (framedAll selectedTwice.job) (requested (framedAll selectedTwice.job) 0)) [] ∷
+    []
+
+pub selected-tests-right : all (λ b. b) selectedTests ≡ true
+unfolding computes selectedTests selecting selectedTwice twiceBeforeUnknown
+selected-tests-right = refl

@@ -1,5 +1,5 @@
 -- Every job has its members of faces: the statement is `FaceMembers`.
-use Rattle.std.specs.Prelude.{ℕ, suc, ◌≡◌, refl, false, length, eqb}
+use Rattle.std.specs.Prelude.{ℕ, suc, ◌<◌, ◌≡◌, refl, false, length, eqb}
 use Rattle.std.proofs.Common.{arith, sym, ap, ◌∙◌, ⊎_elim, eqb-true}
 use Rattle.std.proofs.lemmas.List.{length-map}
 use mathlib.Core.List.{List, [], ◌∷◌, ◌++◌, map, flat_map}
@@ -28,7 +28,7 @@ use Rattle.theorems.specs.Demand3.{withTable, Settled}
 use Rattle.theorems.specs.Linked.{Twins}
 use Rattle.theorems.specs.Sound.{Sound}
 use Rattle.theorems.proofs.Reading.{use-face-below}
-use Rattle.theorems.proofs.Loading.{loaded-sound}
+use Rattle.theorems.proofs.Loading.{loaded-sound, faces-distinct}
 use Rattle.theorems.proofs.Pairing.{pairs-fully}
 use Rattle.theorems.specs.Merging.{merge-grouping}
 use Rattle.theorems.proofs.Merging.{merge-groups, merge-groups-length, merged-lowest}
@@ -118,6 +118,10 @@ module _ (t : Table) (job : List ℕ) (j : Job) (l : loaded job ≡ ok j) where
         merge-groups-length t j.answers j.faces us w.twins w.merge s.surfaces,
       )
 
+  -- no two selected faces have the same body and source face number
+  named : (i k : ℕ) → i < length j.faces → k < length j.faces → memberAt j.faces i ≡ memberAt j.faces k → i ≡ k
+  named i k h m e = faces-distinct job j l i k h m (ap (λ x. x.body) e) (ap (λ x. x.source) e)
+
   -- a job without faces
   empty-told : (b : Body) (bytes : List ℕ) → rebuild (withTable t) j ≡ ok b → bytes ≡ framedAll (bodyRecords b) → length j.faces ≡ 0 → b ≡ emptyBody → MembersTold t j bytes
   empty-told b bytes r e n z = record {
@@ -130,6 +134,7 @@ module _ (t : Table) (job : List ℕ) (j : Job) (l : loaded job ≡ ok j) where
     records = body-members b ∙ ap (λ (x : Body). map recordOf x.faces) z;
     ascending = λ is m. absurd (Memᴰ.not-nil m);
     once = λ i h. absurd (omega (arith, h, n));
+    named = named;
   }
 
   -- a job with faces
@@ -156,6 +161,7 @@ module _ (t : Table) (job : List ℕ) (j : Job) (l : loaded job ≡ ok j) where
             let a = map-in (membersOf g) (lowestMembers g) is m in
             ((λ i. eqb (labelOf g i) a.0), a.2 ∙ ap (λ n. keep (λ i. eqb (labelOf g i) a.0) (below n)) G.1);
         once = λ i h. members-once G.0 i (omega (arith, G.1, h));
+        named = named;
       }
 
   told : (room : ℕ) (bytes : List ℕ) → sewn (withTable t) job room ≡ ok bytes → MembersTold t j bytes

@@ -19,12 +19,13 @@ use Rattle.rules.specs.declared.Item.{Item}
 use Rattle.rules.specs.Fields.{field}
 use Rattle.rules.specs.Job.{ofItems, atVertex, Loop, Stretch, Answer, Job, noEdge, edgeAt, itemsOf}
 use Rattle.rules.specs.Kinds.{numberOf, partOf, rightPosition, limitPassed, endsPermitted, fieldsPermitted}
-use Rattle.rules.specs.Load.{jointed, counted, edgeOf, faceOf, loopOf, answerOf, extended, rightJoints}
+use Rattle.rules.specs.Load.{jointed, counted, edgeOf, faceOf, loopOf, answerOf, extended, selectedBefore, rightJoints}
 use Rattle.rules.specs.Read.{contentItems, usesOf}
 use Rattle.theorems.specs.Sound.{EndsExist}
 use Rattle.theorems.specs.Reading.{itemsIn}
 use Rattle.theorems.proofs.Reading.{uses-length}
 use Rattle.theorems.proofs.Permitted.{items-of-length, items-exist, ends-exist, ends-more, in-turn}
+use Rattle.theorems.proofs.Selected.{distinct-more}
 use Rattle.theorems.specs.Fit.{Fit, Taken}
 
 -- one record more of each kind
@@ -43,7 +44,7 @@ module _ (at : ℕ) (x : List ℕ) (c : Counts) (j : Job) (F : Fit c j) where
       record {
         counted = record { vertices = C.vertices; edges = C.edges; faces = C.faces; loops = C.loops; stretches = C.stretches; uses = C.uses; answers = C.answers };
         limited = record { vertices = L.vertices; edges = L.edges; faces = L.faces; loops = L.loops; uses = L.uses; answers = L.answers };
-        sound = record { ends = S.ends; face = S.face; items = S.items; joints = S.joints; vertex = S.vertex; few = S.few };
+        sound = record { ends = S.ends; face = S.face; items = S.items; joints = S.joints; vertex = S.vertex; few = S.few; distinct = S.distinct };
         late = λ l m. absurd (no-loop (omega arith) l m);
         faced = λ (e : ◌≡◌ {A = ℕ} 1 4). absurd (omega arith);
       }
@@ -76,6 +77,7 @@ module _ (at : ℕ) (x : List ℕ) (c : Counts) (j : Job) (F : Fit c j) where
           joints = λ l xs m. absurd (no-loop early l m);
           vertex = λ l v m. absurd (no-loop early l m);
           few = S.few;
+          distinct = S.distinct;
         };
         late = λ l m. absurd (no-loop early l m);
         faced = λ (e : ◌≡◌ {A = ℕ} 2 4). absurd (omega arith);
@@ -111,13 +113,14 @@ module _ (at : ℕ) (x : List ℕ) (c : Counts) (j : Job) (F : Fit c j) where
           joints = λ l xs m. absurd (no-loop early l m);
           vertex = S.vertex;
           few = S.few;
+          distinct = S.distinct;
         };
         late = λ l m. absurd (no-loop early l m);
         faced = λ (e : ◌≡◌ {A = ℕ} 3 4). absurd (omega arith);
       }
 
   fit-face : Taken FaceRecord x c j → Fit (counted FaceRecord (length x) c) (extended FaceRecord at x j)
-  unfolding counted extended numberOf partOf rightPosition limitPassed
+  unfolding counted extended numberOf partOf rightPosition limitPassed selectedBefore
   fit-face t =
       let room : c.faces < 256 = leb-false 256 c.faces t.limit in
       let more = length-snoc j.faces (faceOf x) in
@@ -143,6 +146,7 @@ module _ (at : ℕ) (x : List ℕ) (c : Counts) (j : Job) (F : Fit c j) where
           joints = S.joints;
           vertex = S.vertex;
           few = subst (λ n. n ≤ 2048) (sym uses) S.few;
+          distinct = distinct-more j.faces (faceOf x) S.distinct t.new;
         };
         late = λ l m. omega arith;
         faced = λ e. omega (arith, more);
@@ -198,6 +202,7 @@ module _ (at : ℕ) (x : List ℕ) (c : Counts) (j : Job) (F : Fit c j) where
               snoc-members (λ (l : Loop). (v : ℕ) → l.content ≡ atVertex v → v < length j.points) j.loops l
               (λ k m v. S.vertex k v m) vertex k m v;
           few = omega (arith, few, count);
+          distinct = S.distinct;
         };
         late = λ k m. omega arith;
         faced = λ e. some;
@@ -252,7 +257,7 @@ module _ (at : ℕ) (x : List ℕ) (c : Counts) (j : Job) (F : Fit c j) where
           answers = omega (arith, C.answers, length-snoc j.answers a);
         };
         limited = record { vertices = L.vertices; edges = L.edges; faces = L.faces; loops = L.loops; uses = L.uses; answers = omega arith };
-        sound = record { ends = S.ends; face = S.face; items = S.items; joints = S.joints; vertex = S.vertex; few = S.few };
+        sound = record { ends = S.ends; face = S.face; items = S.items; joints = S.joints; vertex = S.vertex; few = S.few; distinct = S.distinct };
         late = λ l m. omega arith;
         faced = λ (e : ◌≡◌ {A = ℕ} 5 4). absurd (omega arith);
       }

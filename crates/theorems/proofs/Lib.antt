@@ -1,6 +1,7 @@
 pub mod Reading
 pub mod Joints
 pub mod Permitted
+pub mod Selected
 pub mod Fit
 pub mod Loading
 pub mod Connected

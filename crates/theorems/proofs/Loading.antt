@@ -16,6 +16,7 @@ use Rattle.rules.specs.Kinds.{kindOf, rightLength, rightPosition}
 use Rattle.rules.specs.Load.{Loading, alsoIf, loadRecord, nothingLoaded, loading, loaded}
 use Rattle.rules.specs.Read.{usesOf}
 use Rattle.theorems.specs.Sound.{Counted, Limited, Sound}
+use Rattle.theorems.specs.Selected.{FacesDistinct}
 use Rattle.theorems.specs.Reading.{itemsIn}
 use Rattle.theorems.proofs.Reading.{uses-length, use-face-below}
 use Rattle.theorems.specs.Fit.{Fit}
@@ -39,13 +40,14 @@ record-taken f s t e =
     let framed = need-ok (rightLength (kindOf f.kind) f.size && rightPosition (kindOf f.kind) s.counts.part) _ _ _ t whole.1 in
     let limit = need-ok _ _ _ _ t framed.1 in
     let permitted = need-ok _ _ _ _ t limit.1 in
-    let joints = need-ok _ _ _ _ t permitted.1 in
+    let fresh = need-ok _ _ _ _ t permitted.1 in
+    let joints = need-ok _ _ _ _ t fresh.1 in
     let new = need-ok _ _ _ _ t joints.1 in
     let right = and-both (rightLength (kindOf f.kind) f.size) _ framed.0 in
     record {
       whole = whole.0;
       sized = right.0;
-      taken = record { position = right.1; limit = not-true _ limit.0; permitted = permitted.0; joints = joints.0 };
+      taken = record { position = right.1; limit = not-true _ limit.0; permitted = permitted.0; new = not-true _ fresh.0; joints = joints.0 };
       after = sym (ok-one new.1);
     }
 
@@ -70,6 +72,7 @@ fit-nothing = record {
     joints = λ l xs m. absurd (Memᴰ.not-nil m);
     vertex = λ l v m. absurd (Memᴰ.not-nil m);
     few = omega (arith, uses-length nothingLoaded.job, sum-nil itemsIn);
+    distinct = λ i k h. absurd (not-suc-le-zero h);
   };
   late = λ l m. absurd (Memᴰ.not-nil m);
   faced = λ (e : ◌≡◌ {A = ℕ} 0 4). absurd (omega arith);
@@ -103,6 +106,10 @@ pub loaded-sound : (job : List ℕ) (j : Job) → loaded job ≡ ok j → Sound 
 loaded-sound job j e =
     let r = bind-ok (loading job) _ j e in
     subst Sound (ok-one r.2) (loading-fit job r.0 r.1).sound
+
+-- and selects no face twice
+pub faces-distinct : (job : List ℕ) → FacesDistinct job
+faces-distinct job j e = (loaded-sound job j e).distinct
 
 -- without faces there is no use
 pub no-face-no-use : (job : List ℕ) (j : Job) → loaded job ≡ ok j → length j.faces ≡ 0 → length (usesOf j) ≡ 0

@@ -36,6 +36,8 @@ pub record MembersTold (t : Table) (j : Job) (bytes : List ℕ) : Type 0 where
   pub ascending : (is : List ℕ) → is ∈ behind → (p : ℕ → Bool) × (is ≡ keep p (below (length j.faces)))
   -- each selected face appears in exactly one such record, once there
   pub once : (i : ℕ) → i < length j.faces → sumOf (times i) behind ≡ 1
+  -- document 02, Eight: and body and source face number tell which selected face a member is
+  pub named : (i k : ℕ) → i < length j.faces → k < length j.faces → memberAt j.faces i ≡ memberAt j.faces k → i ≡ k
 
 -- for each joining table and every job
 abbrev pub FaceMembers : Table → List ℕ → Type 0

@@ -7,7 +7,7 @@ use Rattle.rules.specs.declared.Kind.{Kind}
 use Rattle.rules.specs.declared.Counts.{Counts}
 use Rattle.rules.specs.Job.{Loop, Job}
 use Rattle.rules.specs.Kinds.{rightPosition, limitPassed, fieldsPermitted}
-use Rattle.rules.specs.Load.{rightJoints}
+use Rattle.rules.specs.Load.{selectedBefore, rightJoints}
 use Rattle.theorems.specs.Sound.{Counted, Limited, Sound}
 
 -- the counts and the limits hold, the job is sound, loops come in part 4 and after a face
@@ -23,4 +23,5 @@ pub record Taken (k : Kind) (x : List ℕ) (c : Counts) (j : Job) : Type 0 where
   pub position : rightPosition k c.part ≡ true
   pub limit : limitPassed k c (length x) ≡ false
   pub permitted : fieldsPermitted k c x ≡ true
+  pub new : selectedBefore k j.faces x ≡ false
   pub joints : rightJoints k j.points j.edges x ≡ true

@@ -1,4 +1,5 @@
 pub mod Demand3
+pub mod Selected
 pub mod Sound
 pub mod Linked
 pub mod Reading

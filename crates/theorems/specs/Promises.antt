@@ -4,6 +4,7 @@ use Rattle.rules.specs.Rules.{Table}
 use Rattle.theorems.specs.Demand3.{Demand3}
 use Rattle.theorems.specs.FaceJoins.{FaceJoins}
 use Rattle.theorems.specs.FaceMembers.{FaceMembers}
+use Rattle.theorems.specs.Selected.{FacesDistinct}
 
 -- a request that promises more of an accepted job adds a field here
 pub record Promises (t : Table) (job : List ℕ) : Type 0 where
@@ -13,3 +14,5 @@ pub record Promises (t : Table) (job : List ℕ) : Type 0 where
   pub faceJoins : FaceJoins t job
   -- request Seven of document 02
   pub faceMembers : FaceMembers t job
+  -- request Eight of document 02
+  pub facesDistinct : FacesDistinct job

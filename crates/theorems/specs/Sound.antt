@@ -7,6 +7,7 @@ use Rattle.rules.specs.declared.Counts.{Counts}
 use Rattle.rules.specs.Job.{unset, ofItems, atVertex, Loop, Job, edgeAt}
 use Rattle.rules.specs.Load.{jointed}
 use Rattle.rules.specs.Read.{contentItems, usesOf}
+use Rattle.theorems.specs.Selected.{Distinct}
 
 -- an edge is a ring without vertices, or has two vertices that exist
 abbrev pub EndsExist : ℕ → Edge → Type 0
@@ -31,7 +32,7 @@ pub record Limited (c : Counts) : Type 0 where
   pub uses : c.uses ≤ 2048
   pub answers : c.answers ≤ 2048
 
--- edges have their ends; each loop has its face, and items that join or a vertex
+-- edges have their ends; each loop has its face, and items that join or a vertex; no face is selected twice
 pub record Sound (j : Job) : Type 0 where
   pub ends : (e : ℕ) → e < length j.edges → EndsExist (length j.points) (edgeAt j.edges e)
   pub face : (l : Loop) → l ∈ j.loops → l.face < length j.faces
@@ -39,3 +40,4 @@ pub record Sound (j : Job) : Type 0 where
   pub joints : (l : Loop) (xs : List Item) → l ∈ j.loops → l.content ≡ ofItems xs → jointed j.points j.edges xs ≡ true
   pub vertex : (l : Loop) (v : ℕ) → l ∈ j.loops → l.content ≡ atVertex v → v < length j.points
   pub few : length (usesOf j) ≤ 2048
+  pub distinct : Distinct j.faces
