@@ -1,5 +1,5 @@
 -- Laws of what holds of each member, of tests over lists, of the members that pass a test, of positions, and of lists put together.
-use Rattle.std.specs.Prelude.{◌≡◌, refl, Bool, true, false, not, cond, ℕ, zero, suc, ◌+◌, ◌-◌, ◌≤◌, ◌<◌, eqb, length, get_or, set, drop}
+use Rattle.std.specs.Prelude.{◌≡◌, refl, Bool, true, false, ◌||◌, not, cond, ℕ, zero, suc, ◌+◌, ◌-◌, ◌≤◌, ◌<◌, eqb, length, get_or, set, drop}
 use Rattle.std.proofs.Common.{sym, ap, ap₂, ◌∙◌, subst, ⊎_elim, true≢false, zero-le, arith, length-append, eqb-true, eq-eqb, ne_eqb}
 use Rattle.std.proofs.lemmas.Bool.{false≢true, eqb-false}
 use mathlib.Core.List.Memᴰ
@@ -122,6 +122,12 @@ keep-both {A} p (x ∷ l) = go (p x) (keep-both p l)
         → length (cond b (x ∷ keep p l) (keep p l)) + length (cond (not b) (x ∷ rest) rest) ≡ suc (length l)
     go true r = omega arith
     go false r = omega arith
+
+-- tests that agree on the members
+pub some-same : {A : Type 0} (p q : A → Bool) (l : List A) → ((x : A) → x ∈ l → p x ≡ q x) → some p l ≡ some q l
+unfolding some
+some-same p q [] h = refl
+some-same p q (x ∷ l) h = ap₂ (λ a b. a || b) (h x (Memᴰ.head refl)) (some-same p q l (λ y m. h y (Memᴰ.tail m)))
 
 -- two tests that agree on the members keep the same
 pub keep-same : {A : Type 0} (p q : A → Bool) (l : List A) → ((x : A) → x ∈ l → p x ≡ q x) → keep p l ≡ keep q l

@@ -1,0 +1,2 @@
+pub mod Sources
+pub mod SourceLaws

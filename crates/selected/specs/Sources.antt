@@ -1,0 +1,38 @@
+-- The table of chains of faces by source face number, and what is found on them.
+use Rattle.std.specs.Prelude.{ℕ, ◌+◌, ◌≤◌, ◌<◌, ◌≡◌, ◌%◌, List, Bool, length, get_or, set}
+use Rattle.lists.specs.Lists.{some}
+use Rattle.rules.specs.declared.Counts.{Counts}
+use Rattle.rules.specs.declared.Face.{Face}
+use Rattle.rules.specs.Fields.{le32}
+use Rattle.rules.specs.Load.{sameSource}
+use Rattle.fields.specs.Chains.{chain, Falling}
+use Rattle.job.specs.Lists.{faceByte, faceIn, facesIn}
+
+-- the chain on which a face with this source face number stands
+unfoldable pub bucketOf : ℕ → ℕ
+bucketOf source = source % 256
+
+-- the entry after face k on its chain; the table has them from place 256 on
+unfoldable pub nextFace : List ℕ → ℕ → ℕ
+nextFace t k = get_or t (256 + k) 0
+
+-- the table with one face more, k, in front of its chain
+unfoldable pub entered : List ℕ → List ℕ → ℕ → ℕ → List ℕ
+entered bytes t k at =
+    let b = bucketOf (le32 bytes (at + 22)) in
+    set (set t (256 + k) (get_or t b 0)) b (k + 1)
+
+-- selected face k is that face of that body
+abbrev pub isFace : List ℕ → List ℕ → Face → ℕ → Bool
+isFace bytes ix f k = sameSource f (faceIn bytes (faceByte ix k))
+
+-- a face is one of those on the chain from an entry on
+abbrev pub foundFrom : List ℕ → List ℕ → List ℕ → Face → ℕ → Bool
+foundFrom bytes ix t f entry = some (isFace bytes ix f) (chain (nextFace t) entry)
+
+-- chains fall, their heads are of faces that are loaded, and they find what the definition finds, for every face
+pub record Sourced (bytes ix t : List ℕ) (c : Counts) : Type 0 where
+  pub size : length t ≡ 512
+  pub falling : Falling (nextFace t)
+  pub heads : (b : ℕ) → b < 256 → get_or t b 0 ≤ c.faces
+  pub finds : (f : Face) → foundFrom bytes ix t f (get_or t (bucketOf f.source) 0) ≡ some (sameSource f) (facesIn bytes ix c)

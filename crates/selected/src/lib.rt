@@ -1,0 +1,63 @@
+// The selected faces by their source face numbers, while loading: a chain of faces for each bucket of numbers, latest
+// first, so that a face is held only against those whose number could be its own. An entry of a chain is the number of
+// a face plus one; 0 ends it.
+
+#![tactic(auto)]
+
+ghost use Rattle.std.specs.Prelude.{◌≡◌, ◌+◌, ◌<◌, ◌&&◌, eqb};
+ghost use Rattle.lists.specs.Lists.{some};
+ghost use Rattle.rules.specs.Fields.{le32};
+ghost use Rattle.rules.specs.Load.{sameSource};
+ghost use Rattle.job.specs.Lists.{faceIn, facesIn};
+ghost use Rattle.selected.specs.Sources.{entered, Sourced};
+
+use fields::{get, put, word};
+use job::FACES;
+use rules::Counts;
+
+// Heads of the chains, then the entry after each face.
+pub const SOURCES: usize = 512;
+
+const BUCKETS: usize = 256;
+
+const NEXT: usize = 256;
+
+// The record at a byte selects this face of this body.
+fn is_face(job: &[u8], at: usize, body: usize, source: usize) -> bool
+    requires { at < 4294967296 }
+    ensures { result ≡ (eqb body (le32 job.now (at + 18)) && eqb source (le32 job.now (at + 22))) }
+{
+    if word(job, at + 22) != source {
+        return false;
+    }
+    word(job, at + 18) == body
+}
+
+// The face of the record at a byte is one of those selected before.
+pub fn selected_before(job: &[u8], index: &[u32], sources: &[u32], c: Counts, at: usize) -> bool
+    requires { Sourced job.now index.now sources.now c × (at < 4294967296) }
+    ensures { result ≡ some (sameSource (faceIn job.now at)) (facesIn job.now index.now c) }
+{
+    let body = word(job, at + 18);
+    let source = word(job, at + 22);
+    let mut i = get(sources, source % BUCKETS);
+    while 0 < i {
+        let k = i - 1;
+        if is_face(job, get(index, FACES + k), body, source) {
+            return true;
+        }
+        i = get(sources, NEXT + k);
+    }
+    false
+}
+
+// Face k, whose record stands at a byte, is entered in front of its chain.
+pub fn enter(job: &[u8], sources: &mut [u32], k: usize, at: usize)
+    requires { (k < 256) × (at < 4294967296) }
+    ensures { sources.new ≡ entered job.now sources.old k at }
+{
+    let b = word(job, at + 22) % BUCKETS;
+    let head = get(sources, b);
+    put(sources, NEXT + k, head);
+    put(sources, b, k + 1);
+}
