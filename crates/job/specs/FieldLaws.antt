@@ -1,8 +1,10 @@
 -- The fields of a record as they stand in the bytes.
 use Rattle.std.specs.Prelude.{ℕ, zero, suc, ◌+◌, ◌*◌, ◌-◌, ◌/◌, ◌<◌, ◌≤◌, ◌≡◌, refl, List, ◌∷◌, length, get_or, take, drop}
-use Rattle.std.proofs.Common.{arith, ap, ◌∙◌, get_or-drop, drop-drop}
-use Rattle.rules.specs.Fields.{le32, fieldsIn}
-use Rattle.job.specs.Lists.{fieldsAt}
+use Rattle.std.proofs.Common.{arith, sym, ap, ◌∙◌, get_or-drop, drop-drop}
+use Rattle.rules.specs.Sense.{senseOf}
+use Rattle.rules.specs.Fields.{le32, field, fieldsIn}
+use Rattle.rules.specs.Load.{faceOf}
+use Rattle.job.specs.Lists.{fieldsAt, faceIn}
 
 -- a field at a place of a suffix
 pub le32-drop : (n : ℕ) (s : List ℕ) (p : ℕ) → le32 (drop n s) p ≡ le32 s (n + p)
@@ -46,6 +48,19 @@ field-in (suc n) s p (suc i) h =
 pub field-at : (bytes : List ℕ) (at i : ℕ) → i < le32 bytes at / 4 → get_or (fieldsAt bytes at) i 0 ≡ le32 bytes (at + 6 + 4 * i)
 unfolding fieldsAt
 field-at bytes at i h = field-in (le32 bytes at / 4) bytes (at + 6) i h
+
+-- the face whose record stands at a byte, by its fields
+pub face-is : (bytes : List ℕ) (at : ℕ) → le32 bytes at / 4 ≡ 5 → faceIn bytes at ≡ faceOf (fieldsAt bytes at)
+unfolding faceIn
+face-is bytes at five =
+    let f : (i p : ℕ) → i < 5 → at + 6 + 4 * i ≡ p → le32 bytes p ≡ field (fieldsAt bytes at) i =
+    λ i p h e. ap (le32 bytes) (sym e) ∙ sym (field-at bytes at i (omega (arith, five, h))) in
+    let f0 = f 0 (at + 6) (omega arith) (omega arith) in
+    let f1 = f 1 (at + 10) (omega arith) (omega arith) in
+    let f2 = f 2 (at + 14) (omega arith) (omega arith) in
+    let f3 = f 3 (at + 18) (omega arith) (omega arith) in
+    let f4 = f 4 (at + 22) (omega arith) (omega arith) in
+    λ i. record { surface = f0 i; own = senseOf (f1 i); selected = senseOf (f2 i); body = f3 i; source = f4 i }
 
 -- the first fields of the record at a byte, one more in front
 pub fields-first : (n : ℕ) (s : List ℕ) (p : ℕ) → fieldsIn (suc n) (drop p s) ≡ le32 s p ∷ fieldsIn n (drop (p + 4) s)

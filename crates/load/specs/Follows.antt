@@ -12,11 +12,13 @@ use Rattle.rules.proofs.OutcomeLaws.{need-on, need-stop, through-none, through-o
 use Rattle.rules.specs.Frame.{Frame, frameAt, framesOf}
 use Rattle.rules.proofs.FrameLaws.{frames-step, frames-end}
 use Rattle.rules.specs.Kinds.{kindOf, numberOf, rightLength, rightPosition, limitPassed, fieldsPermitted}
-use Rattle.rules.specs.Load.{Loading, counted, extended, rightJoints, answeredBefore, loadRecord, noCounts, nothingLoaded, loading}
+use Rattle.rules.specs.Load.{Loading, counted, extended, selectedBefore, rightJoints, answeredBefore, loadRecord, noCounts, nothingLoaded, loading}
 use Rattle.theorems.specs.Sound.{Limited}
 use Rattle.job.specs.Lists.{pointsIn, edgesIn, facesIn, loopsIn, stretchesIn, answersIn, jobIn}
 use Rattle.answers.specs.Index.{Indexed}
 use Rattle.answers.specs.IndexLaws.{indexed-none}
+use Rattle.selected.specs.Sources.{Sourced}
+use Rattle.selected.specs.SourceLaws.{sourced-none}
 use Rattle.load.specs.declared.Stepped.TheVariants.{Refused, Taken}
 use Rattle.load.specs.Placed.{Placed, placed-none}
 use Rattle.load.specs.Judged.{stateIn}
@@ -35,9 +37,10 @@ loadAs k f s =
     (need (rightLength k f.size && rightPosition k s.counts.part) 3 f.at
     (need (not (limitPassed k s.counts (length f.fields))) 5 f.at
     (need (fieldsPermitted k s.counts f.fields) 4 f.at
+    (need (not (selectedBefore k s.job.faces f.fields)) 45 f.at
     (need (rightJoints k s.job.points s.job.edges f.fields) 6 f.at
     (need (not (answeredBefore k s.job.answers f.fields)) 7 f.at
-    (ok (record { counts = counted k (length f.fields) s.counts; job = extended k f.at f.fields s.job })))))))
+    (ok (record { counts = counted k (length f.fields) s.counts; job = extended k f.at f.fields s.job }))))))))
 
 -- nothing is loaded, and Head's field is v
 abbrev begun : ℕ → Loading
@@ -96,25 +99,26 @@ follows-start bytes ix c e h some =
     ∙ sym (ap (λ fs. throughout loadRecord fs (stateIn bytes ix noCounts)) (frames-step bytes 0 some))
     ∙ ap (λ d. throughout loadRecord (framesOf 0 (drop 0 bytes)) (stateIn bytes ix d)) (sym e)
 
-pub going-start : (bytes ix : List ℕ) (c : Counts) → ix ≡ replicate 7424 0 → c ≡ noCounts → length bytes ≤ 65536 → Going bytes ix c 0
-going-start bytes ix c blank e h = record {
+pub going-start : (bytes ix t : List ℕ) (c : Counts) → ix ≡ replicate 7424 0 → t ≡ replicate 512 0 → c ≡ noCounts → length bytes ≤ 65536 → Going bytes ix t c 0
+going-start bytes ix t c blank bare e h = record {
   small = h;
   within = omega arith;
   placed = subst (λ d. Placed d 0) (sym e) placed-none;
   limited = subst Limited (sym e) (record { vertices = omega arith; edges = omega arith; faces = omega arith; loops = omega arith; uses = omega arith; answers = omega arith });
   indexed = subst (λ l. Indexed bytes l c) (sym blank) (indexed-none bytes c (ap (λ d. d.answers) e));
+  sourced = subst (λ l. Sourced bytes ix l c) (sym bare) (sourced-none bytes ix c (ap (λ d. d.faces) e));
 }
 
 module _ (bytes ix : List ℕ) (c : Counts) (at : ℕ) (F : Follows bytes ix c at) where
   -- a record that is taken, one that is refused, and the end
-  pub follows-on : (iy : List ℕ) (d : Counts) (next : ℕ) → at < length bytes → SteppedAs bytes ix iy c at (Taken d next) → Follows bytes iy d next
-  follows-on iy d next h S =
+  pub follows-on : (iy u : List ℕ) (d : Counts) (next : ℕ) → at < length bytes → SteppedAs bytes ix iy u c at (Taken d next) → Follows bytes iy d next
+  follows-on iy u d next h S =
       F ∙ ap (λ fs. throughout loadRecord fs (stateIn bytes ix c)) (frames-step bytes at h)
       ∙ through-on loadRecord (frameAt at (drop at bytes)) _ (stateIn bytes ix c) (stateIn bytes iy d) S.0
       ∙ ap (λ p. throughout loadRecord (framesOf p (drop p bytes)) (stateIn bytes iy d)) (sym S.1)
 
-  pub follows-refused : (iy : List ℕ) (n : ℕ) → at < length bytes → SteppedAs bytes ix iy c at (Refused n) → loading bytes ≡ refuse n at
-  follows-refused iy n h S =
+  pub follows-refused : (iy u : List ℕ) (n : ℕ) → at < length bytes → SteppedAs bytes ix iy u c at (Refused n) → loading bytes ≡ refuse n at
+  follows-refused iy u n h S =
       F ∙ ap (λ fs. throughout loadRecord fs (stateIn bytes ix c)) (frames-step bytes at h)
       ∙ through-stop loadRecord (frameAt at (drop at bytes)) _ (stateIn bytes ix c) n at S.1
 

@@ -1,25 +1,29 @@
 -- The verdict on a whole record: the number of the first refusal, or 0 and that it is taken.
 use Rattle.std.specs.Prelude.{ℕ, ◌+◌, ◌*◌, ◌/◌, ◌<◌, ◌≡◌, refl, List, Bool, true, false, ◌&&◌, not, length, drop}
-use Rattle.std.proofs.Common.{arith, ◌∙◌}
+use Rattle.std.proofs.Common.{arith, ◌∙◌, eqb-true}
 use Rattle.std.proofs.Math.Path.{sym, ap}
 use Rattle.std.proofs.lemmas.Bool.{not-true, not-false}
+use Rattle.lists.specs.Lists.{some}
 use Rattle.lists.specs.Tests.{and-both}
 use Rattle.rules.specs.declared.Kind.{Kind}
+use Rattle.rules.specs.declared.Kind.TheVariants.{Unknown, Head, Vertex, EdgeRecord, FaceRecord, LoopRecord, VertexLoop, Radial, Surface, Points, Curves, Singular, Orientation, Inside}
 use Rattle.rules.specs.declared.Counts.{Counts}
+use Rattle.rules.specs.declared.Face.{Face}
 use Rattle.rules.specs.Fields.{le16, le32, fieldsIn}
 use Rattle.rules.specs.Outcome.{ok, refuse}
 use Rattle.rules.specs.Frame.{Frame}
 use Rattle.rules.specs.Questions.{find, isFound}
 use Rattle.rules.specs.Job.{Answer}
 use Rattle.rules.specs.Kinds.{kindOf, numberOf, isAnswer, questionOf, rightLength, rightPosition, limitPassed, fieldsPermitted}
-use Rattle.rules.specs.Load.{Loading, counted, extended, rightJoints, answeredBefore, loadRecord}
+use Rattle.rules.specs.Load.{Loading, counted, extended, sameSource, selectedBefore, rightJoints, answeredBefore, loadRecord}
 use Rattle.theorems.specs.Sound.{Limited}
-use Rattle.job.specs.Lists.{pointsIn, edgesIn, fieldsAt, answersIn, jobIn}
+use Rattle.job.specs.Lists.{pointsIn, edgesIn, fieldsAt, faceIn, facesIn, answersIn, jobIn}
+use Rattle.job.specs.FieldLaws.{face-is}
 use Rattle.answers.specs.Question.{RightAnswer}
 use Rattle.answers.specs.Index.{Indexed}
 use Rattle.records.specs.Limits.{whole-fields}
 use Rattle.load.specs.After.{fields-count}
-use Rattle.load.specs.Verdicts.{stop-length, stop-position, stop-limit, stop-fields, stop-joints, stop-answered, record-taken}
+use Rattle.load.specs.Verdicts.{stop-length, stop-position, stop-limit, stop-fields, stop-selected, stop-joints, stop-answered, record-taken}
 
 -- what is loaded, as bytes, index and counts have it
 abbrev pub stateIn : List ℕ → List ℕ → Counts → Loading
@@ -67,6 +71,32 @@ asked-before bytes ix c at k size r H e = e ∙ ap (λ j. answeredBefore j (answ
 pub no-question : (k : Kind) (ys : List Answer) (x : List ℕ) (t : Bool) → t ≡ isAnswer k → t ≡ false → answeredBefore k ys x ≡ false
 unfolding answeredBefore
 no-question k ys x t e q = ap (λ u. u && isFound (find ys (numberOf k) (questionOf k x))) (sym e ∙ q)
+
+-- the face of a record that selects one, and of one that selects none
+pub selected-as : (bytes ix : List ℕ) (c : Counts) (at : ℕ) (k : Kind) (size : ℕ) (r : Bool) → Here bytes ix c at k size → rightLength k size ≡ true → k ≡ FaceRecord
+    → r ≡ some (sameSource (faceIn bytes at)) (facesIn bytes ix c) → r ≡ selectedBefore k (facesIn bytes ix c) (fieldsAt bytes at)
+unfolding selectedBefore numberOf rightLength
+selected-as bytes ix c at k size r H l e q =
+    let five : size ≡ 20 = eqb-true size 20 (ap (λ j. rightLength j size) (sym e) ∙ l) in
+    let fields : le32 bytes at / 4 ≡ 5 = omega (arith, five, H.long) in
+    q ∙ ap (λ f. some (sameSource f) (facesIn bytes ix c)) (face-is bytes at fields) ∙ ap (λ j. selectedBefore j (facesIn bytes ix c) (fieldsAt bytes at)) (sym e)
+
+pub no-face : (k : Kind) (fs : List Face) (x : List ℕ) → (k ≡ FaceRecord → ⊥) → false ≡ selectedBefore k fs x
+unfolding selectedBefore numberOf
+no-face Unknown fs x h = refl
+no-face Head fs x h = refl
+no-face Vertex fs x h = refl
+no-face EdgeRecord fs x h = refl
+no-face FaceRecord fs x h = absurd (h refl)
+no-face LoopRecord fs x h = refl
+no-face VertexLoop fs x h = refl
+no-face Radial fs x h = refl
+no-face Surface fs x h = refl
+no-face Points fs x h = refl
+no-face Curves fs x h = refl
+no-face Singular fs x h = refl
+no-face Orientation fs x h = refl
+no-face Inside fs x h = refl
 
 -- the verdicts by the code's tests
 module _ (bytes ix : List ℕ) (c : Counts) (at : ℕ) (k : Kind) (size : ℕ) (H : Here bytes ix c at k size) where
@@ -123,37 +153,50 @@ module _ (bytes ix : List ℕ) (c : Counts) (at : ℕ) (k : Kind) (size : ℕ) (
       pub judge-fields : x ≡ false → Judged bytes ix c at k 4
       judge-fields b = stop bytes ix c at k 4 (omega arith) (stop-fields f s k (sym H.kind) refl right p (limit m false m-is room) (permitted false b))
 
-      module _ (x-ok : x ≡ true) (j : Bool) (j-is : j ≡ rightJoints k (pointsIn bytes c) (edgesIn bytes c) (fieldsIn n (drop (at + 6) bytes))) where
-        joints : (u : Bool) → j ≡ u → rightJoints k (jobIn bytes ix c).points (jobIn bytes ix c).edges (fieldsAt bytes at) ≡ u
+      module _ (x-ok : x ≡ true) (q : Bool) (q-is : q ≡ selectedBefore k (facesIn bytes ix c) (fieldsAt bytes at)) where
+        fresh : (u : Bool) → q ≡ u → selectedBefore k (jobIn bytes ix c).faces (fieldsAt bytes at) ≡ u
         unfolding jobIn
-        joints u b = ap (rightJoints k (pointsIn bytes c) (edgesIn bytes c)) (sym (fields n e)) ∙ sym j-is ∙ b
+        fresh u b = sym q-is ∙ b
 
-        -- 6
-        pub judge-joints : j ≡ false → Judged bytes ix c at k 6
-        judge-joints b =
-            stop bytes ix c at k 6 (omega arith)
-            (stop-joints f s k (sym H.kind) refl right p (limit m false m-is room) (permitted true x-ok) (joints false b))
+        -- 45
+        pub judge-selected : q ≡ true → Judged bytes ix c at k 45
+        judge-selected b =
+            stop bytes ix c at k 45 (omega arith)
+            (stop-selected f s k (sym H.kind) refl right p (limit m false m-is room) (permitted true x-ok) (fresh true b))
 
-        module _ (j-ok : j ≡ true) (a : Bool) (a-is : a ≡ answeredBefore k (answersIn bytes ix c) (fieldsAt bytes at)) where
-          before : (u : Bool) → a ≡ u → answeredBefore k (jobIn bytes ix c).answers (fieldsAt bytes at) ≡ u
+        module _ (q-no : q ≡ false) (j : Bool) (j-is : j ≡ rightJoints k (pointsIn bytes c) (edgesIn bytes c) (fieldsIn n (drop (at + 6) bytes))) where
+          joints : (u : Bool) → j ≡ u → rightJoints k (jobIn bytes ix c).points (jobIn bytes ix c).edges (fieldsAt bytes at) ≡ u
           unfolding jobIn
-          before u b = sym a-is ∙ b
+          joints u b = ap (rightJoints k (pointsIn bytes c) (edgesIn bytes c)) (sym (fields n e)) ∙ sym j-is ∙ b
 
-          -- 7
-          pub judge-answered : a ≡ true → Judged bytes ix c at k 7
-          judge-answered b =
-              stop bytes ix c at k 7 (omega arith)
-              (stop-answered f s k (sym H.kind) refl right p (limit m false m-is room) (permitted true x-ok) (joints true j-ok) (before true b))
+          -- 6
+          pub judge-joints : j ≡ false → Judged bytes ix c at k 6
+          judge-joints b =
+              stop bytes ix c at k 6 (omega arith)
+              (stop-joints f s k (sym H.kind) refl right p (limit m false m-is room) (permitted true x-ok) (fresh false q-no) (joints false b))
 
-          -- no refusal
-          pub judge-none : a ≡ false → Judged bytes ix c at k 0
-          judge-none b = record {
-            refused = λ h. absurd (omega arith);
-            passed = λ z. record {
-              right = right;
-              position = p;
-              limit = limit m false m-is room;
-              new = sym a-is ∙ b;
-              taken = record-taken f s k (sym H.kind) refl right p (limit m false m-is room) (permitted true x-ok) (joints true j-ok) (before false b);
-            };
-          }
+          module _ (j-ok : j ≡ true) (a : Bool) (a-is : a ≡ answeredBefore k (answersIn bytes ix c) (fieldsAt bytes at)) where
+            before : (u : Bool) → a ≡ u → answeredBefore k (jobIn bytes ix c).answers (fieldsAt bytes at) ≡ u
+            unfolding jobIn
+            before u b = sym a-is ∙ b
+
+            -- 7
+            pub judge-answered : a ≡ true → Judged bytes ix c at k 7
+            judge-answered b =
+                stop bytes ix c at k 7 (omega arith)
+                (stop-answered f s k (sym H.kind) refl right p (limit m false m-is room) (permitted true x-ok) (fresh false q-no) (joints true j-ok)
+                (before true b))
+
+            -- no refusal
+            pub judge-none : a ≡ false → Judged bytes ix c at k 0
+            judge-none b = record {
+              refused = λ h. absurd (omega arith);
+              passed = λ z. record {
+                right = right;
+                position = p;
+                limit = limit m false m-is room;
+                new = sym a-is ∙ b;
+                taken = record-taken f s k (sym H.kind) refl right p (limit m false m-is room) (permitted true x-ok) (fresh false q-no) (joints true j-ok)
+                    (before false b);
+              };
+            }

@@ -18,7 +18,7 @@ use Rattle.rules.specs.Load.{counted, alsoIf, edgeOf, faceOf, loopOf, answerOf, 
 use Rattle.theorems.specs.Sound.{Limited}
 use Rattle.theorems.proofs.Permitted.{in-turn}
 use Rattle.job.specs.Lists.{pointsIn, edgeIn, edgePlace, edgesIn, faceByte, loopByte, fieldsAt, faceIn, facesIn, loopsIn, stretchesIn, answerIn, answersIn, jobIn}
-use Rattle.job.specs.FieldLaws.{field-at}
+use Rattle.job.specs.FieldLaws.{field-at, face-is}
 use Rattle.answers.specs.Index.{entered, Indexed}
 use Rattle.answers.specs.IndexLaws.{answers-agree}
 use Rattle.answers.specs.EnterLaws.{entered-past, answers-enter}
@@ -154,16 +154,11 @@ module _ (bytes ix : List ℕ) (c : Counts) (at : ℕ) (P : Placed c at) (L : Li
 
   pub face-job : rightLength FaceRecord (le32 bytes at) ≡ true → limitPassed FaceRecord c n ≡ false
       → jobIn bytes (set ix (5120 + c.faces) at) (counted FaceRecord n c) ≡ extended FaceRecord at x (jobIn bytes ix c)
-  unfolding counted numberOf partOf rightLength limitPassed faceIn
+  unfolding counted numberOf partOf rightLength limitPassed
   face-job l m =
       let low = leb-false 256 c.faces m in
       let size = I.size in
       let five = long (le32 bytes at) 5 l in
-      let f0 = field-is 0 5 (at + 6) five (omega arith) (omega arith) in
-      let f1 = field-is 1 5 (at + 10) five (omega arith) (omega arith) in
-      let f2 = field-is 2 5 (at + 14) five (omega arith) (omega arith) in
-      let f3 = field-is 3 5 (at + 18) five (omega arith) (omega arith) in
-      let f4 = field-is 4 5 (at + 22) five (omega arith) (omega arith) in
       let d = counted FaceRecord n c in
       let iy = set ix (5120 + c.faces) at in
       let here : faceByte iy c.faces ≡ at = get_or-set_same ix (5120 + c.faces) at 0 (omega arith) in
@@ -171,7 +166,7 @@ module _ (bytes ix : List ℕ) (c : Counts) (at : ℕ) (P : Placed c at) (L : Li
       job-is FaceRecord iy d refl
       (points-same bytes c d refl) (edges-same bytes c d refl refl)
       (faces-more bytes ix iy c d (faceOf x) refl (λ f h. other (5120 + f) (λ e. omega arith))
-      (ap (faceIn bytes) here ∙ (λ i. record { surface = sym f0 i; own = senseOf (sym f1 i); selected = senseOf (sym f2 i); body = sym f3 i; source = sym f4 i })))
+      (ap (faceIn bytes) here ∙ face-is bytes at five))
       (loops-same bytes ix iy c d refl L.loops (λ j a b. other j (λ e. omega arith)))
       (stretches-same bytes ix iy c d refl L.loops (λ j a b. other j (λ e. omega arith)))
       (answers-agree bytes ix iy c d (λ j a. other j (λ e. omega arith)) refl I)

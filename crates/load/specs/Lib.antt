@@ -2,6 +2,7 @@ pub mod Placed
 pub mod ListsMore
 pub mod Kept
 pub mod After
+pub mod SourcesKept
 pub mod Verdicts
 pub mod Judged
 pub mod Going

@@ -4,7 +4,7 @@ use Rattle.rules.specs.declared.Kind.{Kind}
 use Rattle.rules.specs.Outcome.{ok, refuse, need}
 use Rattle.rules.specs.Frame.{Frame}
 use Rattle.rules.specs.Kinds.{kindOf, rightLength, rightPosition, limitPassed, fieldsPermitted}
-use Rattle.rules.specs.Load.{Loading, counted, extended, rightJoints, answeredBefore, loadRecord}
+use Rattle.rules.specs.Load.{Loading, counted, extended, selectedBefore, rightJoints, answeredBefore, loadRecord}
 
 -- a record that is cut
 pub stop-whole : (f : Frame) (s : Loading) → f.whole ≡ false → loadRecord f s ≡ refuse 2 f.at
@@ -31,16 +31,21 @@ module _ (f : Frame) (s : Loading) (k : Kind) (kind : kindOf f.kind ≡ k) (w : 
       stop-fields x = rw (kind, w, l, p, m, x)
 
       module _ (x : fieldsPermitted k s.counts f.fields ≡ true) where
-        pub stop-joints : rightJoints k s.job.points s.job.edges f.fields ≡ false → loadRecord f s ≡ refuse 6 f.at
+        pub stop-selected : selectedBefore k s.job.faces f.fields ≡ true → loadRecord f s ≡ refuse 45 f.at
         unfolding loadRecord need
-        stop-joints j = rw (kind, w, l, p, m, x, j)
+        stop-selected q = rw (kind, w, l, p, m, x, q)
 
-        module _ (j : rightJoints k s.job.points s.job.edges f.fields ≡ true) where
-          pub stop-answered : answeredBefore k s.job.answers f.fields ≡ true → loadRecord f s ≡ refuse 7 f.at
+        module _ (q : selectedBefore k s.job.faces f.fields ≡ false) where
+          pub stop-joints : rightJoints k s.job.points s.job.edges f.fields ≡ false → loadRecord f s ≡ refuse 6 f.at
           unfolding loadRecord need
-          stop-answered a = rw (kind, w, l, p, m, x, j, a)
+          stop-joints j = rw (kind, w, l, p, m, x, q, j)
 
-          pub record-taken : answeredBefore k s.job.answers f.fields ≡ false
-              → loadRecord f s ≡ ok (record { counts = counted k (length f.fields) s.counts; job = extended k f.at f.fields s.job })
-          unfolding loadRecord need
-          record-taken a = rw (kind, w, l, p, m, x, j, a)
+          module _ (j : rightJoints k s.job.points s.job.edges f.fields ≡ true) where
+            pub stop-answered : answeredBefore k s.job.answers f.fields ≡ true → loadRecord f s ≡ refuse 7 f.at
+            unfolding loadRecord need
+            stop-answered a = rw (kind, w, l, p, m, x, q, j, a)
+
+            pub record-taken : answeredBefore k s.job.answers f.fields ≡ false
+                → loadRecord f s ≡ ok (record { counts = counted k (length f.fields) s.counts; job = extended k f.at f.fields s.job })
+            unfolding loadRecord need
+            record-taken a = rw (kind, w, l, p, m, x, q, j, a)

@@ -1,14 +1,18 @@
-// Loading: refusals 1 to 7 in their order, the counts, and the index of faces, loops and answers; and the loop request.
+// Loading: refusals 1 to 7 and 45 in their order, the counts, and the index of faces, loops and answers; and the loop
+// request.
 
 #![tactic(auto)]
 
 ghost use Rattle.std.specs.Prelude.{◌≡◌, true, ◌&&◌, not, ◌<◌, length, drop, replicate};
+ghost use Rattle.rules.specs.declared.Kind.TheVariants.{FaceRecord};
 ghost use Rattle.rules.specs.Frame.{wholeRecord};
 ghost use Rattle.rules.specs.Kinds.{isLoop, isAnswer, rightLength, rightPosition};
-ghost use Rattle.rules.specs.Load.{noCounts, answeredBefore, requested, shown};
+ghost use Rattle.rules.specs.Load.{noCounts, selectedBefore, answeredBefore, requested, shown};
 ghost use Rattle.theorems.specs.Sound.{Limited};
-ghost use Rattle.job.specs.Lists.{fieldsAt, answersIn};
+ghost use Rattle.job.specs.Lists.{fieldsAt, facesIn, answersIn};
+ghost use Rattle.selected.specs.Sources.{Sourced};
 ghost use Rattle.load.specs.Kept.{loopKept, keptIndex};
+ghost use Rattle.load.specs.SourcesKept.{keptSources};
 ghost use Rattle.load.specs.Judged.{Here, Judged};
 ghost use Rattle.load.specs.Going.{Going, SteppedAs, LoadedAs};
 ghost use Rattle.load.specs.Stretches.{stretchOf, Within, Placed};
@@ -16,6 +20,7 @@ ghost use Rattle.load.specs.Stretches.{stretchOf, Within, Placed};
 use fields::{half, put, word};
 use job::{FACES, INDEX, LOOPS, OWNERS};
 use rules::{Counts, Kind};
+use selected::SOURCES;
 
 // What becomes of one record: the number of a refusal, or the counts after it and the byte of the next.
 #[derive(Clone, Copy)]
@@ -66,6 +71,25 @@ fn is_misplaced(kind: Kind, size: usize, part: usize) -> bool
     true
 }
 
+// 45: the face of the record at a byte is selected before.
+fn is_selected(
+    job: &[u8],
+    index: &[u32],
+    sources: &[u32],
+    c: Counts,
+    at: usize,
+    kind: Kind,
+    size: usize,
+) -> bool
+    requires { Here job.now index.now c at kind size × Sourced job.now index.now sources.now c × (rightLength kind size ≡ true) }
+    ensures { result ≡ selectedBefore kind (facesIn job.now index.now c) (fieldsAt job.now at) }
+{
+    match kind {
+        Kind::FaceRecord => selected::selected_before(job, index, sources, c, at),
+        _ => false,
+    }
+}
+
 // 7: the question of the record at a byte is answered before.
 fn is_answered(job: &[u8], index: &[u32], c: Counts, at: usize, kind: Kind, size: usize) -> bool
     requires { Here job.now index.now c at kind size × (rightLength kind size ≡ true) }
@@ -78,8 +102,16 @@ fn is_answered(job: &[u8], index: &[u32], c: Counts, at: usize, kind: Kind, size
 }
 
 // The first refusal from 3 on that a whole record meets; 0 for none.
-fn fault(job: &[u8], index: &[u32], c: Counts, at: usize, kind: Kind, size: usize) -> usize
-    requires { Here job.now index.now c at kind size }
+fn fault(
+    job: &[u8],
+    index: &[u32],
+    sources: &[u32],
+    c: Counts,
+    at: usize,
+    kind: Kind,
+    size: usize,
+) -> usize
+    requires { Here job.now index.now c at kind size × Sourced job.now index.now sources.now c }
     ensures { Judged job.now index.now c at kind result }
 {
     if is_misplaced(kind, size, c.part) {
@@ -90,6 +122,9 @@ fn fault(job: &[u8], index: &[u32], c: Counts, at: usize, kind: Kind, size: usiz
         return 5;
     }
     if records::fields_permitted(job, kind, c, at + 6, n) {
+        if is_selected(job, index, sources, c, at, kind, size) {
+            return 45;
+        }
         if records::right_joints(job, kind, c, at + 6, n) {
             if is_answered(job, index, c, at, kind, size) {
                 return 7;
@@ -133,19 +168,31 @@ fn keep(job: &[u8], index: &mut [u32], kind: Kind, c: Counts, at: usize)
     }
 }
 
-// The record at a byte: refused, or its place entered and the counts after it.
-fn step(job: &[u8], index: &mut [u32], c: Counts, at: usize) -> Stepped
-    requires { Going job.now index.old c at × (at < length job.now) }
-    ensures { SteppedAs job.now index.old index.new c at result }
+// A face is entered by its source face number.
+fn keep_source(job: &[u8], sources: &mut [u32], kind: Kind, c: Counts, at: usize)
+    requires { (kind ≡ FaceRecord → c.faces < 256) × (at < 4294967296) }
+    ensures { sources.new ≡ keptSources kind job.now sources.old c at }
+{
+    match kind {
+        Kind::FaceRecord => selected::enter(job, sources, c.faces, at),
+        _ => {}
+    }
+}
+
+// The record at a byte: refused, or its place and its source face number entered and the counts after it.
+fn step(job: &[u8], index: &mut [u32], sources: &mut [u32], c: Counts, at: usize) -> Stepped
+    requires { Going job.now index.old sources.old c at × (at < length job.now) }
+    ensures { SteppedAs job.now index.old index.new sources.new c at result }
 {
     if is_whole(job, at) {
         let size = word(job, at);
         let kind = job::kind_of(half(job, at + 4));
-        let number = fault(job, index, c, at, kind, size);
+        let number = fault(job, index, sources, c, at, kind, size);
         if 0 < number {
             return Stepped::Refused(number);
         }
         keep(job, index, kind, c, at);
+        keep_source(job, sources, kind, c, at);
         let after = records::count_record(kind, size / 4, c);
         return Stepped::Taken(after, at + 6 + size);
     }
@@ -177,10 +224,11 @@ pub fn load(job: &[u8], index: &mut [u32]) -> Loaded
     if job.len() == 0 {
         return Loaded::Refused(3, 0);
     }
+    let mut sources = [0u32; SOURCES];
     let mut c = nothing();
     let mut at: usize = 0;
     while at < job.len() {
-        let s = step(job, index, c, at);
+        let s = step(job, index, &mut sources, c, at);
         match s {
             Stepped::Refused(n) => {
                 return Loaded::Refused(n, at);

@@ -19,7 +19,7 @@ use Rattle.rules.specs.Fields.{le32}
 use Rattle.rules.specs.Load.{sameSource}
 use Rattle.fields.specs.Chains.{chain, Falling, chain-end, chain-on, chain-more, chain-below, chain-same}
 use Rattle.job.specs.Lists.{faceByte, faceIn, facesIn}
-use Rattle.selected.specs.Sources.{bucketOf, nextFace, entered, isFace, foundFrom, Sourced}
+use Rattle.selected.specs.Sources.{bucketOf, nextFace, faceEntered, isFace, foundFrom, Sourced}
 
 pub bucket-below : (source : ℕ) → bucketOf source < 256
 unfolding bucketOf
@@ -117,8 +117,8 @@ sourced-same bytes ix iy t c d S count places faces = record {
 
 -- the two stores that enter it
 pub two-stores : (bytes t u v : List ℕ) (k at source b head : ℕ) → source ≡ le32 bytes (at + 22) → b ≡ source % 256 → head ≡ get_or t b 0
-    → u ≡ set t (256 + k) head → v ≡ set u b (k + 1) → v ≡ entered bytes t k at
-unfolding entered bucketOf
+    → u ≡ set t (256 + k) head → v ≡ set u b (k + 1) → v ≡ faceEntered bytes t k at
+unfolding faceEntered bucketOf
 two-stores bytes t u v k at source b head es eb eh eu ev =
     let e : b ≡ le32 bytes (at + 22) % 256 = eb ∙ ap (λ n. n % 256) es in
     let h : head ≡ get_or t (le32 bytes (at + 22) % 256) 0 = eh ∙ ap (λ n. get_or t n 0) e in
@@ -129,25 +129,25 @@ module _ (bytes t : List ℕ) (k at : ℕ) (size : length t ≡ 512) (low : k < 
   own = bucketOf (le32 bytes (at + 22))
 
   abbrev after : List ℕ
-  after = entered bytes t k at
+  after = faceEntered bytes t k at
 
-  pub length-entered : length (entered bytes t k at) ≡ 512
-  unfolding entered
+  pub length-entered : length (faceEntered bytes t k at) ≡ 512
+  unfolding faceEntered
   length-entered = length-set (set t (256 + k) (get_or t own 0)) own (k + 1) ∙ length-set t (256 + k) (get_or t own 0) ∙ size
 
   -- two places change
   other : (j : ℕ) → j ≢ 256 + k → j ≢ own → get_or after j 0 ≡ get_or t j 0
-  unfolding entered
+  unfolding faceEntered
   other j a b = get_or-set_other (set t (256 + k) (get_or t own 0)) own j (k + 1) 0 b ∙ get_or-set_other t (256 + k) j (get_or t own 0) 0 a
 
   head-new : get_or after own 0 ≡ k + 1
-  unfolding entered
+  unfolding faceEntered
   head-new =
       get_or-set_same (set t (256 + k) (get_or t own 0)) own (k + 1) 0
       (omega (arith, bucket-below (le32 bytes (at + 22)), length-set t (256 + k) (get_or t own 0), size))
 
   next-new : nextFace after k ≡ get_or t own 0
-  unfolding entered nextFace
+  unfolding faceEntered nextFace
   next-new =
       get_or-set_other (set t (256 + k) (get_or t own 0)) own (256 + k) (k + 1) 0
       (λ e. let b = bucket-below (le32 bytes (at + 22)) in omega arith)
@@ -168,7 +168,7 @@ module _ (bytes ix iy t : List ℕ) (c d : Counts) (at : ℕ) (S : Sourced bytes
     k = c.faces
 
     abbrev u : List ℕ
-    u = entered bytes t k at
+    u = faceEntered bytes t k at
 
     abbrev b : ℕ
     b = bucketOf (le32 bytes (at + 22))
@@ -215,7 +215,7 @@ module _ (bytes ix iy t : List ℕ) (c d : Counts) (at : ℕ) (S : Sourced bytes
         ∙ sym (or-false (some (sameSource f) (facesIn bytes ix c)))
         ∙ ap (λ v. some (sameSource f) (facesIn bytes ix c) || v) (sym (another f n)) ∙ sym (among f)
 
-    pub sourced-enter : Sourced bytes iy (entered bytes t c.faces at) d
+    pub sourced-enter : Sourced bytes iy (faceEntered bytes t c.faces at) d
     sourced-enter = record {
       size = length-entered bytes t k at S.size low;
       falling = falls;

@@ -17,8 +17,8 @@ unfoldable pub nextFace : List ℕ → ℕ → ℕ
 nextFace t k = get_or t (256 + k) 0
 
 -- the table with one face more, k, in front of its chain
-unfoldable pub entered : List ℕ → List ℕ → ℕ → ℕ → List ℕ
-entered bytes t k at =
+unfoldable pub faceEntered : List ℕ → List ℕ → ℕ → ℕ → List ℕ
+faceEntered bytes t k at =
     let b = bucketOf (le32 bytes (at + 22)) in
     set (set t (256 + k) (get_or t b 0)) b (k + 1)
 

@@ -9,7 +9,7 @@ ghost use Rattle.lists.specs.Lists.{some};
 ghost use Rattle.rules.specs.Fields.{le32};
 ghost use Rattle.rules.specs.Load.{sameSource};
 ghost use Rattle.job.specs.Lists.{faceIn, facesIn};
-ghost use Rattle.selected.specs.Sources.{entered, Sourced};
+ghost use Rattle.selected.specs.Sources.{faceEntered, Sourced};
 
 use fields::{get, put, word};
 use job::FACES;
@@ -54,7 +54,7 @@ pub fn selected_before(job: &[u8], index: &[u32], sources: &[u32], c: Counts, at
 // Face k, whose record stands at a byte, is entered in front of its chain.
 pub fn enter(job: &[u8], sources: &mut [u32], k: usize, at: usize)
     requires { (k < 256) × (at < 4294967296) }
-    ensures { sources.new ≡ entered job.now sources.old k at }
+    ensures { sources.new ≡ faceEntered job.now sources.old k at }
 {
     let b = word(job, at + 22) % BUCKETS;
     let head = get(sources, b);

@@ -1,4 +1,5 @@
 use Rattle.load.specs.Follows.{load-long, load-empty, going-start, follows-start, follows-on, follows-refused, follows-done}
+use mathlib.Core.Path.{refl}
 use native.Mathlib.Omega.{arith}
 use Rattle.load.proofs.load.Goals as goal
 
@@ -10,7 +11,7 @@ returns-then-job-eq0 c = load-empty c.args.job.now c.if-job-eq0.true
 
 pub loop-at-init : goal.loop-at-init
 loop-at-init c = (
-  going-start c.args.job.now c.args.index.now c.nothing-c.result c.requires c.nothing-c.ensures
+  going-start c.args.job.now c.args.index.now _ c.nothing-c.result c.requires refl c.nothing-c.ensures
       c.if-job-gt65536.false,
   follows-start c.args.job.now c.args.index.now c.nothing-c.result c.nothing-c.ensures
       c.if-job-gt65536.false (omega arith),
@@ -22,8 +23,8 @@ step-s-requires c = (c.loop-at.invariant.0, c.loop-at-test.true)
 pub returns-in-Refused : goal.returns-in-Refused
 returns-in-Refused c =
     let s = rw c.in-Refused.is at c.step-s.ensures in
-    follows-refused c.args.job.now c.loop-at.index c.loop-at.c c.loop-at.at c.loop-at.invariant.1 _ _
-    c.loop-at-test.true s
+    follows-refused c.args.job.now c.loop-at.index c.loop-at.c c.loop-at.at c.loop-at.invariant.1 _
+    c.loop-at.sources _ c.loop-at-test.true s
 
 pub loop-at-smaller : goal.loop-at-smaller
 loop-at-smaller c = let s = rw c.in-Taken.is at c.step-s.ensures in omega (arith, s.2, c.loop-at-test.true)
@@ -33,7 +34,7 @@ loop-at-preserved c =
     let s = rw c.in-Taken.is at c.step-s.ensures in (
       s.3,
       follows-on c.args.job.now c.loop-at.index c.loop-at.c c.loop-at.at c.loop-at.invariant.1 _ _ _
-          c.loop-at-test.true s,
+          _ c.loop-at-test.true s,
     )
 
 pub returns : goal.returns

@@ -5,7 +5,7 @@ use Prim.Native.Nat.{◌-◌}
 use Rattle.load.proofs.load.Given as goal
 
 abbrev pub invariant-loop-at : goal.invariant-loop-at
-invariant-loop-at l = Going l.job l.index l.c l.at × Follows l.job l.index l.c l.at
+invariant-loop-at l = Going l.job l.index l.sources l.c l.at × Follows l.job l.index l.c l.at
 
 abbrev pub decreases-loop-at : goal.decreases-loop-at
 decreases-loop-at l = length l.job - l.at

@@ -1,5 +1,5 @@
 use Rattle.rules.specs.Kinds.{kindOf}
-use Rattle.load.specs.Going.{step-cut, step-refused, step-taken, faces-some, answers-room}
+use Rattle.load.specs.Going.{step-cut, step-refused, step-taken, faces-some, faces-room, answers-room}
 use mathlib.Core.Path.{refl, ap, ◌∙◌}
 use native.Mathlib.Omega.{arith}
 use Rattle.load.proofs.step.Goals as goal
@@ -17,32 +17,39 @@ pub half-requires : goal.half-requires
 half-requires c = omega (arith, c.requires.0.small, c.requires.1)
 
 pub fault-number-requires : goal.fault-number-requires
-fault-number-requires c =
-    record {
-      limited = c.requires.0.limited;
-      indexed = c.requires.0.indexed;
-      low = omega
-          (arith, c.requires.0.small, c.requires.1);
-      kind = c.kind_of-kind.ensures ∙ ap kindOf c.half.ensures.0;
-      long =
-          c.word-size.ensures.0;
-      small = c.word-size.ensures.1;
-    }
+fault-number-requires c = (
+  record {
+    limited = c.requires.0.limited;
+    indexed = c.requires.0.indexed;
+    low = omega (arith, c.requires.0.small, c.requires.1);
+    kind = c.kind_of-kind.ensures ∙ ap kindOf c.half.ensures.0;
+    long = c.word-size.ensures.0;
+    small = c.word-size.ensures.1;
+  },
+  c.requires.0.sourced,
+)
 
 pub returns-then-number-gt0 : goal.returns-then-number-gt0
 returns-then-number-gt0 c =
     step-refused c.args.job.now c.args.index.now c.args.c c.args.at c.is_whole.result c.is_whole.ensures
-    c.if-is_whole.true c.kind_of-kind.result c.fault-number.result c.fault-number.ensures c.if-number-gt0.true
+    c.if-is_whole.true c.kind_of-kind.result c.args.sources.now c.fault-number.result c.fault-number.ensures c.if-number-gt0.true
 
 pub keep-requires : goal.keep-requires
 keep-requires c = (
   c.requires.0.limited,
   omega (arith, c.requires.0.small, c.requires.1),
   faces-some c.args.job.now c.args.index.now
-      c.args.c c.args.at c.kind_of-kind.result c.fault-number.result c.requires.0 c.fault-number.ensures
-      c.if-number-gt0.false,
+      c.args.c c.args.at c.kind_of-kind.result c.fault-number.result
+      c.args.sources.now c.requires.0 c.fault-number.ensures c.if-number-gt0.false,
   answers-room c.args.job.now c.args.index.now c.args.c c.args.at c.kind_of-kind.result
       c.fault-number.result c.fault-number.ensures c.if-number-gt0.false,
+)
+
+pub keep_source-requires : goal.keep_source-requires
+keep_source-requires c = (
+  faces-room c.args.job.now c.args.index.now c.args.c c.args.at c.kind_of-kind.result c.fault-number.result
+      c.fault-number.ensures c.if-number-gt0.false,
+  omega (arith, c.requires.0.small, c.requires.1),
 )
 
 pub count_record-after-requires : goal.count_record-after-requires
@@ -57,11 +64,11 @@ overflow_add-result-then-is_whole c = omega (arith, c.word-size.ensures.1, c.req
 pub returns-then-is_whole : goal.returns-then-is_whole
 returns-then-is_whole c =
     step-taken c.args.job.now c.args.index.now c.args.c c.args.at c.is_whole.result c.is_whole.ensures
-    c.if-is_whole.true c.kind_of-kind.result c.keep.new.index c.count_record-after.result c.fault-number.result
-    c.word-size.result _ _ c.requires.0 c.fault-number.ensures c.if-number-gt0.false
+    c.if-is_whole.true c.kind_of-kind.result c.keep.new.index c.args.sources.now c.keep_source.new.sources
+    c.count_record-after.result c.fault-number.result c.word-size.result _ _ c.requires.0 c.fault-number.ensures c.if-number-gt0.false
     (c.kind_of-kind.ensures ∙ ap kindOf c.half.ensures.0) c.word-size.ensures.0 refl c.keep.ensures
-    c.count_record-after.ensures refl
+    c.keep_source.ensures c.count_record-after.ensures refl
 
 pub returns : goal.returns
 returns c =
-    step-cut c.args.job.now c.args.index.now c.args.c c.args.at c.is_whole.result c.is_whole.ensures c.if-is_whole.false
+    step-cut c.args.job.now c.args.index.now c.args.sources.now c.args.c c.args.at c.is_whole.result c.is_whole.ensures c.if-is_whole.false
