@@ -69,7 +69,8 @@ for-each f (x ∷ xs) h = bind (f x) _ (h x) (λ y. bind (forEach f xs) _ (for-e
 
 record-numbered : (f : Frame) (s : Loading) → Numbered (loadRecord f s)
 unfolding loadRecord isNumber has
-record-numbered f s = test _ 2 _ _ refl (test _ 3 _ _ refl (test _ 5 _ _ refl (test _ 4 _ _ refl (test _ 6 _ _ refl (test _ 7 _ _ refl value)))))
+record-numbered f s =
+    test _ 2 _ _ refl (test _ 3 _ _ refl (test _ 5 _ _ refl (test _ 4 _ _ refl (test _ 45 _ _ refl (test _ 6 _ _ refl (test _ 7 _ _ refl value))))))
 
 loading-numbered : (job : List ℕ) → Numbered (loading job)
 unfolding loading isNumber has

@@ -16,7 +16,7 @@ use Rattle.lines.specs.Text.{recorded}
 
 -- Endings: the numbers of refusals; 0 is none of them
 unfoldable pub isNumber : ℕ → Bool
-isNumber n = has n (1 ∷ 2 ∷ 3 ∷ 4 ∷ 5 ∷ 6 ∷ 7 ∷ 10 ∷ 11 ∷ 12 ∷ 13 ∷ 20 ∷ 21 ∷ 22 ∷ 23 ∷ 30 ∷ 31 ∷ 32 ∷ 33 ∷ 34 ∷ 40 ∷ [])
+isNumber n = has n (1 ∷ 2 ∷ 3 ∷ 4 ∷ 5 ∷ 6 ∷ 7 ∷ 10 ∷ 11 ∷ 12 ∷ 13 ∷ 20 ∷ 21 ∷ 22 ∷ 23 ∷ 30 ∷ 31 ∷ 32 ∷ 33 ∷ 34 ∷ 40 ∷ 45 ∷ [])
 
 -- an outcome that, if it is a refusal, has such a number
 pub record Numbered {A : Type 0} (o : Outcome A) : Type 0 where
