@@ -504,6 +504,15 @@ sameNumberOfBoth = record {
   ending = ok (rec 21 (1 ∷ 2 ∷ 2 ∷ 0 ∷ 0 ∷ 0 ∷ 1 ∷ []) ∷ rec 24 (7 ∷ 0 ∷ []) ∷ rec 29 (0 ∷ 9 ∷ 1 ∷ 9 ∷ []) ∷ rec 27 [] ∷ rec 28 (0 ∷ []) ∷ []);
 }
 
+-- body and number are compared each for itself
+unfoldable pub sameSum : Row
+sameSum = record {
+  job = selecting ((7 ∷ 0 ∷ 0 ∷ 0 ∷ 6 ∷ []) ∷ (7 ∷ 0 ∷ 0 ∷ 1 ∷ 5 ∷ []) ∷ []);
+  ending = ok
+      (rec 21 (1 ∷ 0 ∷ 0 ∷ 0 ∷ 0 ∷ 0 ∷ 0 ∷ []) ∷ rec 24 (7 ∷ 0 ∷ []) ∷ rec 29 (0 ∷ 6 ∷ []) ∷ rec 24 (7 ∷ 0 ∷ []) ∷ rec 29 (1 ∷ 5 ∷ []) ∷
+      rec 27 [] ∷ rec 28 (0 ∷ []) ∷ rec 27 [] ∷ rec 28 (1 ∷ []) ∷ []);
+}
+
 -- numbers that agree in their lowest 8, 16, 24 or 31 bits are different
 unfoldable pub byAllBits : Row
 byAllBits = record {
@@ -518,10 +527,10 @@ byAllBits = record {
 unfoldable pub selectedRows : List Row
 selectedRows =
     selectedTwice ∷ twiceAndJoined ∷ twiceOnAnotherSurface ∷ twiceWithAnotherOwnSense ∷ twiceInTheOtherBody ∷ zeroTwice ∷ highestTwice ∷ notTheFaceBefore ∷ notTheFirstFace ∷
-    afterTheOtherBody ∷ firstOfTwoRepeats ∷ lengthBeforeTwice ∷ fieldsBeforeTwice ∷ twiceBeforeJoints ∷ jointsBeforeTwice ∷ twiceBeforeUnknown ∷ sameNumberOfBoth ∷ byAllBits ∷ []
+    afterTheOtherBody ∷ firstOfTwoRepeats ∷ lengthBeforeTwice ∷ fieldsBeforeTwice ∷ twiceBeforeJoints ∷ jointsBeforeTwice ∷ twiceBeforeUnknown ∷ sameNumberOfBoth ∷ sameSum ∷ byAllBits ∷ []
 
 pub selected-right : all right selectedRows ≡ true
-unfolding computes sameRecords selectedRows selecting selectedTwice twiceAndJoined twiceOnAnotherSurface twiceWithAnotherOwnSense twiceInTheOtherBody zeroTwice highestTwice notTheFaceBefore notTheFirstFace afterTheOtherBody firstOfTwoRepeats lengthBeforeTwice fieldsBeforeTwice twiceBeforeJoints jointsBeforeTwice twiceBeforeUnknown sameNumberOfBoth byAllBits
+unfolding computes sameRecords selectedRows selecting selectedTwice twiceAndJoined twiceOnAnotherSurface twiceWithAnotherOwnSense twiceInTheOtherBody zeroTwice highestTwice notTheFaceBefore notTheFirstFace afterTheOtherBody firstOfTwoRepeats lengthBeforeTwice fieldsBeforeTwice twiceBeforeJoints jointsBeforeTwice twiceBeforeUnknown sameNumberOfBoth sameSum byAllBits
 selected-right = refl
 
 -- a record that is cut, after the second of two; and as the second of them
