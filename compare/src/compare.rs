@@ -1,6 +1,6 @@
 //! Holds the reference against the second implementation on one job.
 
-use crate::compared::{compared, in_room, lacking};
+use crate::compared::{UNLOADED, compared, in_room, lacking};
 use crate::features::features;
 use crate::records;
 use crate::second::{self, Job, Refusal, Stage, Trail};
@@ -38,10 +38,13 @@ pub fn compare(bytes: &[u8], room: usize) -> Compared {
     compared
 }
 
-/// Load refusals have no counterpart in the reference.
+/// Load refusals, 45 among them, have no counterpart in the reference.
 fn refused_at_load(refusal: Refusal) -> Compared {
+    let known = UNLOADED.contains(&refusal.number);
+    let other = (!known).then(|| format!("{refusal} is no load refusal"));
     Compared {
         refusal: Some(refusal),
+        differences: other.into_iter().collect(),
         ..Compared::default()
     }
 }
@@ -54,6 +57,7 @@ fn compare_loaded(bytes: &[u8], job: &Job, room: usize) -> Compared {
     let whole = second::sew_output(&trail, usize::MAX).unwrap_or_default();
     differences.extend(unlike_faces(job, &whole));
     differences.extend(unlike_members(job, &whole));
+    differences.extend(member_twice(&whole));
     let body = second::sew_output(&trail, room);
     let reference = in_room(verdict.body, lacking(&whole), room);
     compare_bodies(&body, reference, &mut differences);
@@ -87,9 +91,7 @@ fn unlike_faces(job: &Job, body: &[u8]) -> Option<String> {
 fn unlike_members(job: &Job, body: &[u8]) -> Option<String> {
     let (list, _) = records::split(body);
     let after = |pair: &[records::Record]| (pair[0].0 == 24) == (pair[1].0 == 29);
-    let members = list.iter().filter(|(kind, _)| *kind == 29);
-    let fields = members.flat_map(|(_, fields)| fields.chunks(2));
-    let mut told: Vec<Vec<u32>> = fields.map(<[u32]>::to_vec).collect();
+    let mut told = members(&list);
     let selected = job.faces.iter().map(|face| vec![face.body, face.source]);
     let mut selected: Vec<Vec<u32>> = selected.collect();
     let written = !list.is_empty();
@@ -97,6 +99,21 @@ fn unlike_members(job: &Job, body: &[u8]) -> Option<String> {
     selected.sort_unstable();
     let unlike = !list.windows(2).all(after) || (written && told != selected);
     unlike.then(|| format!("members {told:?} of the faces {selected:?}"))
+}
+
+/// Body and source of all members of a body.
+fn members(list: &[records::Record]) -> Vec<Vec<u32>> {
+    let members = list.iter().filter(|(kind, _)| *kind == 29);
+    let fields = members.flat_map(|(_, fields)| fields.chunks(2));
+    fields.map(<[u32]>::to_vec).collect()
+}
+
+/// No body and source stand twice among the members of all faces.
+fn member_twice(body: &[u8]) -> Option<String> {
+    let mut told = members(&records::split(body).0);
+    told.sort_unstable();
+    let twice = told.windows(2).find(|pair| pair[0] == pair[1])?;
+    Some(format!("member {:?} stands twice in a body", twice[0]))
 }
 
 fn ending(refusal: Refusal) -> Ending {

@@ -1,10 +1,15 @@
-//! What the Rust is compared on. It writes no face joins and no members: they
-//! are left out before a body is held against its, and held against the second
-//! implementation.
+//! What the Rust is compared on. It has no loader, so no job that is refused
+//! while loading is held against it; a face selected twice (45) is such a job.
+//! It writes no face joins and no members: they are left out before a body is
+//! held against its. All this is held against the second implementation.
 
 use crate::records;
 use crate::text;
 use reference::Ending;
+
+/// The refusals of loading, which the Rust has not: document 01's seven, and 45
+/// of document 02's request Eight. The Rust sews a face that is selected twice.
+pub const UNLOADED: [u32; 8] = [1, 2, 3, 4, 5, 6, 7, 45];
 
 /// The fields of a record that the Rust has too; none if it has no such record.
 fn compared_fields<T>(kind: u16, fields: &[T]) -> Option<&[T]> {

@@ -15,6 +15,7 @@ mod second;
 mod summary;
 mod table;
 mod text;
+mod twice;
 mod vectors;
 
 #[cfg(test)]

@@ -4,13 +4,15 @@ use crate::cli::say;
 use crate::compare::{Compared, compare};
 use crate::generate::{self, Expected, Sample};
 use crate::summary::Summary;
+use crate::twice;
 use std::sync::Mutex;
 use std::sync::atomic::{AtomicU64, Ordering};
 
 /// Disagreements shown at most.
 const SHOWN: usize = 40;
 
-/// Compares a generated job; loading must also come to what it should.
+/// Compares a generated job; loading must also come to what it should, and to 45
+/// just where a face is selected twice.
 pub fn judge(sample: &Sample) -> Compared {
     let mut compared = compare(&sample.job, sample.room);
     let found = compared.refusal.filter(|_| compared.job.is_none());
@@ -24,6 +26,8 @@ pub fn judge(sample: &Sample) -> Compared {
         }),
     };
     compared.differences.extend(wrong);
+    let twice = twice::unlike(&sample.job, found);
+    compared.differences.extend(twice);
     compared
 }
 

@@ -13,6 +13,8 @@ pub struct Summary {
     pub unlike: usize,
     accepted: usize,
     loaded: usize,
+    /// Jobs that did not load, by number: the reference never sees them.
+    unloaded: BTreeMap<u32, usize>,
     refusals: BTreeMap<u32, usize>,
     /// Refusals 20 and 21 by kind, 5 by the kind of record too many.
     by_kind: BTreeMap<u32, BTreeMap<u32, usize>>,
@@ -49,9 +51,16 @@ impl Summary {
                 of_class[1] += 1;
             }
         }
-        if let Some(job) = &compared.job {
-            self.loaded += 1;
-            self.add_sizes(job, bytes.len());
+        match (&compared.job, compared.refusal) {
+            (Some(job), _) => {
+                self.loaded += 1;
+                self.add_sizes(job, bytes.len());
+            }
+            (None, Some(refusal)) => {
+                *self.unloaded.entry(refusal.number).or_default() += 1;
+            }
+            // A program stopped by itself, which is told.
+            (None, None) => {}
         }
         for &kind in &compared.kinds {
             *self.questions.entry(kind).or_default() += 1;
@@ -97,10 +106,11 @@ impl Summary {
         let mut lines = vec![
             format!("jobs: {}", self.jobs),
             format!("accepted: {}", self.accepted),
+            format!("loaded and held against the reference: {}", self.loaded),
             format!(
-                "loaded and held against the reference: {} \
-                 (a load refusal has no counterpart in it)",
-                self.loaded
+                "not loaded, which has no counterpart in the reference: {} ({})",
+                self.unloaded.values().sum::<usize>(),
+                counts(&self.unloaded)
             ),
             format!("refusals by number: {}", counts(&self.refusals)),
         ];

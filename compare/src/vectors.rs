@@ -20,8 +20,8 @@ const DRAWN: u64 = 3_000;
 const WRITTEN_OUT: usize = 4_096;
 
 /// Every refusal number.
-const NUMBERS: [u32; 20] = [
-    1, 2, 3, 4, 5, 6, 7, 10, 11, 12, 13, 20, 21, 22, 23, 30, 31, 32, 33, 34,
+const NUMBERS: [u32; 21] = [
+    1, 2, 3, 4, 5, 6, 7, 10, 11, 12, 13, 20, 21, 22, 23, 30, 31, 32, 33, 34, 45,
 ];
 
 /// Document 01's parts as text.

@@ -6,13 +6,13 @@ use super::oracle::{RadialStyle, Style};
 use super::rng::Rng;
 use super::shapes;
 use super::sketch::Sketch;
-use super::{Expected, Sample, damage, limits, must_load};
+use super::{Expected, Sample, damage, limits, must_load, repeats};
 use crate::compare::ROOM;
 use crate::records::{self, Record};
 use crate::second::{self, Question, Refusal, Reply};
 
 /// Name and weight of each class.
-pub const CLASSES: [(&str, usize); 19] = [
+pub const CLASSES: [(&str, usize); 20] = [
     ("small", 100),
     ("merging", 130),
     ("joining", 110),
@@ -27,9 +27,10 @@ pub const CLASSES: [(&str, usize); 19] = [
     ("undecided", 70),
     ("vanishing", 14),
     ("contact", 100),
-    ("pairing", 80),
-    ("damage", 180),
-    ("bytes", 60),
+    ("pairing", 76),
+    ("damage", 152),
+    ("repeats", 50),
+    ("bytes", 42),
     ("room", 30),
     ("limits", 8),
 ];
@@ -45,6 +46,7 @@ pub fn sample_of(class: &'static str, rng: &mut Rng) -> Sample {
     let mut room = ROOM;
     let (job, expected) = match class {
         "damage" => damage::one_record(&any_draft(rng), rng),
+        "repeats" => repeats::some(&any_draft(rng), rng),
         "bytes" => {
             let sound = records::to_bytes(&any_draft(rng).records(rng));
             (damage::some_bytes(sound, rng), Expected::Unknown)

@@ -6,12 +6,12 @@ use super::rng::Rng;
 use crate::records::{self, HEADER, Record};
 use crate::second::{NONE, Refusal};
 
-type Damaged = (Vec<u8>, Expected);
+pub type Damaged = (Vec<u8>, Expected);
 
 /// A record of bytes, whole or not.
 type Raw = (u16, Vec<u8>);
 
-fn expected(number: u32, place: usize) -> Expected {
+pub fn expected(number: u32, place: usize) -> Expected {
     Expected::Refused(Refusal {
         number,
         place: place as u32,
@@ -40,7 +40,7 @@ fn raw_bytes(list: &[Raw]) -> Vec<u8> {
 }
 
 /// First byte of a record.
-fn place(list: &[Record], index: usize) -> usize {
+pub fn place(list: &[Record], index: usize) -> usize {
     let length = |(_, fields): &Record| HEADER + 4 * fields.len();
     list[..index].iter().map(length).sum()
 }
@@ -62,6 +62,11 @@ fn some_index_of(list: &[Record], kind: u16, rng: &mut Rng) -> Option<usize> {
 /// Damages one record, or the order of records.
 pub fn one_record(draft: &Draft, rng: &mut Rng) -> Damaged {
     let list = draft.records(rng);
+    one_of(list, draft.counts, rng)
+}
+
+/// The same in records with what there is of each sort.
+pub fn one_of(list: Vec<Record>, counts: Counts, rng: &mut Rng) -> Damaged {
     match rng.below(27) {
         0 | 1 => cut_header(&list, rng),
         2 | 3 => cut_payload(&list, rng),
@@ -73,13 +78,13 @@ pub fn one_record(draft: &Draft, rng: &mut Rng) -> Damaged {
         9 => second_head(&list, rng),
         10 => no_head(&list, rng),
         11 => wrong_place(&list, rng),
-        12..=15 => bad_field(&list, draft.counts, rng),
+        12..=15 => bad_field(&list, counts, rng),
         16 => broken_joint(&list, rng),
         17 => ring_not_alone(list, rng),
         18 => open_loop(&list, rng),
         19 | 20 => repeated(&list, rng),
         21 => too_long(&list, rng),
-        22 => two_faults(&list, draft.counts, rng),
+        22 => two_faults(&list, counts, rng),
         23 => moved_vertex(&list, rng),
         24 => earlier_face(&list, rng),
         25 => third_body(&list, rng),

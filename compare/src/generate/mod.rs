@@ -6,6 +6,7 @@ pub mod draft;
 pub mod grow;
 pub mod limits;
 pub mod oracle;
+pub mod repeats;
 pub mod rng;
 pub mod shapes;
 pub mod sketch;

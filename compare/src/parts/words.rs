@@ -3,7 +3,7 @@
 use super::answers::SECOND;
 
 /// What each refusal number means.
-const REFUSALS: [(u32, &str); 21] = [
+const REFUSALS: [(u32, &str); 22] = [
     (1, "the job is longer than 65,536 bytes"),
     (2, "a record is cut short"),
     (3, "unknown kind, wrong length or position; no Head"),
@@ -25,11 +25,15 @@ const REFUSALS: [(u32, &str); 21] = [
     (33, "two pairs of the edge lie in one lump"),
     (34, "the void lies in no outer shell"),
     (40, "the records do not fit the output"),
+    (
+        45,
+        "the face is selected twice: the same body and source face",
+    ),
 ];
 
 pub fn refusal(number: u32) -> &'static str {
     let known = REFUSALS.iter().find(|(known, _)| *known == number);
-    known.map_or("no refusal of document 01", |(_, words)| words)
+    known.map_or("no refusal of the papers", |(_, words)| words)
 }
 
 /// A count with its noun.
@@ -49,6 +53,6 @@ pub fn unloaded(tested: &str, parts: usize) -> Option<String> {
         "the second implementation stood in"
     };
     Some(format!(
-        "{parts} not load (1 to 7): the reference has no loader, so {instead}"
+        "{parts} not load (1 to 7 and 45): the reference has no loader, so {instead}"
     ))
 }

@@ -1,4 +1,4 @@
-//! Loading: each record is checked in the order 2, 3, 5, 4, 6, 7.
+//! Loading: each record is checked in the order 2, 3, 5, 4, 45, 6, 7.
 
 use super::job::{Edge, Face, Job, Loop, NONE, Sense};
 use super::questions::{Question, Reply};
@@ -50,6 +50,7 @@ fn check(record: &Record, previous: Option<u16>, job: &Job) -> Result<(), u32> {
     need(3, in_position(record.kind, previous))?;
     need(5, within_limits(record, job))?;
     need(4, fields_permitted(record, job))?;
+    need(45, not_selected_before(record, job))?;
     need(6, joints_hold(record, job))?;
     need(7, not_answered_before(record, job))
 }
@@ -146,6 +147,17 @@ fn fields_permitted(record: &Record, job: &Job) -> bool {
         // Point, curve, surface and source numbers may be anything.
         _ => true,
     }
+}
+
+/// No face before is the same one: of the same body and source. Its surface and
+/// its senses do not matter.
+fn not_selected_before(record: &Record, job: &Job) -> bool {
+    if record.kind != 4 {
+        return true;
+    }
+    let (body, source) = (record.fields[3], record.fields[4]);
+    let same = |face: &Face| face.body == body && face.source == source;
+    !job.faces.iter().any(same)
 }
 
 /// Edge and sense of each use of a loop record.

@@ -1,0 +1,94 @@
+//! Faces selected twice, read off the bytes of a job: what is asked of every
+//! refusal, by other means than loading.
+
+use crate::records::{self, HEADER};
+use crate::second::Refusal;
+use std::collections::BTreeMap;
+
+/// The refusal of a face selected twice.
+pub const SELECTED_TWICE: u32 = 45;
+
+/// The first face that an earlier one is already.
+pub struct Repeat {
+    /// First byte of its record.
+    pub place: u32,
+    /// How many faces after the earlier one.
+    pub distance: usize,
+    /// Fields of the earlier one and of itself.
+    pub fields: [Vec<u32>; 2],
+    /// How many faces before have a source number equal to its own modulo 256.
+    pub chain: usize,
+}
+
+/// Place and fields of each whole record of a face.
+pub fn faces(job: &[u8]) -> Vec<(u32, Vec<u32>)> {
+    let mut at = 0;
+    let mut faces = Vec::new();
+    for (kind, fields) in records::split(job).0 {
+        let length = HEADER + 4 * fields.len();
+        if kind == 4 && fields.len() == 5 {
+            faces.push((at as u32, fields));
+        }
+        at += length;
+    }
+    faces
+}
+
+pub fn first_repeat(job: &[u8]) -> Option<Repeat> {
+    let faces = faces(job);
+    let mut met: BTreeMap<(u32, u32), usize> = BTreeMap::new();
+    for (i, (place, fields)) in faces.iter().enumerate() {
+        let Some(earlier) = met.insert((fields[3], fields[4]), i) else {
+            continue;
+        };
+        let before = faces[..i].iter();
+        let chain = before.filter(|(_, other)| other[4] % 256 == fields[4] % 256);
+        return Some(Repeat {
+            place: *place,
+            distance: i - earlier,
+            fields: [faces[earlier].1.clone(), fields.clone()],
+            chain: chain.count(),
+        });
+    }
+    None
+}
+
+/// What is wrong with how loading ended, as far as faces are repeated. A job
+/// that loads has no face twice; 45 is told of the first that is repeated, and
+/// no refusal of a later record before it. On that record itself 2, 3, 5 and 4
+/// come first.
+pub fn unlike(job: &[u8], found: Option<Refusal>) -> Option<String> {
+    if found.is_some_and(|refusal| refusal.number == 1) {
+        return None;
+    }
+    let first = first_repeat(job).map(|repeat| repeat.place);
+    let right = match (found, first) {
+        (None, None) => true,
+        (None, Some(_)) => false,
+        (Some(refusal), _) if refusal.number == SELECTED_TWICE => first == Some(refusal.place),
+        (Some(_), None) => true,
+        (Some(refusal), Some(place)) => {
+            let first_on_it = refusal.place == place && [2, 3, 4, 5].contains(&refusal.number);
+            refusal.place < place || first_on_it
+        }
+    };
+    let ended = found.map_or("loads".to_string(), |refusal| refusal.to_string());
+    let told = match first {
+        None => "no face is selected twice".to_string(),
+        Some(place) => format!("a face is selected twice at {place}"),
+    };
+    (!right).then(|| format!("{told}, second {ended}"))
+}
+
+/// The job with every repeated face given a source that no face has.
+pub fn repaired(job: &[u8]) -> Vec<u8> {
+    let mut job = job.to_vec();
+    while let Some(repeat) = first_repeat(&job) {
+        let used: Vec<u32> = faces(&job).iter().map(|(_, fields)| fields[4]).collect();
+        let unused = (0..).find(|source| !used.contains(source));
+        let source = unused.expect("a job has fewer faces than there are numbers");
+        let at = repeat.place as usize + HEADER + 4 * 4;
+        job[at..at + 4].copy_from_slice(&source.to_le_bytes());
+    }
+    job
+}
