@@ -22,6 +22,7 @@ pub fn features(job: &Job, trail: &Trail) -> Vec<&'static str> {
     let mut found = Found::default();
     note_products(job, &mut found);
     note_faces(job, trail, &mut found);
+    note_sources(job, &mut found);
     note_turns(trail, &mut found);
     note_edges(job, trail, &mut found);
     note_vertices(job, trail, &mut found);
@@ -144,9 +145,33 @@ fn note_members(job: &Job, trail: &Trail, found: &mut Found) {
     found.note("members of both bodies", bodies);
     found.note("members whose sources do not ascend", falls);
     found.note("a member of the highest source", highest);
-    let each: BTreeSet<&(u32, u32)> = behind.values().flatten().collect();
-    let twice = each.len() < job.faces.len();
-    found.note("two members of one body and source", twice);
+}
+
+/// Faces that could be taken for each other by their sources, and are not.
+fn note_sources(job: &Job, found: &mut Found) {
+    let all: BTreeSet<(u32, u32)> = job.faces.iter().map(|f| (f.body, f.source)).collect();
+    let differ = |bits: u32| {
+        let other = |&(body, source): &(u32, u32)| all.contains(&(body, source ^ bits));
+        all.iter().any(other)
+    };
+    let both = all
+        .iter()
+        .any(|&(body, source)| all.contains(&(1 - body, source)));
+    found.note("a source in both bodies", both);
+    found.note("sources that differ in the lowest bit", differ(1));
+    found.note("sources that differ in the highest bit", differ(1 << 31));
+    let most_alike = |modulus: u32| {
+        let rests = all.iter().map(|(body, source)| (body, source % modulus));
+        let counts = rests.fold(BTreeMap::new(), |mut counts, rest| {
+            *counts.entry(rest).or_insert(0usize) += 1;
+            counts
+        });
+        counts.into_values().max().unwrap_or(0)
+    };
+    found.note("two sources equal modulo 256", most_alike(256) > 1);
+    found.note("eight sources equal modulo 256", most_alike(256) > 7);
+    found.note("two sources equal modulo 1,024", most_alike(1_024) > 1);
+    found.note("two sources equal in 16 bits", most_alike(65_536) > 1);
 }
 
 fn note_turns(trail: &Trail, found: &mut Found) {

@@ -17,7 +17,9 @@ use std::fmt::Write;
 const LONGEST: usize = 700;
 /// Jobs drawn of each class.
 const DRAWN: u64 = 2_000;
-/// Jobs of one class and ending; more of those that have much in them.
+/// Jobs of one class and ending; more of those that have much in them, and 45 at
+/// each distance and beside each other refusal.
+const ONE: usize = 1;
 const FEW: usize = 2;
 const MORE: usize = 6;
 /// Rows computed by one fact, which may take fifty million steps.
@@ -119,7 +121,7 @@ fn too_many_faces() -> Row {
 
 /// Short jobs of a class, a few for each ending.
 fn jobs_of(class: &'static str, c: usize, seed: u64) -> Result<Vec<(Vec<u8>, usize)>, Failed> {
-    let mut kept: BTreeMap<(u32, u32), usize> = BTreeMap::new();
+    let mut kept: BTreeMap<((u32, u32), u32), usize> = BTreeMap::new();
     let mut jobs = Vec::new();
     for i in 0..DRAWN {
         let mut rng = Rng::new(seed, (c as u64) << 32 | i);
@@ -134,9 +136,11 @@ fn jobs_of(class: &'static str, c: usize, seed: u64) -> Result<Vec<(Vec<u8>, usi
         let ending = compared
             .refusal
             .map_or((0, 0), crate::vectors::sort_of_ending);
-        let count = kept.entry(ending).or_default();
+        let beside = crate::vectors::beside(class, &sample.job, ending.0);
+        let count = kept.entry((ending, beside)).or_default();
         let most = match ending.0 {
             0 | 31 | 32 => MORE,
+            45 => ONE,
             _ => FEW,
         };
         if *count < most {

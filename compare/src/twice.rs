@@ -2,7 +2,7 @@
 //! refusal, by other means than loading.
 
 use crate::records::{self, HEADER};
-use crate::second::Refusal;
+use crate::second::{self, Refusal};
 use std::collections::BTreeMap;
 
 /// The refusal of a face selected twice.
@@ -78,6 +78,20 @@ pub fn unlike(job: &[u8], found: Option<Refusal>) -> Option<String> {
         Some(place) => format!("a face is selected twice at {place}"),
     };
     (!right).then(|| format!("{told}, second {ended}"))
+}
+
+/// Sorts of 45, to keep some of each: what a job that lost its repeated faces is
+/// refused with while loading, 0 if it loads; how far the first is from the face
+/// that it repeats, in doublings; and whether their senses agree.
+pub fn sort(job: &[u8]) -> Option<(u32, u32, bool)> {
+    let repeat = first_repeat(job)?;
+    let beside = second::load(&repaired(job)).err();
+    let [earlier, later] = &repeat.fields;
+    Some((
+        beside.map_or(0, |refusal| refusal.number),
+        repeat.distance.ilog2(),
+        earlier[1..3] == later[1..3],
+    ))
 }
 
 /// The job with every repeated face given a source that no face has.

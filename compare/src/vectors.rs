@@ -6,6 +6,7 @@ use crate::generate::rng::Rng;
 use crate::generate::{self, CLASSES, Sample, limits};
 use crate::run::judge;
 use crate::second::{self, Refusal, Stage, Trail};
+use crate::twice;
 use std::collections::{BTreeMap, BTreeSet};
 
 /// Bytes the file may have at most.
@@ -14,6 +15,8 @@ const MOST: usize = 2_000_000;
 const SMALL: usize = 1_000;
 /// Bytes of some accepted jobs, which have more in them.
 const MIDDLING: usize = 4_000;
+/// Bytes of some jobs of many faces, refused with 45.
+const LONG: usize = 8_000;
 /// Jobs drawn of each class.
 const DRAWN: u64 = 3_000;
 /// Longest body that is written out.
@@ -78,7 +81,7 @@ fn drawn_jobs(
         if class == "limits" || class == "large" {
             continue;
         }
-        let mut kept: BTreeMap<(bool, u32, u32), usize> = BTreeMap::new();
+        let mut kept: BTreeMap<(bool, u32, u32, u32), usize> = BTreeMap::new();
         for i in 0..DRAWN {
             let mut rng = Rng::new(seed, (c as u64) << 32 | i);
             let sample = generate::sample_of(class, &mut rng);
@@ -91,7 +94,8 @@ fn drawn_jobs(
                 .map(|refusal| sort_of_job(&sample.job, refusal));
             let (number, kind) = ending.unwrap_or((0, 0));
             let small = sample.job.len() <= SMALL;
-            let count = kept.entry((small, number, kind)).or_default();
+            let beside = beside(class, &sample.job, number);
+            let count = kept.entry((small, number, kind, beside)).or_default();
             if *count < most_kept(class, sample.job.len(), number) {
                 *count += 1;
                 met.insert(number);
@@ -103,9 +107,14 @@ fn drawn_jobs(
 }
 
 /// How many jobs of a class with one ending are kept. Answers are missing in
-/// many classes; their own classes show that best.
+/// many classes; their own classes show that best. Faces that are far from each
+/// other need a long job.
 fn most_kept(class: &str, length: usize, number: u32) -> usize {
     match number {
+        45 if length > LONG => 0,
+        45 if length > SMALL => 1,
+        45 => 2,
+        5 if class == "repeats" => 2,
         _ if length > MIDDLING => 0,
         0 if length > SMALL => 4,
         _ if length > SMALL => 0,
@@ -132,6 +141,17 @@ fn sort_of_job(job: &[u8], refusal: Refusal) -> (u32, u32) {
     match (refusal.number, kind) {
         (3 | 4, Some([kind @ 1..=13, 0, ..])) => (refusal.number, u32::from(*kind)),
         _ => sort_of_ending(refusal),
+    }
+}
+
+/// What else there is in a job of faces selected twice. Beside 45 it is another
+/// refusal or, alone, how far the faces are apart and whether their senses agree;
+/// beside another refusal, whether a face is selected twice at or after it.
+pub fn beside(class: &str, job: &[u8], number: u32) -> u32 {
+    match twice::sort(job).filter(|_| class == "repeats") {
+        None => 0,
+        Some((0, apart, alike)) if number == 45 => 100 + 2 * apart + u32::from(alike),
+        Some((other, _, _)) => 1 + other,
     }
 }
 

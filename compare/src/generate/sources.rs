@@ -77,7 +77,8 @@ fn give(records: &mut [Record], way: Way, rng: &mut Rng) {
     let mut met = BTreeSet::new();
     for (i, fields) in faces.into_iter().enumerate() {
         let number = order[i] as u32;
-        let apart = |step: u32, from: u32, number: u32| from.wrapping_add(step.wrapping_mul(number));
+        let apart =
+            |step: u32, from: u32, number: u32| from.wrapping_add(step.wrapping_mul(number));
         let mut drawn = || match way {
             Way::AsSelected => (0, i as u32),
             Way::Shuffled => (rng.below(2) as u32, number),
@@ -85,9 +86,7 @@ fn give(records: &mut [Record], way: Way, rng: &mut Rng) {
             Way::Any if rng.chance(40) => (rng.below(2) as u32, *rng.pick(&EDGES)),
             Way::Any => (rng.below(2) as u32, rng.field()),
             Way::Both => (number % 2, number / 2),
-            Way::Apart(step, from, bodies) => {
-                (rng.below(bodies) as u32, apart(step, from, number))
-            }
+            Way::Apart(step, from, bodies) => (rng.below(bodies) as u32, apart(step, from, number)),
             Way::BothApart(step, from) => (number % 2, apart(step, from, number / 2)),
             Way::Bits(from) => {
                 let bit = 1u32.checked_shl(rng.below(33) as u32);
