@@ -5,6 +5,7 @@ use crate::second::job::Loop;
 use crate::second::questions::Question;
 use crate::second::read::Use;
 use crate::second::{Job, Reply, Sense, Trail};
+use crate::twice::{CLOSE, close};
 use std::collections::{BTreeMap, BTreeSet};
 
 #[derive(Default)]
@@ -149,29 +150,10 @@ fn note_members(job: &Job, trail: &Trail, found: &mut Found) {
 
 /// Faces that could be taken for each other by their sources, and are not.
 fn note_sources(job: &Job, found: &mut Found) {
-    let all: BTreeSet<(u32, u32)> = job.faces.iter().map(|f| (f.body, f.source)).collect();
-    let differ = |bits: u32| {
-        let other = |&(body, source): &(u32, u32)| all.contains(&(body, source ^ bits));
-        all.iter().any(other)
-    };
-    let both = all
-        .iter()
-        .any(|&(body, source)| all.contains(&(1 - body, source)));
-    found.note("a source in both bodies", both);
-    found.note("sources that differ in the lowest bit", differ(1));
-    found.note("sources that differ in the highest bit", differ(1 << 31));
-    let most_alike = |modulus: u32| {
-        let rests = all.iter().map(|(body, source)| (body, source % modulus));
-        let counts = rests.fold(BTreeMap::new(), |mut counts, rest| {
-            *counts.entry(rest).or_insert(0usize) += 1;
-            counts
-        });
-        counts.into_values().max().unwrap_or(0)
-    };
-    found.note("two sources equal modulo 256", most_alike(256) > 1);
-    found.note("eight sources equal modulo 256", most_alike(256) > 7);
-    found.note("two sources equal modulo 1,024", most_alike(1_024) > 1);
-    found.note("two sources equal in 16 bits", most_alike(65_536) > 1);
+    let names = job.faces.iter().map(|face| (face.body, face.source));
+    for (name, there) in CLOSE.into_iter().zip(close(names)) {
+        found.note(name, there);
+    }
 }
 
 fn note_turns(trail: &Trail, found: &mut Found) {

@@ -17,8 +17,9 @@ use std::fmt::Write;
 const LONGEST: usize = 700;
 /// Jobs drawn of each class.
 const DRAWN: u64 = 2_000;
-/// Jobs of one class and ending; more of those that have much in them, and 45 at
-/// each distance and beside each other refusal.
+/// Jobs of one class and ending; more of those that have much in them. Of faces
+/// selected twice one at each distance and beside each other refusal, and one of
+/// each way to be close.
 const ONE: usize = 1;
 const FEW: usize = 2;
 const MORE: usize = 6;
@@ -139,8 +140,9 @@ fn jobs_of(class: &'static str, c: usize, seed: u64) -> Result<Vec<(Vec<u8>, usi
         let beside = crate::vectors::beside(class, &sample.job, ending.0);
         let count = kept.entry((ending, beside)).or_default();
         let most = match ending.0 {
-            0 | 31 | 32 => MORE,
+            0 if class == "repeats" => ONE,
             45 => ONE,
+            0 | 31 | 32 => MORE,
             _ => FEW,
         };
         if *count < most {

@@ -6,11 +6,13 @@ use crate::compare::{ROOM, compare};
 use crate::compared::{compared, compared_lines, in_room, lacking};
 use crate::generate::rng::Rng;
 use crate::generate::split::split_vertices;
-use crate::generate::{self, Sample, limits};
+use crate::generate::{self, Expected, Sample, limits};
 use crate::records;
 use crate::second::load::MAX_BYTES;
+use crate::second::{Refusal, Stage};
+use crate::twice::{self, CLOSE, SELECTED_TWICE, first_repeat};
 use crate::{run, second, text, vectors};
-use std::collections::BTreeSet;
+use std::collections::{BTreeMap, BTreeSet};
 use std::path::Path;
 
 /// A part of document 01, by its number.
@@ -66,7 +68,7 @@ fn parts_of_the_requests_give_what_their_files_say() {
         );
         seen += 1;
     }
-    assert!(seen >= 20, "{seen} parts");
+    assert!(seen >= 49, "{seen} parts");
 }
 
 #[test]
@@ -141,7 +143,7 @@ fn stored_jobs() -> Vec<Vec<u8>> {
 #[test]
 fn stored_jobs_come_back_from_their_text() {
     let jobs = stored_jobs();
-    assert_eq!(jobs.len(), 694);
+    assert_eq!(jobs.len(), 869);
     for job in jobs {
         let text = job_text::show(&job);
         assert_eq!(job_text::assemble(text.as_bytes()), Ok(job));
@@ -247,7 +249,7 @@ fn members_are_met() {
             "members of both bodies",
             "members whose sources do not ascend",
             "a member of the highest source",
-            "two members of one body and source",
+            "a source in both bodies",
         ],
     );
 }
@@ -287,6 +289,216 @@ fn faces_that_do_not_load_are_met() {
             "{short} short faces, {bodies} bodies"
         );
     }
+}
+
+/// Drawn jobs of the class that selects faces twice.
+fn repeats(count: u64) -> impl Iterator<Item = Sample> {
+    (0..count).map(|index| generate::sample_of("repeats", &mut Rng::new(8, index)))
+}
+
+/// Request Eight: what the generator knows of each job holds, and so does what
+/// its bytes show.
+#[test]
+fn jobs_of_faces_selected_twice_end_as_they_were_made() {
+    let mut ends = BTreeMap::new();
+    for (index, sample) in repeats(6_000).enumerate() {
+        let differences = run::judge(&sample).differences;
+        assert!(differences.is_empty(), "job {index}: {differences:?}");
+        let number = match sample.expected {
+            Expected::Unknown => 99,
+            Expected::Loads => 0,
+            Expected::Refused(refusal) => refusal.number,
+        };
+        *ends.entry(number).or_insert(0) += 1;
+    }
+    assert!(ends[&SELECTED_TWICE] > 3_000, "{ends:?}");
+    for number in [0, 1, 2, 3, 4, 5, 6] {
+        assert!(ends[&number] > 20, "{number}: {ends:?}");
+    }
+    assert_eq!(ends.get(&99), None, "{ends:?}");
+}
+
+/// Request Eight: the first face that an earlier one is already, in any
+/// operation.
+#[test]
+fn a_face_selected_twice_is_refused_in_every_operation() {
+    let drawn = repeats(1_500).map(|sample| sample.job);
+    for jobs in [drawn.collect(), stored_jobs()] {
+        let mut refused = 0;
+        for job in jobs {
+            let loads = second::load(&job).map(|_| ());
+            if loads.map_err(|refusal| refusal.number) != Err(SELECTED_TWICE) {
+                continue;
+            }
+            refused += 1;
+            let place = first_repeat(&job).expect("a face is repeated").place;
+            let number = SELECTED_TWICE;
+            let wanted = Refusal { number, place };
+            assert_eq!(loads, Err(wanted));
+            assert_eq!(listing(&job), format!("refused 45 {place}\n"));
+            // A loop number too high is told after loading, there is no room
+            // for any output, and no questions are answered.
+            for number in [0, 1, 1_024, u32::MAX] {
+                assert_eq!(second::request(&job, number), Err(wanted));
+            }
+            for stage in Stage::ALL {
+                let told = answer(&job, Wanted::Stage(stage), 0);
+                assert_eq!(told, format!("refused 45 {place}\n"));
+            }
+            assert_eq!(compare(&job, 0).refusal, Some(wanted));
+        }
+        assert!(refused >= 50, "{refused} jobs");
+    }
+}
+
+/// What there is about the first repeated face of a job that is refused with 45.
+fn sorts_of_repeat(job: &[u8]) -> Vec<String> {
+    let (Err(refusal), Some(repeat)) = (second::load(job), first_repeat(job)) else {
+        return Vec::new();
+    };
+    let sort = twice::sort(job).expect("a face is repeated");
+    let (beside, doublings) = (sort.beside, sort.doublings);
+    if refusal.number != SELECTED_TWICE {
+        let there = match refusal.place == repeat.place {
+            true => "on it",
+            false => "before it",
+        };
+        return vec![format!("{} {there}", refusal.number)];
+    }
+    let [earlier, later] = &repeat.fields;
+    let mut sorts = vec![
+        format!("{beside} after it"),
+        format!("body {}", later[3]),
+        format!("own sense turned: {}", earlier[1] != later[1]),
+        format!("selected sense turned: {}", earlier[2] != later[2]),
+        format!("another surface: {}", earlier[0] != later[0]),
+    ];
+    let mut note = |name: &str, there: bool| sorts.extend(there.then(|| name.to_string()));
+    note("the next face", repeat.distance == 1);
+    note("the last of three or more faces after the first", {
+        let faces = twice::faces(job);
+        faces.len() > 2 && repeat.distance == faces.len() - 1
+    });
+    note("two to seven faces after", doublings == 1 || doublings == 2);
+    note("eight faces after or more", doublings >= 3);
+    note("64 faces after or more", doublings >= 6);
+    note("a chain modulo 256 of five before", repeat.chain >= 5);
+    note("a chain modulo 256 of sixty before", repeat.chain >= 60);
+    note("source 0", later[4] == 0);
+    note("the highest source", later[4] == u32::MAX);
+    sorts
+}
+
+/// Request Eight: 45 at every distance, in both senses, for any source and
+/// beside each other refusal of loading.
+#[test]
+fn faces_selected_twice_are_met() {
+    let wanted = [
+        "the next face",
+        "the last of three or more faces after the first",
+        "two to seven faces after",
+        "eight faces after or more",
+        "64 faces after or more",
+        "body 0",
+        "body 1",
+        "own sense turned: true",
+        "own sense turned: false",
+        "selected sense turned: true",
+        "selected sense turned: false",
+        "another surface: true",
+        "another surface: false",
+        "a chain modulo 256 of five before",
+        "a chain modulo 256 of sixty before",
+        "source 0",
+        "the highest source",
+        "0 after it",
+        "2 after it",
+        "3 after it",
+        "4 after it",
+        "5 after it",
+        "6 after it",
+        "7 after it",
+        "3 before it",
+        "4 before it",
+        "6 before it",
+        "4 on it",
+        "5 on it",
+    ];
+    let drawn = repeats(3_000).map(|sample| sample.job);
+    for (jobs, least) in [(drawn.collect::<Vec<_>>(), 10), (stored_jobs(), 1)] {
+        let met: Vec<String> = jobs.iter().flat_map(|job| sorts_of_repeat(job)).collect();
+        for sort in wanted {
+            let count = met.iter().filter(|met| *met == sort).count();
+            assert!(count >= least, "{sort}: {count}");
+        }
+    }
+}
+
+/// Request Eight: faces that could be taken for each other and are not the same.
+#[test]
+fn faces_that_are_nearly_the_same_are_accepted() {
+    let drawn = repeats(4_000).map(|sample| sample.job);
+    for (jobs, least) in [(drawn.collect::<Vec<_>>(), 5), (stored_jobs(), 1)] {
+        let met = jobs.iter().flat_map(|job| compare(job, ROOM).features);
+        let met: Vec<&str> = met.collect();
+        for name in CLOSE {
+            let count = met.iter().filter(|feature| **feature == name).count();
+            assert!(count >= least, "{name}: {count}");
+        }
+    }
+}
+
+/// Request Eight: a job without faces selected twice has none in its body, and
+/// one with them has what the reference is not asked about.
+#[test]
+fn sound_jobs_select_no_face_twice() {
+    for index in 0..3_000 {
+        let sample = generate::sample(3, index);
+        if matches!(sample.expected, Expected::Loads) {
+            assert!(first_repeat(&sample.job).is_none(), "job {index}");
+        }
+    }
+    for number in 1..=9 {
+        assert!(first_repeat(&part(number).0).is_none(), "P{number}");
+    }
+}
+
+/// Wrong endings of a job of five faces, the fourth the first one and the fifth
+/// the second, which are noticed by its bytes.
+#[test]
+fn wrong_endings_of_repeated_faces_are_noticed() {
+    let face = |source| (4, vec![7, 0, 0, 1, source]);
+    let list = [(1, vec![1]), face(5), face(6), face(7), face(5), face(6)];
+    let job = records::to_bytes(&list);
+    let unlike = |number, place| twice::unlike(&job, Some(Refusal { number, place }));
+    assert!(twice::unlike(&job, None).is_some());
+    assert_eq!(unlike(45, 88), None);
+    // On another record, or behind what comes later.
+    for (number, place) in [(45, 10), (45, 36), (45, 62), (45, 114), (4, 114), (2, 114)] {
+        assert!(unlike(number, place).is_some(), "{number} {place}");
+    }
+    // On one record 2, 3, 5 and 4 come before it, 6 and 7 after it.
+    for (number, right) in [
+        (2, true),
+        (3, true),
+        (4, true),
+        (5, true),
+        (6, false),
+        (7, false),
+    ] {
+        assert_eq!(unlike(number, 88).is_none(), right, "{number}");
+    }
+    for (number, place) in [(4, 62), (6, 62), (1, 65_536)] {
+        assert_eq!(unlike(number, place), None, "{number} {place}");
+    }
+    let repaired = twice::repaired(&job);
+    assert_eq!(twice::unlike(&repaired, None), None);
+    let wanted = Refusal {
+        number: 45,
+        place: 88,
+    };
+    assert!(twice::unlike(&repaired, Some(wanted)).is_some());
+    assert_eq!(second::load(&job).err(), Some(wanted));
 }
 
 /// The reference is compared on all but the face joins and the members.

@@ -3,7 +3,7 @@
 
 use crate::records::{self, HEADER};
 use crate::second::{self, Refusal};
-use std::collections::BTreeMap;
+use std::collections::{BTreeMap, BTreeSet};
 
 /// The refusal of a face selected twice.
 pub const SELECTED_TWICE: u32 = 45;
@@ -80,18 +80,66 @@ pub fn unlike(job: &[u8], found: Option<Refusal>) -> Option<String> {
     (!right).then(|| format!("{told}, second {ended}"))
 }
 
-/// Sorts of 45, to keep some of each: what a job that lost its repeated faces is
-/// refused with while loading, 0 if it loads; how far the first is from the face
-/// that it repeats, in doublings; and whether their senses agree.
-pub fn sort(job: &[u8]) -> Option<(u32, u32, bool)> {
+/// Sorts of 45, to keep some of each.
+pub struct Sort {
+    /// What the job is refused with while loading once no face is repeated; 0 if
+    /// it loads.
+    pub beside: u32,
+    /// How far the first is from the face that it repeats, in doublings.
+    pub doublings: u32,
+    /// Whether their senses agree.
+    pub alike: bool,
+    /// Whether five faces before or more have its source modulo 256.
+    pub chained: bool,
+}
+
+pub fn sort(job: &[u8]) -> Option<Sort> {
     let repeat = first_repeat(job)?;
     let beside = second::load(&repaired(job)).err();
     let [earlier, later] = &repeat.fields;
-    Some((
-        beside.map_or(0, |refusal| refusal.number),
-        repeat.distance.ilog2(),
-        earlier[1..3] == later[1..3],
-    ))
+    Some(Sort {
+        beside: beside.map_or(0, |refusal| refusal.number),
+        doublings: repeat.distance.ilog2(),
+        alike: earlier[1..3] == later[1..3],
+        chained: repeat.chain >= 5,
+    })
+}
+
+/// How faces can be close to each other and not the same one.
+pub const CLOSE: [&str; 7] = [
+    "a source in both bodies",
+    "sources that differ in the lowest bit",
+    "sources that differ in the highest bit",
+    "two sources equal modulo 256",
+    "eight sources equal modulo 256",
+    "two sources equal modulo 1,024",
+    "two sources equal in 16 bits",
+];
+
+/// Which of these there are among bodies and sources.
+pub fn close(names: impl Iterator<Item = (u32, u32)>) -> [bool; 7] {
+    let all: BTreeSet<(u32, u32)> = names.collect();
+    let differ = |bits: u32| {
+        let mut each = all.iter();
+        each.any(|&(body, source)| all.contains(&(body, source ^ bits)))
+    };
+    let most_alike = |modulus: u32| {
+        let mut counts: BTreeMap<(u32, u32), usize> = BTreeMap::new();
+        for (body, source) in &all {
+            *counts.entry((*body, source % modulus)).or_default() += 1;
+        }
+        counts.into_values().max().unwrap_or(0)
+    };
+    let mut each = all.iter();
+    [
+        each.any(|&(body, source)| all.contains(&(body ^ 1, source))),
+        differ(1),
+        differ(1 << 31),
+        most_alike(256) > 1,
+        most_alike(256) > 7,
+        most_alike(1_024) > 1,
+        most_alike(65_536) > 1,
+    ]
 }
 
 /// The job with every repeated face given a source that no face has.

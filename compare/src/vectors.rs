@@ -114,6 +114,7 @@ fn most_kept(class: &str, length: usize, number: u32) -> usize {
         45 if length > LONG => 0,
         45 if length > SMALL => 1,
         45 => 2,
+        0 if class == "repeats" && length <= MIDDLING => 1,
         5 if class == "repeats" => 2,
         _ if length > MIDDLING => 0,
         0 if length > SMALL => 4,
@@ -145,13 +146,26 @@ fn sort_of_job(job: &[u8], refusal: Refusal) -> (u32, u32) {
 }
 
 /// What else there is in a job of faces selected twice. Beside 45 it is another
-/// refusal or, alone, how far the faces are apart and whether their senses agree;
-/// beside another refusal, whether a face is selected twice at or after it.
+/// refusal or, alone, how far the faces are apart and how alike they are; beside
+/// another refusal, whether a face is selected twice at or after it. Of a job
+/// without such faces it is how close they are.
 pub fn beside(class: &str, job: &[u8], number: u32) -> u32 {
-    match twice::sort(job).filter(|_| class == "repeats") {
+    if class != "repeats" {
+        return 0;
+    }
+    match twice::sort(job) {
+        Some(sort) if (number, sort.beside) == (45, 0) => {
+            let alike = 2 * u32::from(sort.alike) + u32::from(sort.chained);
+            100 + 4 * sort.doublings + alike
+        }
+        Some(sort) => 1 + sort.beside,
+        None if number == 0 => {
+            let faces = twice::faces(job).into_iter();
+            let close = twice::close(faces.map(|(_, fields)| (fields[3], fields[4])));
+            let bits = close.into_iter().map(u32::from);
+            bits.fold(0, |bits, bit| 2 * bits + bit)
+        }
         None => 0,
-        Some((0, apart, alike)) if number == 45 => 100 + 2 * apart + u32::from(alike),
-        Some((other, _, _)) => 1 + other,
     }
 }
 

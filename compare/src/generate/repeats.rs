@@ -5,7 +5,7 @@
 use super::damage::{self, Damaged, expected, place};
 use super::draft::{Counts, Draft};
 use super::rng::Rng;
-use super::sources::give_close_sources;
+use super::sources::{EDGES, give_close_sources};
 use super::{Expected, must_load};
 use crate::records::{self, Record};
 use crate::second::NONE;
@@ -91,6 +91,9 @@ fn repeat(list: &mut [Record], rng: &mut Rng) -> usize {
         let distance = some_distance(faces.len(), rng);
         let first = rng.below(faces.len() - distance);
         let (first, later) = (faces[first], faces[first + distance]);
+        if repeated.is_empty() && rng.chance(15) {
+            name_at_edge(list, first, rng);
+        }
         // A face that another repeats keeps its name.
         if !kept.contains(&later) && !repeated.contains(&later) {
             select_again(list, first, later, rng);
@@ -109,6 +112,15 @@ fn some_distance(faces: usize, rng: &mut Rng) -> usize {
         1 => most,
         2 => (1 << rng.below(9)).min(most),
         _ => rng.range(1, most),
+    }
+}
+
+/// Gives a face a number at which a field could be cut, if no other has it.
+fn name_at_edge(list: &mut [Record], face: usize, rng: &mut Rng) {
+    let name = [rng.below(2) as u32, *rng.pick(&EDGES)];
+    let free = |(kind, fields): &Record| *kind != 4 || fields[3..] != name;
+    if list.iter().all(free) {
+        list[face].1[3..].copy_from_slice(&name);
     }
 }
 

@@ -37,7 +37,7 @@ const WAYS: [(Way, usize); 5] = [
 ];
 
 /// Numbers at which a field could be cut or taken for a mark.
-const EDGES: [u32; 6] = [0, 1, 65_535, 65_536, u32::MAX - 1, u32::MAX];
+pub const EDGES: [u32; 6] = [0, 1, 65_535, 65_536, u32::MAX - 1, u32::MAX];
 
 /// Numbers that are alike modulo 256, modulo 1,024, in 16 bits, in their highest
 /// byte or in all but the lowest. So many faces as a job may have fit one.
@@ -61,9 +61,9 @@ pub fn give_close_sources(records: &mut [Record], rng: &mut Rng) {
     let bodies = rng.range(1, 2);
     let (step, from) = (*rng.pick(&STEPS), *rng.pick(&EDGES));
     let way = match rng.below(10) {
-        0 | 1 if count <= BY_BITS / 2 => Way::Bits(rng.field()),
-        0..=3 => Way::BothApart(step, from),
-        4..=6 => Way::Apart(256, rng.field(), bodies),
+        0..=2 if count <= BY_BITS / 2 => Way::Bits(rng.field()),
+        0..=4 => Way::BothApart(step, from),
+        5 | 6 => Way::Apart(256, rng.field(), bodies),
         _ => Way::Apart(step, from, bodies),
     };
     give(records, way, rng);
@@ -89,7 +89,8 @@ fn give(records: &mut [Record], way: Way, rng: &mut Rng) {
             Way::Apart(step, from, bodies) => (rng.below(bodies) as u32, apart(step, from, number)),
             Way::BothApart(step, from) => (number % 2, apart(step, from, number / 2)),
             Way::Bits(from) => {
-                let bit = 1u32.checked_shl(rng.below(33) as u32);
+                let any = rng.below(33) as u32;
+                let bit = 1u32.checked_shl(*rng.pick(&[0, 31, any, any]));
                 (rng.below(2) as u32, from ^ bit.unwrap_or(0))
             }
         };

@@ -9,6 +9,7 @@ use crate::generate;
 use crate::records::{self, fields_of};
 use crate::second::Stage;
 use crate::text;
+use crate::twice;
 use std::path::PathBuf;
 
 fn part(number: usize) -> Vec<u8> {
@@ -201,6 +202,58 @@ fn wrong_members_are_noticed() {
         assert_eq!(told(&held), [wanted]);
         assert_eq!(held.third.as_deref(), Some(third));
     }
+}
+
+/// A program that sews a face selected twice, as the reference would.
+fn selects_twice(job: &[u8]) -> Answers {
+    answers::second(&twice::repaired(job))
+}
+
+/// The job that document 02's request Eight begins with.
+fn selected_twice() -> Vec<u8> {
+    let text = include_bytes!("../../parts/requests/eight-selected-twice.txt");
+    job_text::assemble(text).expect("the part is readable")
+}
+
+/// A face selected twice does not load, so the reference is not asked, and the
+/// second implementation stands in.
+#[test]
+fn a_face_selected_twice_is_not_compared_with_the_reference() {
+    let alone = |tested| Programs {
+        reference: |_| panic!("asked"),
+        ..programs(tested)
+    };
+    let job = selected_twice();
+    let right = hold(&job, &alone(answers::second));
+    assert_eq!(told(&right), Vec::<String>::new());
+    assert_eq!(right.tested.end, End::Refused(45, 72));
+    assert_eq!(right.other.name, "second");
+    let wrong = hold(&job, &alone(selects_twice));
+    let wanted = "refusal: read: library accepted, second refused 45 72";
+    assert_eq!(told(&wrong), [wanted]);
+    assert_eq!(wrong.other.end, End::Refused(45, 72));
+}
+
+/// Both reports name 45 and say what such a part was held against.
+#[test]
+fn reports_tell_of_a_face_selected_twice() {
+    let folder = Folder::new("twice");
+    folder.put("P9.job", &part(9));
+    folder.put("twice.job", &selected_twice());
+    let run = folder.run(answers::second);
+    let lines = report::lines(&run);
+    let number = "    with 45        1  the face is selected twice: the same body and source face";
+    let outside = "  1 part does not load (1 to 7 and 45): the reference has no loader, \
+                   so the second implementation stood in";
+    for line in [number, outside] {
+        assert!(lines.iter().any(|l| l == line), "{line} in {lines:?}");
+    }
+    let page = page::page(&run);
+    assert!(page.contains("the face is selected twice: the same body and source face"));
+    assert!(page.contains("(1 to 7 and 45)"));
+    let table = csv::table(&run);
+    let row = "twice.job,112,,same,library,refused 45 72,second,refused 45 72,";
+    assert!(table.contains(row), "{table}");
 }
 
 #[test]
