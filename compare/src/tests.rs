@@ -68,7 +68,7 @@ fn parts_of_the_requests_give_what_their_files_say() {
         );
         seen += 1;
     }
-    assert!(seen >= 49, "{seen} parts");
+    assert!(seen >= 50, "{seen} parts");
 }
 
 #[test]
@@ -143,7 +143,7 @@ fn stored_jobs() -> Vec<Vec<u8>> {
 #[test]
 fn stored_jobs_come_back_from_their_text() {
     let jobs = stored_jobs();
-    assert_eq!(jobs.len(), 869);
+    assert_eq!(jobs.len(), 846);
     for job in jobs {
         let text = job_text::show(&job);
         assert_eq!(job_text::assemble(text.as_bytes()), Ok(job));
@@ -382,6 +382,7 @@ fn sorts_of_repeat(job: &[u8]) -> Vec<String> {
     note("two to seven faces after", doublings == 1 || doublings == 2);
     note("eight faces after or more", doublings >= 3);
     note("64 faces after or more", doublings >= 6);
+    note("255 faces after", repeat.distance == 255);
     note("a chain modulo 256 of five before", repeat.chain >= 5);
     note("a chain modulo 256 of sixty before", repeat.chain >= 60);
     note("source 0", later[4] == 0);
@@ -399,6 +400,7 @@ fn faces_selected_twice_are_met() {
         "two to seven faces after",
         "eight faces after or more",
         "64 faces after or more",
+        "255 faces after",
         "body 0",
         "body 1",
         "own sense turned: true",

@@ -2,6 +2,7 @@
 //! refusal, by other means than loading.
 
 use crate::records::{self, HEADER};
+use crate::second::load::MAX_FACES;
 use crate::second::{self, Refusal};
 use std::collections::{BTreeMap, BTreeSet};
 
@@ -80,12 +81,16 @@ pub fn unlike(job: &[u8], found: Option<Refusal>) -> Option<String> {
     (!right).then(|| format!("{told}, second {ended}"))
 }
 
+/// From the first face that a job may have to the last.
+const FARTHEST: usize = MAX_FACES - 1;
+
 /// Sorts of 45, to keep some of each.
 pub struct Sort {
     /// What the job is refused with while loading once no face is repeated; 0 if
     /// it loads.
     pub beside: u32,
-    /// How far the first is from the face that it repeats, in doublings.
+    /// How far the first is from the face that it repeats, in doublings; 8 if it
+    /// is as far as may be.
     pub doublings: u32,
     /// Whether their senses agree.
     pub alike: bool,
@@ -99,7 +104,10 @@ pub fn sort(job: &[u8]) -> Option<Sort> {
     let [earlier, later] = &repeat.fields;
     Some(Sort {
         beside: beside.map_or(0, |refusal| refusal.number),
-        doublings: repeat.distance.ilog2(),
+        doublings: match repeat.distance {
+            FARTHEST => 8,
+            distance => distance.ilog2(),
+        },
         alike: earlier[1..3] == later[1..3],
         chained: repeat.chain >= 5,
     })

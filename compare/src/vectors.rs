@@ -111,9 +111,7 @@ fn drawn_jobs(
 /// other need a long job.
 fn most_kept(class: &str, length: usize, number: u32) -> usize {
     match number {
-        45 if length > LONG => 0,
-        45 if length > SMALL => 1,
-        45 => 2,
+        45 => usize::from(length <= LONG),
         0 if class == "repeats" && length <= MIDDLING => 1,
         5 if class == "repeats" => 2,
         _ if length > MIDDLING => 0,
