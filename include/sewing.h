@@ -21,7 +21,7 @@
 extern "C" {
 #endif
 
-/* Raised when jobs or bodies change. 2: faces have body and source face, and bodies have members. */
+/* Raised when the form of jobs or bodies changes. 2: faces have body and source face, and bodies have members. */
 #define ZAXCLOVER_VERSION 2
 
 /* LIMITS */
@@ -53,7 +53,7 @@ enum zaxclover_job_kind {
     ZAXCLOVER_HEAD = 1,         /* 1 if outer shells are proven, else 0 */
     ZAXCLOVER_VERTEX = 2,       /* point; several vertices may stand on one */
     ZAXCLOVER_EDGE = 3,         /* curve, sense, start vertex, end vertex; none in both: a ring */
-    ZAXCLOVER_FACE = 4,         /* surface, own sense, selected sense, body (0 or 1), source face */
+    ZAXCLOVER_FACE = 4,         /* surface, own sense, selected sense, body (0 or 1), source face; no two alike in the last two */
     ZAXCLOVER_LOOP = 5,         /* of the latest face, one or more of: edge, sense; each ends at the point where the next starts */
     ZAXCLOVER_VERTEX_LOOP = 6,  /* of the latest face: vertex */
     ZAXCLOVER_RADIAL = 7,       /* edge, then its uses in order round it; no use: undecided */
@@ -82,7 +82,7 @@ enum zaxclover_body_kind {
 enum zaxclover_number {
     ZAXCLOVER_DONE = 0,               /* no refusal */
     ZAXCLOVER_JOB_TOO_LONG = 1,       /* 65,536 */
-    ZAXCLOVER_CUT_SHORT = 2,          /* the record's first byte, as for 3 to 7 */
+    ZAXCLOVER_CUT_SHORT = 2,          /* the record's first byte, as for 3 to 7 and 45 */
     ZAXCLOVER_WRONG_RECORD = 3,       /* unknown kind, wrong length or wrong position; no Head: 0 if the job is empty */
     ZAXCLOVER_WRONG_FIELD = 4,        /* for a loop request also: the number, which is too high */
     ZAXCLOVER_LIMIT_PASSED = 5,
@@ -101,7 +101,8 @@ enum zaxclover_number {
     ZAXCLOVER_FANS_IN_LUMP = 32,      /* the point with two fans in one lump */
     ZAXCLOVER_PAIRS_IN_LUMP = 33,     /* the edge with two pairs in one lump */
     ZAXCLOVER_VOID_OUTSIDE = 34,      /* the lowest face of a void that lies in no outer shell */
-    ZAXCLOVER_NO_ROOM = 40            /* the bytes needed */
+    ZAXCLOVER_NO_ROOM = 40,           /* the bytes needed */
+    ZAXCLOVER_SELECTED_TWICE = 45     /* the record's first byte, of the later face */
 };
 
 /*
@@ -181,6 +182,7 @@ static inline const char *zaxclover_words(size_t number)
     case ZAXCLOVER_PAIRS_IN_LUMP: return "two pairs of the edge lie in one lump";
     case ZAXCLOVER_VOID_OUTSIDE: return "the void lies in no outer shell";
     case ZAXCLOVER_NO_ROOM: return "the records do not fit the output";
+    case ZAXCLOVER_SELECTED_TWICE: return "the face is selected twice: the same body and source face";
     default: return "refused for an unknown reason";
     }
 }
