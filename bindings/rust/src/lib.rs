@@ -23,6 +23,20 @@
 //!
 //! An older job, whose faces have three fields, is refused with 3; `tools/job convert` makes it one of today.
 //!
+//! Body and source face together say which face is selected. The same two in a second face are refused with 45, and the
+//! place is the byte where that record starts, whatever surface and senses are:
+//!
+//! ```
+//! let mut job = vec![4, 0, 0, 0, 1, 0, 1, 0, 0, 0]; // Head
+//! for face in [[7u32, 0, 0, 1, 12], [8, 0, 0, 0, 12], [7, 1, 0, 1, 12]] {
+//!     job.extend([20, 0, 0, 0, 4, 0]);
+//!     job.extend(face.map(u32::to_le_bytes).concat());
+//! }
+//! let why = zaxclover::body(&job).unwrap_err();
+//! assert_eq!((why.number, why.place), (45, 62));
+//! assert_eq!(why.words(), "the face is selected twice: the same body and source face");
+//! ```
+//!
 //! The library may assume that the output shares no byte with the job. Rust's borrows see to it:
 //!
 //! ```compile_fail,E0502
@@ -44,8 +58,8 @@ mod refusal;
 
 pub use refusal::Refusal;
 
-/// The version of the format, as `ZAXCLOVER_VERSION` in `include/sewing.h`: raised when jobs or bodies change. 2: faces
-/// have body and source face, and bodies have members.
+/// The version of the format, as `ZAXCLOVER_VERSION` in `include/sewing.h`: raised when the form of jobs or bodies
+/// changes. 2: faces have body and source face, and bodies have members.
 pub const VERSION: u32 = 2;
 
 /// A call takes less stack than this.

@@ -30,13 +30,15 @@ fn part(name: &str) -> (Vec<u8>, String) {
         .join("../../compare/parts")
         .join(name);
     let text = fs::read_to_string(&file).expect("a part of compare/parts");
-    let (mut job, mut expected) = (Vec::new(), String::new());
+    let expected = text.lines().filter_map(|line| line.strip_prefix("#> "));
+    let expected = expected.map(|line| format!("{line}\n")).collect();
+    (assembled(&text), expected)
+}
+
+/// The job of a text, a record a line.
+fn assembled(text: &str) -> Vec<u8> {
+    let mut job = Vec::new();
     for line in text.lines() {
-        if let Some(wanted) = line.strip_prefix("#> ") {
-            expected.push_str(wanted);
-            expected.push('\n');
-            continue;
-        }
         let words: Vec<&str> = line
             .split('#')
             .next()
@@ -47,7 +49,7 @@ fn part(name: &str) -> (Vec<u8>, String) {
             job.extend(written(&[record(kind, fields)]));
         }
     }
-    (job, expected)
+    job
 }
 
 /// Kind and fields.
@@ -105,7 +107,7 @@ fn parts_of_the_requests() -> Vec<String> {
         .iter()
         .filter(|name| name.starts_with("requests/seven-"));
     let seen = (of_seven.count(), names.len());
-    assert!(seen.0 >= 7 && seen.1 >= 27, "{seen:?} parts");
+    assert!(seen.0 >= 6 && seen.1 >= 27, "{seen:?} parts");
     names
 }
 
@@ -184,7 +186,7 @@ fn sewn(job: &[u8]) -> Result<Vec<u8>, Refusal> {
 /// Request Seven: body and source face of the members of each face, in parts P1 to P9 and those made for it.
 #[test]
 fn faces_remember_their_members() {
-    let parts: [(&str, &[&[u32]]); 10] = [
+    let parts: [(&str, &[&[u32]]); 9] = [
         ("P1.txt", &[]),
         ("P2.txt", &[&[0, 0], &[0, 1]]),
         ("P3.txt", &[&[0, 0, 0, 1]]),
@@ -195,7 +197,6 @@ fn faces_remember_their_members() {
             "requests/seven-alternate.txt",
             &[&[0, 40, 1, 20], &[1, 40, 0, 20]],
         ),
-        ("requests/seven-member-twice.txt", &[&[1, 6, 1, 6]]),
         (
             "requests/seven-no-loops.txt",
             &[&[0, u32::MAX], &[1, 65_536]],
@@ -261,11 +262,19 @@ fn members_follow_their_face_and_are_those_that_merging_joined() {
 fn hold_refused(name: &str, job: &[u8], why: Refusal) {
     let mut out = [0xA5; 1024];
     assert_eq!(sew(job, &mut out), Err(why), "{name}");
+    assert_eq!(sew(job, &mut []), Err(why), "{name}");
     for s in Stage::ALL {
         assert_eq!(stage(s, job, &mut out), Err(why), "{name} {s:?}");
+        assert_eq!(stage(s, job, &mut []), Err(why), "{name} {s:?}");
     }
-    assert_eq!(loop_payload(job, 0), Err(why), "{name}");
+    for n in [0, 1, 1024, usize::MAX] {
+        assert_eq!(loop_payload(job, n), Err(why), "{name} loop {n}");
+    }
     assert_eq!(out, [0xA5; 1024], "{name}");
+    assert_eq!(body(job), Err(why), "{name}");
+    assert_eq!(listing(job), Err(why), "{name}");
+    let line = format!("refused {} {}\n", why.number, why.place);
+    assert_eq!(list(job), line, "{name}");
 }
 
 /// Request Seven: faces as they were before it, a body other than 0 and 1, and a record of members in a job.
@@ -308,6 +317,210 @@ fn each_face_of_a_part_has_five_fields_and_body_0_or_1() {
             assert_eq!(members, members_by_merging(&written(&other)));
         }
     }
+}
+
+/// Head, and faces without loops by surface, senses, body and source face.
+fn with_faces(faces: &[[u32; 5]]) -> Vec<u8> {
+    let mut list = vec![(1, vec![1])];
+    list.extend(faces.iter().map(|face| (FACE, face.to_vec())));
+    written(&list)
+}
+
+/// The byte where face `n` starts in such a job.
+fn face_place(n: usize) -> usize {
+    10 + 26 * n
+}
+
+/// A job of faces without loops is sewn, and each is alone and a member by its own body and source.
+fn hold_apart(faces: &[[u32; 5]]) {
+    let body = sewn(&with_faces(faces)).expect("faces that differ");
+    let members: Vec<&[u32]> = faces.iter().map(|face| &face[3..]).collect();
+    assert_eq!(of_kind(&body, BODY_MEMBERS), members);
+}
+
+/// Request Eight: the same body and source face, whatever surface and senses are.
+#[test]
+fn a_face_selected_twice_is_refused_by_its_later_record() {
+    for [body, source] in [
+        [0, 5],
+        [1, 5],
+        [0, 0],
+        [1, 0],
+        [0, 65_536],
+        [1, 1 << 31],
+        [0, u32::MAX],
+        [1, u32::MAX],
+    ] {
+        for [surface, own, selected] in [[7, 0, 0], [8, 0, 0], [7, 1, 0], [7, 0, 1], [9, 1, 1]] {
+            for surfaces in [[7, surface], [surface, 7]] {
+                let face = [surfaces[0], 0, 0, body, source];
+                let again = [surfaces[1], own, selected, body, source];
+                let why = refused(45, 36);
+                hold_refused("twice", &with_faces(&[face, again]), why);
+                hold_refused("twice", &with_faces(&[again, face]), why);
+            }
+        }
+    }
+}
+
+/// Another body or another source face is another face, by all four bytes.
+#[test]
+fn faces_of_another_body_or_source_are_other_faces() {
+    hold_apart(&[[7, 0, 0, 0, 5], [7, 0, 0, 1, 5]]);
+    hold_apart(&[[7, 0, 0, 1, 0], [7, 0, 0, 0, 0]]);
+    hold_apart(&[[7, 0, 0, 0, 1], [7, 0, 0, 1, 0]]);
+    hold_apart(&[[7, 0, 0, 1, u32::MAX], [7, 0, 0, 0, u32::MAX]]);
+    for source in [0, 1, 5, 65_535, u32::MAX] {
+        for bit in 0..32 {
+            hold_apart(&[[7, 0, 0, 0, source], [7, 0, 0, 0, source ^ (1 << bit)]]);
+        }
+    }
+}
+
+/// The first repeat in the order of the records is told.
+#[test]
+fn the_first_record_that_repeats_one_is_told() {
+    let face = |source| [7, 0, 0, 0, source];
+    let other = |source| [7, 0, 0, 1, source];
+    for (faces, place) in [
+        (vec![face(5), face(6), face(5)], 62),
+        (vec![face(5), face(6), face(6)], 62),
+        (vec![face(5), other(5), face(5)], 62),
+        (vec![face(5), other(5), other(5)], 62),
+        (vec![face(5), face(5), face(5)], 36),
+        (vec![face(5), face(6), face(6), face(5)], 62),
+        (vec![face(5), face(6), face(5), face(6)], 62),
+        (vec![face(5), face(6), face(7), face(8), face(5)], 114),
+    ] {
+        hold_refused("several", &with_faces(&faces), refused(45, place));
+    }
+}
+
+/// 256 faces, the sources of each body descending.
+fn many_faces() -> Vec<[u32; 5]> {
+    (0..256).map(|i| [i, 0, 0, i % 2, 70_000 - i]).collect()
+}
+
+/// However many faces lie between, and wherever the two stand.
+#[test]
+fn a_face_selected_twice_is_found_at_any_distance() {
+    let faces = many_faces();
+    hold_apart(&faces);
+    let twice = |earlier: usize, later: usize| {
+        let mut faces = faces.clone();
+        let [_, _, _, body, source] = faces[earlier];
+        faces[later][3..].copy_from_slice(&[body, source]);
+        let why = Err(refused(45, face_place(later)));
+        assert_eq!(sew(&with_faces(&faces), &mut []), why, "{earlier} {later}");
+    };
+    for i in 1..256 {
+        twice(0, i);
+        twice(i - 1, i);
+        twice(i - 1, 255);
+    }
+    for later in 1..24 {
+        (0..later).for_each(|earlier| twice(earlier, later));
+    }
+}
+
+/// The limit of 256 faces comes before 45, and 45 before the limit is passed.
+#[test]
+fn the_257th_face_is_refused_by_the_limit_though_it_repeats_one() {
+    for earlier in [0, 100, 255] {
+        let mut faces = many_faces();
+        faces.push(faces[earlier]);
+        hold_refused("257", &with_faces(&faces), refused(5, face_place(256)));
+    }
+    let mut faces = many_faces();
+    faces.push(faces[0]);
+    faces[255] = faces[254];
+    hold_refused("256", &with_faces(&faces), refused(45, face_place(255)));
+}
+
+/// 45 comes after what else is wrong with its record and with earlier ones, and before later records.
+#[test]
+fn a_face_selected_twice_is_refused_in_the_order_of_records_and_tests() {
+    let start = "head 1\nvertex 3\nvertex 4\nedge 5 0 0 1\nedge 6 0 - -\nface 7 0 0 0 9\n";
+    let place = assembled(start).len();
+    let twice = "face 8 0 0 0 9\n";
+    for (lines, number) in [
+        ("face 8 0 2 0 9\n", 4),
+        ("face 8 2 0 0 9\n", 4),
+        ("face 8 0 0 2 9\n", 4),
+        ("face 8 0 0 0\n", 3),
+        ("face 8 0 0 0 9 0\n", 3),
+        ("points 3 4 0\nface 8 0 0 0 9\n", 3),
+        ("loop 0 0\nface 8 0 0 0 9\n", 6),
+        ("loop 1 2\nface 8 0 0 0 9\n", 4),
+        ("face 8 0 0 0 9\nloop 0 0\n", 45),
+        ("face 8 0 0 0 9\nloop 1 2\n", 45),
+        ("face 8 0 0 0 9\nface 8 0 0 2 9\n", 45),
+        ("face 8 0 0 0 9\npoints 3 4 0\npoints 3 4 0\n", 45),
+        ("face 8 0 0 0 9\n14\n", 45),
+        ("face 8 0 0 0 9\nvertex 3\n", 45),
+        ("face 8 0 0 0 9\nhead 1\n", 45),
+    ] {
+        let job = assembled(&format!("{start}{lines}"));
+        let before = if lines.starts_with("points") { 18 } else { 0 };
+        hold_refused(lines, &job, refused(number, place + before));
+    }
+    let mut job = assembled(&format!("{start}{twice}head 1\n"));
+    for left in [place + 35, place + 31, place + 27] {
+        job.truncate(left);
+        hold_refused("a later record cut short", &job, refused(45, place));
+    }
+    job.truncate(place + 25);
+    hold_refused("the record itself cut short", &job, refused(2, place));
+    let mut long = assembled(&format!("{start}{twice}"));
+    long.resize(65_537, 0);
+    hold_refused("a job too long", &long, refused(1, 65_536));
+}
+
+/// A ring between two faces on one surface: sewn if they are two, and refused before sewing if they are one.
+#[test]
+fn a_part_whose_two_faces_are_one_is_not_sewn() {
+    let part = |source: u32| {
+        assembled(&format!(
+            "head 1\nedge 5 0 - -\nface 7 0 0 1 6\nloop 0 0\nface 7 0 0 1 {source}\nloop 0 1\nsurface 0 1\n"
+        ))
+    };
+    hold_refused("twice", &part(6), refused(45, 72));
+    let body = sewn(&part(7)).expect("two faces");
+    assert_eq!(of_kind(&body, BODY_MEMBERS), [[1, 6, 1, 7]]);
+}
+
+/// Every accepted part, with each of its faces made one of the earlier ones, and with each of its faces again behind the
+/// loops of all.
+#[test]
+fn parts_with_a_face_selected_twice_are_refused() {
+    let parts = (1..=9).map(|n| format!("P{n}.txt"));
+    let (mut pairs, mut again) = (0, 0);
+    for name in parts.chain(parts_of_the_requests()) {
+        let (job, _) = part(&name);
+        if sew(&job, &mut [0; 65_536]).is_err() {
+            continue;
+        }
+        let list = records(&job);
+        let faces: Vec<usize> = (0..list.len()).filter(|i| list[*i].0 == FACE).collect();
+        let end = list.iter().position(|record| record.0 > 6);
+        let end = end.unwrap_or(list.len());
+        for (n, later) in faces.iter().enumerate() {
+            for earlier in &faces[..n] {
+                let mut other = list.clone();
+                let face = list[*earlier].1[3..].to_vec();
+                other[*later].1[3..].copy_from_slice(&face);
+                let why = refused(45, written(&list[..*later]).len());
+                hold_refused(&name, &written(&other), why);
+                pairs += 1;
+            }
+            let mut other = list.clone();
+            other.insert(end, list[*later].clone());
+            let why = refused(45, written(&list[..end]).len());
+            hold_refused(&name, &written(&other), why);
+            again += 1;
+        }
+    }
+    assert!(pairs >= 60 && again >= 60, "{pairs}, {again}");
 }
 
 #[test]
@@ -416,7 +629,7 @@ fn stages_answer_by_themselves() {
 fn every_refusal_has_words() {
     let numbers: Vec<usize> = Refusal::numbers().collect();
     let expected = [
-        1, 2, 3, 4, 5, 6, 7, 10, 11, 12, 13, 20, 21, 22, 23, 30, 31, 32, 33, 34, 40,
+        1, 2, 3, 4, 5, 6, 7, 10, 11, 12, 13, 20, 21, 22, 23, 30, 31, 32, 33, 34, 40, 45,
     ];
     assert_eq!(numbers, expected);
     let mut seen = Vec::new();
