@@ -92,6 +92,63 @@ int read_seeds(const char *name, struct seeds *seeds)
     return at == length;
 }
 
+/* FACES */
+
+/* The place after the record at a place, by its own length; the job's end if that leads past it. */
+static size_t record_end(const uint8_t *bytes, size_t length, size_t at)
+{
+    if (length - at < 6)
+        return length;
+    size_t size = 6 + (size_t)word(bytes + at);
+    return size > length - at ? length : at + size;
+}
+
+/* Whether a face of five fields stands at a place. */
+static int is_face(const uint8_t *bytes, size_t length, size_t at)
+{
+    return length - at >= 26 && word(bytes + at) == 20 && bytes[at + 4] == 4 && bytes[at + 5] == 0;
+}
+
+/* The faces met so far, by their last two fields: body and source face. */
+struct met {
+    size_t count;
+    const uint8_t *at[256];
+};
+
+static int is_met(const struct met *met, const uint8_t *face)
+{
+    for (size_t i = 0; i < met->count; i++)
+        if (word(met->at[i]) == word(face) && word(met->at[i] + 4) == word(face + 4))
+            return 1;
+    return 0;
+}
+
+size_t first_repeat(const uint8_t *bytes, size_t length)
+{
+    struct met met = {.count = 0};
+    for (size_t at = 0; at < length && met.count < 256; at = record_end(bytes, length, at)) {
+        if (!is_face(bytes, length, at))
+            continue;
+        if (is_met(&met, bytes + at + 18))
+            return at;
+        met.at[met.count++] = bytes + at + 18;
+    }
+    return length;
+}
+
+/* Each face that has body and source face of an earlier one gets another source face. */
+static void part_faces(uint64_t *state, struct job *job)
+{
+    struct met met = {.count = 0};
+    for (size_t at = 0; at < job->length && met.count < 256; at = record_end(job->bytes, job->length, at)) {
+        if (!is_face(job->bytes, job->length, at))
+            continue;
+        while (is_met(&met, job->bytes + at + 18))
+            put_word(job->bytes + at + 22, (uint32_t)next_number(state));
+        met.at[met.count++] = job->bytes + at + 18;
+    }
+}
+
 /* CHANGES */
 
 static const struct seeds *stored;
@@ -120,13 +177,9 @@ static void take_stored(uint64_t *state, struct job *job)
     memcpy(job->bytes, stored->at[i], job->length);
 }
 
-/* The record after the one at a place, by its own length; the job's end if that leads past it. */
 static size_t next_record(const struct job *job, size_t at)
 {
-    if (job->length - at < 6)
-        return job->length;
-    size_t size = 6 + (size_t)word(job->bytes + at);
-    return size > job->length - at ? job->length : at + size;
+    return record_end(job->bytes, job->length, at);
 }
 
 /* A record's first byte, or the job's end. */
@@ -241,6 +294,30 @@ static void repeat(uint64_t *state, struct job *job)
         insert(job, at, copy, size);
 }
 
+/* A face at or after a place, or the job's end. */
+static size_t face_from(const struct job *job, size_t at)
+{
+    while (at < job->length && !is_face(job->bytes, job->length, at))
+        at = next_record(job, at);
+    return at;
+}
+
+/* A face gets body and source face of an earlier one. */
+static void select_twice(uint64_t *state, struct job *job)
+{
+    size_t earlier = face_from(job, below(state, 2) ? 0 : some_record(state, job));
+    if (earlier == job->length)
+        return;
+    size_t later = earlier;
+    for (size_t left = 1 + below(state, below(state, 2) ? 2 : 256); left > 0; left--) {
+        size_t at = face_from(job, next_record(job, later));
+        if (at == job->length)
+            break;
+        later = at;
+    }
+    memcpy(job->bytes + later + 18, job->bytes + earlier + 18, 8);
+}
+
 void put_record(struct job *job, uint32_t kind, const uint32_t *fields, size_t count)
 {
     uint8_t record[6 + 4 * 16];
@@ -332,6 +409,7 @@ static const struct change changes[] = {
     {"record repeated", repeat},
     {"from nothing", from_nothing},
     {"noise", noise},
+    {"face selected twice", select_twice},
     {"several changes", several},
 };
 
@@ -343,11 +421,17 @@ static void several(uint64_t *state, struct job *job)
         changes[1 + below(state, 7)].make(state, job);
 }
 
+/*
+ * Records that are copied would make many jobs select a face twice, and be refused with 45 before anything else is looked
+ * at: in most jobs such faces are parted.
+ */
 const char *make_job(const struct seeds *seeds, uint64_t *state, struct job *job)
 {
     stored = seeds;
     take_stored(state, job);
     size_t way = below(state, CHANGES);
     changes[way].make(state, job);
+    if (changes[way].make != as_stored && changes[way].make != select_twice && below(state, 8))
+        part_faces(state, job);
     return changes[way].name;
 }

@@ -16,6 +16,12 @@ struct job {
 /* The number of 4 bytes, as in all fields of jobs and bodies. */
 uint32_t word(const uint8_t *at);
 
+/*
+ * The first face of a job that has body and source face of an earlier one: the record's first byte, or the job's length
+ * if there is none. Faces after the 256th are not looked at, since loading goes no further than the 257th.
+ */
+size_t first_repeat(const uint8_t *bytes, size_t length);
+
 /* Puts a record at a job's end; it has at most 16 fields. */
 void put_record(struct job *job, uint32_t kind, const uint32_t *fields, size_t count);
 

@@ -2,7 +2,8 @@
  * A load on the boundary: makes up jobs and runs sewing, a stage, a loop request and the listing on each, under the
  * compiler's memory checker. Each operation runs twice: on heap copies with guard bytes after job and output, and on
  * copies that end where an inaccessible page begins. Both must answer alike, write what the answer says and not a byte
- * more.
+ * more. What sewing refuses while loading, stage and loop request must refuse alike, and a face selected twice is found
+ * by a search of the load's own.
  *
  * usage: load VECTORS JOBS SEED [FIRST]
  *
@@ -181,9 +182,50 @@ static struct answer run_operation(const struct named *o, uint64_t *state)
     return a;
 }
 
+/* LOADING */
+
+/* Whether a number is one of loading's, with which all that takes a job refuses it. */
+static int of_loading(size_t number)
+{
+    return (number >= ZAXCLOVER_JOB_TOO_LONG && number <= ZAXCLOVER_ANSWERED_BEFORE) || number == ZAXCLOVER_SELECTED_TWICE;
+}
+
+/* What the face at a place, which has body and source face of an earlier one, is refused with if no earlier record is. */
+static size_t number_of_repeat(size_t place)
+{
+    for (size_t at = 0; at < place; at += 6 + word(job.bytes + at))
+        if (job.bytes[at + 4] > ZAXCLOVER_VERTEX_LOOP)
+            return ZAXCLOVER_WRONG_RECORD;
+    const uint8_t *fields = job.bytes + place + 6;
+    if (word(fields + 4) > 1 || word(fields + 8) > 1 || word(fields + 12) > 1)
+        return ZAXCLOVER_WRONG_FIELD;
+    return ZAXCLOVER_SELECTED_TWICE;
+}
+
+/* 45 comes where a face is selected twice and an earlier record or field is not at fault, and nowhere else. */
+static void hold_repeat(struct answer a)
+{
+    size_t at = first_repeat(job.bytes, job.length);
+    doing = "a face selected twice";
+    if (a.number == ZAXCLOVER_SELECTED_TWICE)
+        hold(at < job.length && a.value == at, "45 elsewhere than at the first face that is an earlier one");
+    if (at == job.length || a.number == ZAXCLOVER_JOB_TOO_LONG)
+        return;
+    hold(of_loading(a.number) && a.value <= at, "a face selected twice is passed over");
+    hold(a.value < at || a.number == number_of_repeat(at), "a face selected twice has another number");
+}
+
+/* What sewing refuses while loading, a stage refuses alike; otherwise its refusal is none of loading's. */
+static void hold_alike(struct answer sewing, struct answer stage)
+{
+    int alike = sewing.number == stage.number && sewing.value == stage.value;
+    hold(of_loading(sewing.number) ? alike : !of_loading(stage.number), "another refusal of loading than sewing's");
+}
+
 /* THE LOOP REQUEST */
 
-static size_t request_loop(uint64_t *state)
+/* The loop request, by sewing's answer. */
+static size_t request_loop(uint64_t *state, struct answer sewing)
 {
     size_t wishes[] = {0, 1, below(state, 8), below(state, 1025), ZAXCLOVER_LOOPS, SIZE_MAX};
     size_t n = wishes[below(state, sizeof wishes / sizeof wishes[0])];
@@ -196,6 +238,10 @@ static size_t request_loop(uint64_t *state)
     free(copy);
     size_t number2 = zaxclover_loop(job_end - job.length, job.length, n, &start2, &value2);
     hold(number == number2 && start == start2 && value == value2, "another answer the second time");
+    if (of_loading(sewing.number))
+        hold(number == sewing.number && value == sewing.value, "another refusal of loading than sewing's");
+    else
+        hold(number == ZAXCLOVER_DONE || (number == ZAXCLOVER_WRONG_FIELD && value == n), "a refusal of no request");
     if (number != ZAXCLOVER_DONE) {
         hold(start == 0, "a start in a refusal");
         return number;
@@ -263,9 +309,13 @@ static void run_job(const struct seeds *seeds)
     doing = "making the job";
     way = make_job(seeds, &state, &job);
     memcpy(job_end - job.length, job.bytes, job.length);
-    count(sewn, run_operation(&operations[0], &state).number);
-    count(staged, run_operation(&operations[1 + number_of_job % (OPERATIONS - 1)], &state).number);
-    count(requested, request_loop(&state));
+    struct answer sewing = run_operation(&operations[0], &state);
+    count(sewn, sewing.number);
+    hold_repeat(sewing);
+    struct answer stage = run_operation(&operations[1 + number_of_job % (OPERATIONS - 1)], &state);
+    count(staged, stage.number);
+    hold_alike(sewing, stage);
+    count(requested, request_loop(&state, sewing));
     list_job(&state);
 }
 

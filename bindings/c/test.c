@@ -1,6 +1,7 @@
 /*
  * Tests of the interface at its edges: null pointers with length 0, outputs exactly full and one byte short, guard
- * bytes after job, output and page; the listing and the members of every stored job; faces that are refused.
+ * bytes after job, output and page; the listing and the members of every stored job; faces that are refused, and faces
+ * selected twice.
  *
  * usage: test FILE.job VECTORS      (part P9, and the file of packed vectors)
  */
@@ -266,19 +267,29 @@ static void hold_members(const char *name, const uint8_t *job, size_t length, co
     expect(left == due.bytes + due.length, name, "the members of each face");
 }
 
-/* Every operation refuses a job. */
+/* Every operation, each loop request and the listing refuse a job. */
 static void hold_refused(const char *name, const struct job *job, size_t due, size_t place)
 {
+    static const size_t loops[] = {0, 1, 7, ZAXCLOVER_LOOPS, SIZE_MAX};
     uint8_t *out = marked(64);
-    size_t start = 77;
-    size_t value = 77;
+    char line[64];
     for (int k = 0; k < OPERATIONS; k++) {
+        size_t value = 77;
         size_t number = operations[k].run(job->bytes, job->length, out, 64, &value);
         expect(number == due && value == place, operations[k].name, name);
+        number = operations[k].run(job->bytes, job->length, NULL, 0, &value);
+        expect(number == due && value == place, operations[k].name, name);
     }
-    size_t number = zaxclover_loop(job->bytes, job->length, 0, &start, &value);
-    expect(number == due && value == place && start == 0, "loop", name);
+    for (size_t i = 0; i < sizeof loops / sizeof loops[0]; i++) {
+        size_t start = 77;
+        size_t value = 77;
+        size_t number = zaxclover_loop(job->bytes, job->length, loops[i], &start, &value);
+        expect(number == due && value == place && start == 0, "loop", name);
+    }
     expect(is_marked(out, 0, 64 + GUARD), name, "a refusal leaves the output");
+    size_t length = (size_t)snprintf(line, sizeof line, "refused %zu %zu\n", due, place);
+    int listed = zaxclover_list(job->bytes, job->length, out, 64) == length && memcmp(out, line, length) == 0;
+    expect(listed, "list", name);
     free(out);
 }
 
@@ -328,7 +339,168 @@ static void test_faces(const uint8_t *p9, size_t length)
     hold_refused("a face of body 2", &job, ZAXCLOVER_WRONG_FIELD, 36);
 }
 
+/* A FACE SELECTED TWICE */
+
+/* Head, and faces without loops by surface, senses, body and source face. */
+static void put_faces(struct job *job, const uint32_t (*faces)[5], size_t count)
+{
+    uint32_t one = 1;
+    job->length = 0;
+    put_record(job, ZAXCLOVER_HEAD, &one, 1);
+    for (size_t i = 0; i < count; i++)
+        put_record(job, ZAXCLOVER_FACE, faces[i], 5);
+}
+
+/* The byte where face n starts in such a job. */
+static size_t face_place(size_t n)
+{
+    return 10 + 26 * n;
+}
+
+/* A job that is sewn into faces without loops: each keeps its own body and source. */
+static void hold_sewn(const char *name, const struct job *job)
+{
+    static uint8_t out[65536];
+    size_t value;
+    size_t number = zaxclover_sew(job->bytes, job->length, out, sizeof out, &value);
+    expect(number == ZAXCLOVER_DONE, name, "a job that is sewn");
+    if (number == ZAXCLOVER_DONE)
+        test_members(job->bytes, job->length, out, value);
+}
+
+#define FACES(faces) faces, sizeof faces / sizeof faces[0]
+
+/* What makes two faces one: body and source face, both whole, and nothing else. */
+static void test_same_face(void)
+{
+    static struct job job;
+    static const uint32_t twins[][2][5] = {
+        {{7, 0, 0, 0, 5}, {7, 1, 0, 0, 5}}, {{7, 0, 0, 0, 5}, {7, 0, 0, 0, 5}}, {{7, 0, 0, 0, 5}, {7, 0, 1, 0, 5}},
+        {{7, 1, 1, 1, 5}, {8, 0, 0, 1, 5}}, {{7, 0, 0, 0, 0}, {9, 0, 0, 0, 0}}, {{7, 0, 0, 1, 0}, {7, 0, 0, 1, 0}},
+        {{7, 0, 0, 0, UINT32_MAX}, {7, 0, 0, 0, UINT32_MAX}}, {{0, 0, 0, 1, UINT32_MAX}, {7, 0, 0, 1, UINT32_MAX}},
+        {{7, 0, 0, 0, 65536}, {7, 0, 0, 0, 65536}}, {{7, 0, 0, 1, 2147483648}, {7, 0, 0, 1, 2147483648}},
+    };
+    static const uint32_t others[][2][5] = {
+        {{7, 0, 0, 0, 5}, {7, 0, 0, 1, 5}}, {{7, 0, 0, 1, 0}, {7, 0, 0, 0, 0}}, {{7, 0, 0, 0, 0}, {7, 0, 0, 0, 1}},
+        {{7, 0, 0, 0, 1}, {7, 0, 0, 0, 65537}}, {{7, 0, 0, 0, 0}, {7, 0, 0, 0, UINT32_MAX}},
+        {{7, 0, 0, 0, 1}, {7, 0, 0, 1, 0}}, {{7, 0, 0, 1, 9}, {7, 0, 0, 1, 265}},
+        {{7, 0, 0, 0, 9}, {7, 0, 0, 0, 16777225}}, {{7, 0, 0, 0, 0}, {7, 0, 0, 0, 2147483648}},
+    };
+    expect(ZAXCLOVER_SELECTED_TWICE == 45, "header", "the number of a face selected twice");
+    for (size_t i = 0; i < sizeof twins / sizeof twins[0]; i++) {
+        put_faces(&job, FACES(twins[i]));
+        hold_refused("a face selected twice", &job, ZAXCLOVER_SELECTED_TWICE, 36);
+    }
+    for (size_t i = 0; i < sizeof others / sizeof others[0]; i++) {
+        put_faces(&job, FACES(others[i]));
+        hold_sewn("two faces", &job);
+    }
+}
+
+/* The first of several repeats, by the record that completes it. */
+static void test_first_repeat(void)
+{
+    static struct job job;
+    static uint32_t faces[ZAXCLOVER_FACES + 1][5];
+    static const uint32_t apart[][5] = {{7, 0, 0, 0, 5}, {7, 0, 0, 0, 6}, {7, 0, 0, 0, 5}};
+    static const uint32_t together[][5] = {{7, 0, 0, 0, 5}, {7, 0, 0, 0, 6}, {7, 0, 0, 0, 6}};
+    static const uint32_t both[][5] = {{7, 0, 0, 0, 5}, {7, 0, 0, 1, 5}, {7, 0, 0, 0, 5}};
+    static const uint32_t nested[][5] = {{7, 0, 0, 0, 5}, {7, 0, 0, 0, 6}, {7, 0, 0, 0, 6}, {7, 0, 0, 0, 5}};
+    put_faces(&job, FACES(apart));
+    hold_refused("the face before the last", &job, ZAXCLOVER_SELECTED_TWICE, 62);
+    put_faces(&job, FACES(together));
+    hold_refused("the last face", &job, ZAXCLOVER_SELECTED_TWICE, 62);
+    put_faces(&job, FACES(both));
+    hold_refused("a face of the other body between", &job, ZAXCLOVER_SELECTED_TWICE, 62);
+    put_faces(&job, FACES(nested));
+    hold_refused("two repeats", &job, ZAXCLOVER_SELECTED_TWICE, 62);
+    for (uint32_t i = 0; i <= ZAXCLOVER_FACES; i++) {
+        uint32_t face[] = {7, 0, 0, i % 2, 1000 - i};
+        memcpy(faces[i], face, sizeof face);
+    }
+    put_faces(&job, faces, ZAXCLOVER_FACES);
+    hold_sewn("256 faces", &job);
+    for (size_t i = 0; i < ZAXCLOVER_FACES - 1; i += 17) {
+        memcpy(faces[ZAXCLOVER_FACES - 1], faces[i], sizeof faces[i]);
+        put_faces(&job, faces, ZAXCLOVER_FACES);
+        hold_refused("the 256th face", &job, ZAXCLOVER_SELECTED_TWICE, face_place(ZAXCLOVER_FACES - 1));
+    }
+    faces[ZAXCLOVER_FACES - 1][4] = 1;
+    memcpy(faces[ZAXCLOVER_FACES], faces[3], sizeof faces[3]);
+    put_faces(&job, FACES(faces));
+    hold_refused("the 257th face", &job, ZAXCLOVER_LIMIT_PASSED, face_place(ZAXCLOVER_FACES));
+}
+
+/* 45 after what else is wrong with the record and after earlier records, before later ones. */
+static void test_order(void)
+{
+    static struct job job;
+    static const uint32_t bad_fields[][2][5] = {
+        {{7, 0, 0, 0, 9}, {7, 0, 2, 0, 9}}, {{7, 0, 0, 0, 9}, {7, 2, 0, 0, 9}}, {{7, 0, 0, 1, 9}, {7, 0, 3, 1, 9}},
+    };
+    static const struct line head = {ZAXCLOVER_HEAD, 1, {1}};
+    static const struct line edge = {ZAXCLOVER_EDGE, 4, {5, 0, ZAXCLOVER_NONE, ZAXCLOVER_NONE}};
+    static const struct line open = {ZAXCLOVER_EDGE, 4, {5, 0, 0, 1}};
+    static const struct line first = {ZAXCLOVER_VERTEX, 1, {3}};
+    static const struct line second = {ZAXCLOVER_VERTEX, 1, {4}};
+    static const struct line face = {ZAXCLOVER_FACE, 5, {7, 0, 0, 0, 9}};
+    static const struct line broken = {ZAXCLOVER_LOOP, 2, {0, 0}};
+    static const struct line points = {ZAXCLOVER_POINTS, 3, {3, 4, 0}};
+    static const struct line unknown = {14, 0, {0}};
+    static const struct line no_sense = {ZAXCLOVER_LOOP, 2, {0, 2}};
+    static const struct line short_face = {ZAXCLOVER_FACE, 4, {7, 0, 0, 0}};
+    const struct line before_joint[] = {head, first, second, open, face, face, broken};
+    const struct line after_joint[] = {head, first, second, open, face, broken, face};
+    const struct line before_answers[] = {head, face, face, points, points};
+    const struct line before_unknown[] = {head, face, face, unknown};
+    const struct line before_field[] = {head, edge, face, face, no_sense};
+    const struct line after_field[] = {head, edge, face, no_sense, face};
+    const struct line after_answer[] = {head, face, points, face};
+    const struct line fields_missing[] = {head, face, short_face};
+    for (size_t i = 0; i < sizeof bad_fields / sizeof bad_fields[0]; i++) {
+        put_faces(&job, FACES(bad_fields[i]));
+        hold_refused("fields first", &job, ZAXCLOVER_WRONG_FIELD, 36);
+    }
+    put_lines(&job, LINES(before_joint));
+    hold_refused("before a loop that does not join", &job, ZAXCLOVER_SELECTED_TWICE, 78);
+    put_lines(&job, LINES(after_joint));
+    hold_refused("after a loop that does not join", &job, ZAXCLOVER_BROKEN_JOINT, 78);
+    put_lines(&job, LINES(before_answers));
+    hold_refused("before a question answered twice", &job, ZAXCLOVER_SELECTED_TWICE, 36);
+    put_lines(&job, LINES(before_unknown));
+    hold_refused("before an unknown kind", &job, ZAXCLOVER_SELECTED_TWICE, 36);
+    job.length -= 3;
+    hold_refused("before a record cut short", &job, ZAXCLOVER_SELECTED_TWICE, 36);
+    put_lines(&job, LINES(before_field));
+    hold_refused("before a wrong field", &job, ZAXCLOVER_SELECTED_TWICE, 58);
+    put_lines(&job, LINES(after_field));
+    hold_refused("after a wrong field", &job, ZAXCLOVER_WRONG_FIELD, 58);
+    put_lines(&job, LINES(after_answer));
+    hold_refused("after an answer", &job, ZAXCLOVER_WRONG_RECORD, 54);
+    put_lines(&job, LINES(fields_missing));
+    hold_refused("four fields", &job, ZAXCLOVER_WRONG_RECORD, 36);
+    put_lines(&job, before_answers, 3);
+    job.length--;
+    hold_refused("the later face cut short", &job, ZAXCLOVER_CUT_SHORT, 36);
+}
+
 /* STORED AND MADE-UP JOBS */
+
+/* A face selected twice is refused with 45 or for what comes before; gives whether with 45. */
+static int test_repeat(const uint8_t *job, size_t length)
+{
+    size_t value;
+    size_t at = first_repeat(job, length);
+    size_t number = zaxclover_read_stage(job, length, NULL, 0, &value);
+    if (number == ZAXCLOVER_SELECTED_TWICE) {
+        expect(at < length && value == at, "read", "the first face that is an earlier one");
+        return 1;
+    }
+    int earlier = number >= ZAXCLOVER_JOB_TOO_LONG && number <= ZAXCLOVER_ANSWERED_BEFORE;
+    expect(at == length || earlier, "read", "a face selected twice passed over");
+    expect(at == length || value <= at || number == ZAXCLOVER_JOB_TOO_LONG, "read", "a refusal of a later record");
+    return 0;
+}
 
 /* P1 to P9 and every other stored job. */
 static void test_stored(const struct seeds *seeds)
@@ -340,6 +512,7 @@ static void test_stored(const struct seeds *seeds)
     for (size_t i = 0; i < seeds->count; i++) {
         size_t value;
         test_list(seeds->at[i], seeds->length[i]);
+        test_repeat(seeds->at[i], seeds->length[i]);
         if (zaxclover_sew(seeds->at[i], seeds->length[i], out, sizeof out, &value) != ZAXCLOVER_DONE)
             continue;
         faces += test_members(seeds->at[i], seeds->length[i], out, value);
@@ -356,11 +529,12 @@ static int has_face(const struct job *job)
     return 0;
 }
 
-/* Jobs from nothing with faces load: otherwise `bindings/load` would make them in vain. */
+/* Jobs from nothing with faces load, and faces are selected twice: otherwise `bindings/load` would make them in vain. */
 static void test_made(const struct seeds *seeds)
 {
     static struct job job;
     size_t loaded = 0;
+    size_t repeats = 0;
     for (uint64_t i = 0; i < 2000; i++) {
         size_t value;
         uint64_t state = job_state(1, i);
@@ -368,8 +542,10 @@ static void test_made(const struct seeds *seeds)
         size_t number = zaxclover_read_stage(job.bytes, job.length, NULL, 0, &value);
         int loads = number == ZAXCLOVER_DONE || number == ZAXCLOVER_NO_ROOM;
         loaded += strcmp(way, "from nothing") == 0 && loads && has_face(&job);
+        repeats += (size_t)test_repeat(job.bytes, job.length);
     }
     expect(loaded >= 10, "made-up jobs", "faces from nothing");
+    expect(repeats >= 40, "made-up jobs", "faces selected twice");
 }
 
 int main(int count, char **words)
@@ -392,6 +568,9 @@ int main(int count, char **words)
     test_listing(job, length);
     test_list(job, length);
     test_faces(job, length);
+    test_same_face();
+    test_first_repeat();
+    test_order();
     test_stored(&seeds);
     test_made(&seeds);
     expect(memcmp(job, bytes, length) == 0 && is_marked(job, length, length + GUARD), "job", "left as it was");
