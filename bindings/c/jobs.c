@@ -302,7 +302,7 @@ static size_t face_from(const struct job *job, size_t at)
     return at;
 }
 
-/* A face gets body and source face of an earlier one. */
+/* A face gets body and source face of an earlier one, and at times a sense that is none. */
 static void select_twice(uint64_t *state, struct job *job)
 {
     size_t earlier = face_from(job, below(state, 2) ? 0 : some_record(state, job));
@@ -316,6 +316,8 @@ static void select_twice(uint64_t *state, struct job *job)
         later = at;
     }
     memcpy(job->bytes + later + 18, job->bytes + earlier + 18, 8);
+    if (below(state, 8) == 0)
+        put_word(job->bytes + later + 10 + 4 * below(state, 2), 2);
 }
 
 void put_record(struct job *job, uint32_t kind, const uint32_t *fields, size_t count)

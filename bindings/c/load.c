@@ -208,7 +208,7 @@ static void hold_repeat(struct answer a)
     size_t at = first_repeat(job.bytes, job.length);
     doing = "a face selected twice";
     if (a.number == ZAXCLOVER_SELECTED_TWICE)
-        hold(at < job.length && a.value == at, "45 elsewhere than at the first face that is an earlier one");
+        hold(at < job.length && a.value == at, "a refusal with 45 elsewhere than at the first face that is an earlier one");
     if (at == job.length || a.number == ZAXCLOVER_JOB_TOO_LONG)
         return;
     hold(of_loading(a.number) && a.value <= at, "a face selected twice is passed over");

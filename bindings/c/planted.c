@@ -70,6 +70,8 @@ static size_t spoil_repeat(size_t number, uint8_t *out, size_t out_length, size_
     }
     if (FAULT == 13) /* passed over */
         return pass_over(number, out, out_length, value);
+    if (FAULT == 14 && number == ZAXCLOVER_WRONG_FIELD && first_repeat(other.bytes, other.length) == *value)
+        return ZAXCLOVER_SELECTED_TWICE; /* before its fields */
     return number;
 }
 
