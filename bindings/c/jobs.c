@@ -177,6 +177,7 @@ static void take_stored(uint64_t *state, struct job *job)
     memcpy(job->bytes, stored->at[i], job->length);
 }
 
+/* The record after the one at a place, or the job's end. */
 static size_t next_record(const struct job *job, size_t at)
 {
     return record_end(job->bytes, job->length, at);
@@ -315,6 +316,8 @@ static void select_twice(uint64_t *state, struct job *job)
             break;
         later = at;
     }
+    if (later == earlier)
+        return;
     memcpy(job->bytes + later + 18, job->bytes + earlier + 18, 8);
     if (below(state, 8) == 0)
         put_word(job->bytes + later + 10 + 4 * below(state, 2), 2);
