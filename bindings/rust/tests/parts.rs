@@ -35,7 +35,7 @@ fn part(name: &str) -> (Vec<u8>, String) {
     (assembled(&text), expected)
 }
 
-/// The job of a text, a record a line.
+/// The job of a text, a record a line, or bytes as they are.
 fn assembled(text: &str) -> Vec<u8> {
     let mut job = Vec::new();
     for line in text.lines() {
@@ -45,11 +45,17 @@ fn assembled(text: &str) -> Vec<u8> {
             .unwrap_or("")
             .split_whitespace()
             .collect();
-        if let Some((kind, fields)) = words.split_first() {
-            job.extend(written(&[record(kind, fields)]));
+        match words.split_first() {
+            Some((&"bytes", bytes)) => job.extend(bytes.iter().map(|byte| hexadecimal(byte))),
+            Some((kind, fields)) => job.extend(written(&[record(kind, fields)])),
+            None => {}
         }
     }
     job
+}
+
+fn hexadecimal(byte: &str) -> u8 {
+    u8::from_str_radix(byte, 16).expect("a byte")
 }
 
 /// Kind and fields.
@@ -103,11 +109,12 @@ fn parts_of_the_requests() -> Vec<String> {
         .map(|file| file.expect("a part").file_name())
         .map(|name| format!("requests/{}", name.to_string_lossy()))
         .collect();
-    let of_seven = names
-        .iter()
-        .filter(|name| name.starts_with("requests/seven-"));
-    let seen = (of_seven.count(), names.len());
-    assert!(seen.0 >= 6 && seen.1 >= 27, "{seen:?} parts");
+    let of_request = |word: &str| names.iter().filter(|name| name.contains(word)).count();
+    let seen = (of_request("/seven-"), of_request("/eight-"), names.len());
+    assert!(
+        seen.0 >= 7 && seen.1 >= 23 && seen.2 >= 50,
+        "{seen:?} parts"
+    );
     names
 }
 
@@ -186,7 +193,7 @@ fn sewn(job: &[u8]) -> Result<Vec<u8>, Refusal> {
 /// Request Seven: body and source face of the members of each face, in parts P1 to P9 and those made for it.
 #[test]
 fn faces_remember_their_members() {
-    let parts: [(&str, &[&[u32]]); 9] = [
+    let parts: [(&str, &[&[u32]]); 10] = [
         ("P1.txt", &[]),
         ("P2.txt", &[&[0, 0], &[0, 1]]),
         ("P3.txt", &[&[0, 0, 0, 1]]),
@@ -201,6 +208,7 @@ fn faces_remember_their_members() {
             "requests/seven-no-loops.txt",
             &[&[0, u32::MAX], &[1, 65_536]],
         ),
+        ("requests/seven-same-source.txt", &[&[1, 6, 0, 6]]),
         (
             "requests/seven-three-members.txt",
             &[&[1, 0], &[1, 9, 0, u32::MAX, 0, 3]],
