@@ -16,11 +16,12 @@ use job::FACES;
 use rules::Counts;
 
 // Heads of the chains, then the entry after each face.
-pub const SOURCES: usize = 512;
+pub const SOURCES: usize = 320;
 
-const BUCKETS: usize = 256;
+// Few, since the table is cleared for each job, however small.
+const BUCKETS: usize = 64;
 
-const NEXT: usize = 256;
+const NEXT: usize = 64;
 
 // The record at a byte selects this face of this body.
 fn is_face(job: &[u8], at: usize, body: usize, source: usize) -> bool
