@@ -104,7 +104,8 @@ pub fn put_word(out: &mut [u8], at: usize, v: usize) -> usize
     at + 4
 }
 
-fn put_byte(out: &mut [u8], at: usize, b: usize)
+// A byte stored at a place.
+pub fn put_byte(out: &mut [u8], at: usize, b: usize)
     requires { b < 256 }
     ensures { out.new ≡ set out.old at b }
 {

@@ -99,7 +99,7 @@ follows-start bytes ix c e h some =
     ∙ sym (ap (λ fs. throughout loadRecord fs (stateIn bytes ix noCounts)) (frames-step bytes 0 some))
     ∙ ap (λ d. throughout loadRecord (framesOf 0 (drop 0 bytes)) (stateIn bytes ix d)) (sym e)
 
-pub going-start : (bytes ix t : List ℕ) (c : Counts) → ix ≡ replicate 7424 0 → t ≡ replicate 320 0 → c ≡ noCounts → length bytes ≤ 65536 → Going bytes ix t c 0
+pub going-start : (bytes ix t : List ℕ) (c : Counts) → ix ≡ replicate 7424 0 → t ≡ replicate 512 0 → c ≡ noCounts → length bytes ≤ 65536 → Going bytes ix t c 0
 going-start bytes ix t c blank bare e h = record {
   small = h;
   within = omega arith;

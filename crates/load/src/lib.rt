@@ -75,13 +75,13 @@ fn is_misplaced(kind: Kind, size: usize, part: usize) -> bool
 fn is_selected(
     job: &[u8],
     index: &[u32],
-    sources: &[u32],
+    sources: &[u8],
     c: Counts,
     at: usize,
     kind: Kind,
     size: usize,
 ) -> bool
-    requires { Here job.now index.now c at kind size × Sourced job.now index.now sources.now c × (rightLength kind size ≡ true) }
+    requires { Here job.now index.now c at kind size × Sourced job.now index.now sources.now c × (rightLength kind size ≡ true) × (kind ≡ FaceRecord → c.faces < 256) }
     ensures { result ≡ selectedBefore kind (facesIn job.now index.now c) (fieldsAt job.now at) }
 {
     match kind {
@@ -105,7 +105,7 @@ fn is_answered(job: &[u8], index: &[u32], c: Counts, at: usize, kind: Kind, size
 fn fault(
     job: &[u8],
     index: &[u32],
-    sources: &[u32],
+    sources: &[u8],
     c: Counts,
     at: usize,
     kind: Kind,
@@ -169,7 +169,7 @@ fn keep(job: &[u8], index: &mut [u32], kind: Kind, c: Counts, at: usize)
 }
 
 // A face is entered by its source face number.
-fn keep_source(job: &[u8], sources: &mut [u32], kind: Kind, c: Counts, at: usize)
+fn keep_source(job: &[u8], sources: &mut [u8], kind: Kind, c: Counts, at: usize)
     requires { (kind ≡ FaceRecord → c.faces < 256) × (at < 4294967296) }
     ensures { sources.new ≡ keptSources kind job.now sources.old c at }
 {
@@ -180,7 +180,7 @@ fn keep_source(job: &[u8], sources: &mut [u32], kind: Kind, c: Counts, at: usize
 }
 
 // The record at a byte: refused, or its place and its source face number entered and the counts after it.
-fn step(job: &[u8], index: &mut [u32], sources: &mut [u32], c: Counts, at: usize) -> Stepped
+fn step(job: &[u8], index: &mut [u32], sources: &mut [u8], c: Counts, at: usize) -> Stepped
     requires { Going job.now index.old sources.old c at × (at < length job.now) }
     ensures { SteppedAs job.now index.old index.new sources.new c at result }
 {
@@ -224,7 +224,7 @@ pub fn load(job: &[u8], index: &mut [u32]) -> Loaded
     if job.len() == 0 {
         return Loaded::Refused(3, 0);
     }
-    let mut sources = [0u32; SOURCES];
+    let mut sources = [0u8; SOURCES];
     let mut c = nothing();
     let mut at: usize = 0;
     while at < job.len() {

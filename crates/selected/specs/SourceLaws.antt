@@ -3,6 +3,7 @@ use Rattle.std.specs.Prelude.{ℕ, suc, ◌+◌, ◌-◌, ◌≤◌, ◌<◌, �
 use Rattle.std.proofs.Common.{add-one, arith, sym, ap, ◌∙◌, mod-lt, ne_eqb}
 use Rattle.std.proofs.Math.Decide.{ℕ_discrete}
 use Rattle.std.proofs.Math.Bool.{or-false}
+use Rattle.std.proofs.Math.Nat.{mod-eq_of_lt}
 use Rattle.std.proofs.lemmas.Bool.{and_right}
 use Rattle.std.proofs.lemmas.List.{length-replicate}
 use Rattle.std.proofs.Math.ListN.{length-set}
@@ -21,26 +22,26 @@ use Rattle.fields.specs.Chains.{chain, Falling, chain-end, chain-on, chain-more,
 use Rattle.job.specs.Lists.{faceByte, faceIn, facesIn}
 use Rattle.selected.specs.Sources.{bucketOf, nextFace, faceEntered, isFace, foundFrom, Sourced}
 
-pub bucket-below : (source : ℕ) → bucketOf source < 64
+pub bucket-below : (source : ℕ) → bucketOf source < 256
 unfolding bucketOf
 bucket-below source = mod-lt source (omega arith)
 
 -- NONE
 
-pub sourced-none : (bytes ix : List ℕ) (c : Counts) → c.faces ≡ 0 → Sourced bytes ix (replicate 320 0) c
+pub sourced-none : (bytes ix : List ℕ) (c : Counts) → c.faces ≡ 0 → Sourced bytes ix (replicate 512 0) c
 unfolding nextFace some facesIn
 sourced-none bytes ix c none = record {
-  size = length-replicate {A = ℕ} 320 0;
-  falling = λ k. omega (arith, blank (64 + k));
+  size = length-replicate {A = ℕ} 512 0;
+  falling = λ k. omega (arith, blank (256 + k));
   heads = λ b h. omega (arith, blank b);
-  finds = λ f. ap (foundFrom bytes ix (replicate {A = ℕ} 320 0) f) (blank (bucketOf f.source)) ∙ nothing f ∙ sym (no-faces f);
+  finds = λ room f. ap (foundFrom bytes ix (replicate {A = ℕ} 512 0) f) (blank (bucketOf f.source)) ∙ nothing f ∙ sym (no-faces f);
 }
   where
-    blank : (i : ℕ) → get_or {A = ℕ} (replicate 320 0) i 0 ≡ 0
-    blank i = getD-constant {A = ℕ} 320 0 i
+    blank : (i : ℕ) → get_or {A = ℕ} (replicate 512 0) i 0 ≡ 0
+    blank i = getD-constant {A = ℕ} 512 0 i
 
-    nothing : (f : Face) → foundFrom bytes ix (replicate 320 0) f 0 ≡ false
-    nothing f = ap (some (isFace bytes ix f)) (chain-end (nextFace (replicate 320 0)))
+    nothing : (f : Face) → foundFrom bytes ix (replicate 512 0) f 0 ≡ false
+    nothing f = ap (some (isFace bytes ix f)) (chain-end (nextFace (replicate 512 0)))
 
     no-faces : (f : Face) → some (sameSource f) (facesIn bytes ix c) ≡ false
     no-faces f =
@@ -59,10 +60,10 @@ same-fields bytes at place body source hit eb es h = h ∙ (λ i. eqb (eb i) (le
 abbrev pub Walking : List ℕ → List ℕ → List ℕ → Counts → Face → ℕ → Type 0
 Walking bytes ix t c f entry = foundFrom bytes ix t f entry ≡ some (sameSource f) (facesIn bytes ix c)
 
-module _ (bytes ix t : List ℕ) (c : Counts) (f : Face) (S : Sourced bytes ix t c) where
-  pub walk-start : (source entry : ℕ) → source ≡ f.source → entry ≡ get_or t (source % 64) 0 → Walking bytes ix t c f entry
+module _ (bytes ix t : List ℕ) (c : Counts) (f : Face) (S : Sourced bytes ix t c) (room : c.faces < 256) where
+  pub walk-start : (source entry : ℕ) → source ≡ f.source → entry ≡ get_or t (source % 256) 0 → Walking bytes ix t c f entry
   unfolding bucketOf
-  walk-start source entry s e = ap (foundFrom bytes ix t f) (e ∙ ap (λ n. get_or t (n % 64) 0) s) ∙ S.finds f
+  walk-start source entry s e = ap (foundFrom bytes ix t f) (e ∙ ap (λ n. get_or t (n % 256) 0) s) ∙ S.finds room f
 
   -- at the end of the chain
   pub walk-end : (entry : ℕ) → entry ≤ 0 → Walking bytes ix t c f entry → false ≡ some (sameSource f) (facesIn bytes ix c)
@@ -82,7 +83,7 @@ module _ (bytes ix t : List ℕ) (c : Counts) (f : Face) (S : Sourced bytes ix t
     pub walk-found : hit ≡ true → Walking bytes ix t c f entry → true ≡ some (sameSource f) (facesIn bytes ix c)
     walk-found h w = sym (first ∙ ap (λ b. b || foundFrom bytes ix t f (nextFace t (entry - 1))) h) ∙ w
 
-    pub walk-on : (after : ℕ) → hit ≡ false → after ≡ get_or t (64 + (entry - 1)) 0 → Walking bytes ix t c f entry
+    pub walk-on : (after : ℕ) → hit ≡ false → after ≡ get_or t (256 + (entry - 1)) 0 → Walking bytes ix t c f entry
         → Walking bytes ix t c f after × (after < entry)
     unfolding nextFace
     walk-on after h e w = (
@@ -107,57 +108,57 @@ sourced-same bytes ix iy t c d S count places faces = record {
   size = S.size;
   falling = S.falling;
   heads = λ b h. omega (arith, S.heads b h, count);
-  finds = λ f.
+  finds = λ room f.
       let head : get_or t (bucketOf f.source) 0 ≤ c.faces = S.heads (bucketOf f.source) (bucket-below f.source) in
       found-same bytes ix iy t t f (get_or t (bucketOf f.source) 0) S.falling (λ k h. refl) (λ k h. places k (omega (arith, h, head)))
-      ∙ S.finds f ∙ ap (some (sameSource f)) (sym faces);
+      ∙ S.finds (omega (arith, room, count)) f ∙ ap (some (sameSource f)) (sym faces);
 }
 
 -- ONE FACE MORE
 
 -- the two stores that enter it
-pub two-stores : (bytes t u v : List ℕ) (k at source b head : ℕ) → source ≡ le32 bytes (at + 22) → b ≡ source % 64 → head ≡ get_or t b 0
-    → u ≡ set t (64 + k) head → v ≡ set u b (k + 1) → v ≡ faceEntered bytes t k at
+pub two-stores : (bytes t u v : List ℕ) (k at source b head : ℕ) → source ≡ le32 bytes (at + 22) → b ≡ source % 256 → head ≡ get_or t b 0
+    → u ≡ set t (256 + k) head → v ≡ set u b ((k + 1) % 256) → v ≡ faceEntered bytes t k at
 unfolding faceEntered bucketOf
 two-stores bytes t u v k at source b head es eb eh eu ev =
-    let e : b ≡ le32 bytes (at + 22) % 64 = eb ∙ ap (λ n. n % 64) es in
-    let h : head ≡ get_or t (le32 bytes (at + 22) % 64) 0 = eh ∙ ap (λ n. get_or t n 0) e in
-    ev ∙ (λ i. set (eu i) (e i) (k + 1)) ∙ (λ i. set (set t (64 + k) (h i)) (le32 bytes (at + 22) % 64) (k + 1))
+    let e : b ≡ le32 bytes (at + 22) % 256 = eb ∙ ap (λ n. n % 256) es in
+    let h : head ≡ get_or t (le32 bytes (at + 22) % 256) 0 = eh ∙ ap (λ n. get_or t n 0) e in
+    ev ∙ (λ i. set (eu i) (e i) ((k + 1) % 256)) ∙ (λ i. set (set t (256 + k) (h i)) (le32 bytes (at + 22) % 256) ((k + 1) % 256))
 
-module _ (bytes t : List ℕ) (k at : ℕ) (size : length t ≡ 320) (low : k < 256) where
+module _ (bytes t : List ℕ) (k at : ℕ) (size : length t ≡ 512) (low : k < 256) where
   abbrev own : ℕ
   own = bucketOf (le32 bytes (at + 22))
 
   abbrev after : List ℕ
   after = faceEntered bytes t k at
 
-  pub length-entered : length (faceEntered bytes t k at) ≡ 320
+  pub length-entered : length (faceEntered bytes t k at) ≡ 512
   unfolding faceEntered
-  length-entered = length-set (set t (64 + k) (get_or t own 0)) own (k + 1) ∙ length-set t (64 + k) (get_or t own 0) ∙ size
+  length-entered = length-set (set t (256 + k) (get_or t own 0)) own ((k + 1) % 256) ∙ length-set t (256 + k) (get_or t own 0) ∙ size
 
   -- two places change
-  other : (j : ℕ) → j ≢ 64 + k → j ≢ own → get_or after j 0 ≡ get_or t j 0
+  other : (j : ℕ) → j ≢ 256 + k → j ≢ own → get_or after j 0 ≡ get_or t j 0
   unfolding faceEntered
-  other j a b = get_or-set_other (set t (64 + k) (get_or t own 0)) own j (k + 1) 0 b ∙ get_or-set_other t (64 + k) j (get_or t own 0) 0 a
+  other j a b = get_or-set_other (set t (256 + k) (get_or t own 0)) own j ((k + 1) % 256) 0 b ∙ get_or-set_other t (256 + k) j (get_or t own 0) 0 a
 
-  head-new : get_or after own 0 ≡ k + 1
+  head-new : get_or after own 0 ≡ (k + 1) % 256
   unfolding faceEntered
   head-new =
-      get_or-set_same (set t (64 + k) (get_or t own 0)) own (k + 1) 0
-      (omega (arith, bucket-below (le32 bytes (at + 22)), length-set t (64 + k) (get_or t own 0), size))
+      get_or-set_same (set t (256 + k) (get_or t own 0)) own ((k + 1) % 256) 0
+      (omega (arith, bucket-below (le32 bytes (at + 22)), length-set t (256 + k) (get_or t own 0), size))
 
   next-new : nextFace after k ≡ get_or t own 0
   unfolding faceEntered nextFace
   next-new =
-      get_or-set_other (set t (64 + k) (get_or t own 0)) own (64 + k) (k + 1) 0
+      get_or-set_other (set t (256 + k) (get_or t own 0)) own (256 + k) ((k + 1) % 256) 0
       (λ e. let b = bucket-below (le32 bytes (at + 22)) in omega arith)
-      ∙ get_or-set_same t (64 + k) (get_or t own 0) 0 (omega (arith, size, low))
+      ∙ get_or-set_same t (256 + k) (get_or t own 0) 0 (omega (arith, size, low))
 
   next-old : (j : ℕ) → j ≢ k → nextFace after j ≡ nextFace t j
   unfolding nextFace
-  next-old j n = other (64 + j) (λ e. n (omega arith)) (λ e. let b = bucket-below (le32 bytes (at + 22)) in omega arith)
+  next-old j n = other (256 + j) (λ e. n (omega arith)) (λ e. let b = bucket-below (le32 bytes (at + 22)) in omega arith)
 
-  head-old : (b : ℕ) → b < 64 → b ≢ own → get_or after b 0 ≡ get_or t b 0
+  head-old : (b : ℕ) → b < 256 → b ≢ own → get_or after b 0 ≡ get_or t b 0
   head-old b h n = other b (λ e. omega arith) n
 
 module _ (bytes ix iy t : List ℕ) (c d : Counts) (at : ℕ) (S : Sourced bytes ix t c) (low : c.faces < 256) (count : d.faces ≡ c.faces + 1)
@@ -190,15 +191,15 @@ module _ (bytes ix iy t : List ℕ) (c d : Counts) (at : ℕ) (S : Sourced bytes
     among f = ap (some (sameSource f)) faces ∙ some-snoc (sameSource f) (facesIn bytes ix c) (faceIn bytes at)
 
     -- a face with its bucket: it is the first on the chain
-    own-bucket : (f : Face) → bucketOf f.source ≡ b → foundFrom bytes iy u f (get_or u (bucketOf f.source) 0) ≡ some (sameSource f) (facesIn bytes iy d)
+    own-bucket : d.faces < 256 → (f : Face) → bucketOf f.source ≡ b → foundFrom bytes iy u f (get_or u (bucketOf f.source) 0) ≡ some (sameSource f) (facesIn bytes iy d)
     unfolding some
-    own-bucket f e =
+    own-bucket room f e =
         let head : get_or t b 0 ≤ k = S.heads b (bucket-below (le32 bytes (at + 22))) in
-        let start : get_or u (bucketOf f.source) 0 ≡ suc k = ap (λ n. get_or u n 0) e ∙ head-new bytes t k at S.size low ∙ add-one k in
+        let start : get_or u (bucketOf f.source) 0 ≡ suc k = ap (λ n. get_or u n 0) e ∙ head-new bytes t k at S.size low ∙ mod-eq_of_lt (omega (arith, room, count)) ∙ add-one k in
         ap (foundFrom bytes iy u f) start
         ∙ ap (some (isFace bytes iy f)) (chain-on (nextFace u) falls k)
         ∙ (λ i. sameSource f (faceIn bytes (here i)) || foundFrom bytes iy u f (next-new bytes t k at S.size low i))
-        ∙ ap (λ v. sameSource f (faceIn bytes at) || v) (before f (get_or t b 0) head ∙ ap (λ n. foundFrom bytes ix t f (get_or t n 0)) (sym e) ∙ S.finds f)
+        ∙ ap (λ v. sameSource f (faceIn bytes at) || v) (before f (get_or t b 0) head ∙ ap (λ n. foundFrom bytes ix t f (get_or t n 0)) (sym e) ∙ S.finds low f)
         ∙ or-comm (sameSource f (faceIn bytes at)) (some (sameSource f) (facesIn bytes ix c))
         ∙ sym (among f)
 
@@ -211,7 +212,7 @@ module _ (bytes ix iy t : List ℕ) (c d : Counts) (at : ℕ) (S : Sourced bytes
     other-bucket f n =
         let low' = bucket-below f.source in
         ap (foundFrom bytes iy u f) (head-old bytes t k at S.size low (bucketOf f.source) low' n)
-        ∙ before f (get_or t (bucketOf f.source) 0) (S.heads (bucketOf f.source) low') ∙ S.finds f
+        ∙ before f (get_or t (bucketOf f.source) 0) (S.heads (bucketOf f.source) low') ∙ S.finds low f
         ∙ sym (or-false (some (sameSource f) (facesIn bytes ix c)))
         ∙ ap (λ v. some (sameSource f) (facesIn bytes ix c) || v) (sym (another f n)) ∙ sym (among f)
 
@@ -221,8 +222,8 @@ module _ (bytes ix iy t : List ℕ) (c d : Counts) (at : ℕ) (S : Sourced bytes
       falling = falls;
       heads = λ j h.
           elim (ℕ_discrete j b) [
-            | yes e ↦ rw e (omega (arith, head-new bytes t k at S.size low, count))
+            | yes e ↦ rw e (omega (arith, head-new bytes t k at S.size low, count, low))
             | no n ↦ omega (arith, head-old bytes t k at S.size low j h n, S.heads j h, count)
           ];
-      finds = λ f. elim (ℕ_discrete (bucketOf f.source) b) [ yes e ↦ own-bucket f e | no n ↦ other-bucket f n ];
+      finds = λ room f. elim (ℕ_discrete (bucketOf f.source) b) [ yes e ↦ own-bucket room f e | no n ↦ other-bucket f n ];
     }

@@ -10,17 +10,17 @@ use Rattle.job.specs.Lists.{faceByte, faceIn, facesIn}
 
 -- the chain on which a face with this source face number stands
 unfoldable pub bucketOf : ℕ → ℕ
-bucketOf source = source % 64
+bucketOf source = source % 256
 
--- the entry after face k on its chain; the table has them from place 64 on
+-- the entry after face k on its chain; the table has them from place 256 on
 unfoldable pub nextFace : List ℕ → ℕ → ℕ
-nextFace t k = get_or t (64 + k) 0
+nextFace t k = get_or t (256 + k) 0
 
--- the table with one face more, k, in front of its chain
+-- the table with one face more, k, in front of its chain; its entries are bytes, and the 256th face, the last, is entered as none
 unfoldable pub faceEntered : List ℕ → List ℕ → ℕ → ℕ → List ℕ
 faceEntered bytes t k at =
     let b = bucketOf (le32 bytes (at + 22)) in
-    set (set t (64 + k) (get_or t b 0)) b (k + 1)
+    set (set t (256 + k) (get_or t b 0)) b ((k + 1) % 256)
 
 -- selected face k is that face of that body
 abbrev pub isFace : List ℕ → List ℕ → Face → ℕ → Bool
@@ -30,9 +30,9 @@ isFace bytes ix f k = sameSource f (faceIn bytes (faceByte ix k))
 abbrev pub foundFrom : List ℕ → List ℕ → List ℕ → Face → ℕ → Bool
 foundFrom bytes ix t f entry = some (isFace bytes ix f) (chain (nextFace t) entry)
 
--- chains fall, their heads are of faces that are loaded, and they find what the definition finds, for every face
+-- chains fall, their heads are of faces that are loaded, and as long as another face can come they find what the definition finds, for every face
 pub record Sourced (bytes ix t : List ℕ) (c : Counts) : Type 0 where
-  pub size : length t ≡ 320
+  pub size : length t ≡ 512
   pub falling : Falling (nextFace t)
-  pub heads : (b : ℕ) → b < 64 → get_or t b 0 ≤ c.faces
-  pub finds : (f : Face) → foundFrom bytes ix t f (get_or t (bucketOf f.source) 0) ≡ some (sameSource f) (facesIn bytes ix c)
+  pub heads : (b : ℕ) → b < 256 → get_or t b 0 ≤ c.faces
+  pub finds : c.faces < 256 → (f : Face) → foundFrom bytes ix t f (get_or t (bucketOf f.source) 0) ≡ some (sameSource f) (facesIn bytes ix c)

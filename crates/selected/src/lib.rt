@@ -1,6 +1,7 @@
 // The selected faces by their source face numbers, while loading: a chain of faces for each bucket of numbers, latest
 // first, so that a face is held only against those whose number could be its own. An entry of a chain is the number of
-// a face plus one; 0 ends it.
+// a face plus one; 0 ends it. Entries are bytes, since the table is cleared for each job, however small; so the 256th
+// face, after which a job can have none, is entered as 0.
 
 #![tactic(auto)]
 
@@ -11,17 +12,16 @@ ghost use Rattle.rules.specs.Load.{sameSource};
 ghost use Rattle.job.specs.Lists.{faceIn, facesIn};
 ghost use Rattle.selected.specs.Sources.{faceEntered, Sourced};
 
-use fields::{get, put, word};
+use fields::{byte, get, put_byte, word};
 use job::FACES;
 use rules::Counts;
 
 // Heads of the chains, then the entry after each face.
-pub const SOURCES: usize = 320;
+pub const SOURCES: usize = 512;
 
-// Few, since the table is cleared for each job, however small.
-const BUCKETS: usize = 64;
+const BUCKETS: usize = 256;
 
-const NEXT: usize = 64;
+const NEXT: usize = 256;
 
 // The record at a byte selects this face of this body.
 fn is_face(job: &[u8], at: usize, body: usize, source: usize) -> bool
@@ -35,30 +35,30 @@ fn is_face(job: &[u8], at: usize, body: usize, source: usize) -> bool
 }
 
 // The face of the record at a byte is one of those selected before.
-pub fn selected_before(job: &[u8], index: &[u32], sources: &[u32], c: Counts, at: usize) -> bool
-    requires { Sourced job.now index.now sources.now c × (at < 4294967296) }
+pub fn selected_before(job: &[u8], index: &[u32], sources: &[u8], c: Counts, at: usize) -> bool
+    requires { Sourced job.now index.now sources.now c × (c.faces < 256) × (at < 4294967296) }
     ensures { result ≡ some (sameSource (faceIn job.now at)) (facesIn job.now index.now c) }
 {
     let body = word(job, at + 18);
     let source = word(job, at + 22);
-    let mut i = get(sources, source % BUCKETS);
+    let mut i = byte(sources, source % BUCKETS);
     while 0 < i {
         let k = i - 1;
         if is_face(job, get(index, FACES + k), body, source) {
             return true;
         }
-        i = get(sources, NEXT + k);
+        i = byte(sources, NEXT + k);
     }
     false
 }
 
 // Face k, whose record stands at a byte, is entered in front of its chain.
-pub fn enter(job: &[u8], sources: &mut [u32], k: usize, at: usize)
+pub fn enter(job: &[u8], sources: &mut [u8], k: usize, at: usize)
     requires { (k < 256) × (at < 4294967296) }
     ensures { sources.new ≡ faceEntered job.now sources.old k at }
 {
     let b = word(job, at + 22) % BUCKETS;
-    let head = get(sources, b);
-    put(sources, NEXT + k, head);
-    put(sources, b, k + 1);
+    let head = byte(sources, b);
+    put_byte(sources, NEXT + k, head);
+    put_byte(sources, b, (k + 1) % 256);
 }

@@ -1,6 +1,7 @@
 use Rattle.load.specs.Judged.{judge-misplaced, in-place, right-fields, judge-limit, judge-fields, judge-selected, judge-joints, judge-answered, judge-none}
 use Prim.Native.Nat.{◌/◌}
-use mathlib.Core.Path.{refl}
+use Rattle.load.specs.SourcesKept.{face-room}
+use mathlib.Core.Path.{refl, sym, ◌∙◌}
 use native.Mathlib.Omega.{arith}
 use Rattle.load.proofs.fault.Goals as goal
 
@@ -40,8 +41,12 @@ right_joints-requires c = (c.requires.0.limited, let s = c.requires.0.small in l
 pub is_selected-requires : goal.is_selected-requires
 is_selected-requires c =
     let w = in-place c.args.job.now c.args.index.now c.args.c c.args.at c.args.kind c.args.size c.requires.0
-    c.is_misplaced.result c.is_misplaced.ensures c.if-is_misplaced.false in
-    (c.requires.0, c.requires.1, w.0)
+    c.is_misplaced.result c.is_misplaced.ensures c.if-is_misplaced.false in (
+      c.requires.0,
+      c.requires.1,
+      w.0,
+      face-room c.args.kind c.args.c (c.args.size / 4) (sym c.limit_passed.ensures ∙ c.if-limit_passed.false),
+    )
 
 pub returns-then-is_selected : goal.returns-then-is_selected
 returns-then-is_selected c =

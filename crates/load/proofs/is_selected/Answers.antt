@@ -2,7 +2,7 @@ use Rattle.load.specs.Judged.{selected-as, no-face}
 use Rattle.load.proofs.is_selected.Goals as goal
 
 pub selected_before-requires : goal.selected_before-requires
-selected_before-requires c = (c.requires.1, c.requires.0.low)
+selected_before-requires c = (c.requires.1, c.requires.3 c.in-FaceRecord.is, c.requires.0.low)
 
 pub returns-in-FaceRecord : goal.returns-in-FaceRecord
 returns-in-FaceRecord c =
