@@ -17,17 +17,18 @@ module _ (fs : List Face) (x : Face) (D : Distinct fs) (new : some (sameSource x
   abbrev more : List Face
   more = fs ++ (x ∷ [])
 
-  -- the faces before stand where they stood, and the new one stands last
+  -- the faces before stand where they stood,
   old : (i : ℕ) → i < length fs → faceAt more i ≡ faceAt fs i
   old i h = get_or-append fs (x ∷ []) noFace i h
 
+  -- the new one stands last,
   last : (k : ℕ) → length fs ≤ k → k < length more → (k ≡ length fs) × (faceAt more k ≡ x)
   last k le h =
       let e : k ≡ length fs = omega (arith, length-snoc fs x, le, h) in
       let z : k ≡ length fs + 0 = omega arith in
       (e, ap (faceAt more) z ∙ get_or-append-add fs (x ∷ []) 0 noFace)
 
-  -- no face before has its body and source
+  -- and no face before has its body and source
   apart : (i k : ℕ) → i < length fs → length fs ≤ k → k < length more
       → (faceAt more i).body ≡ (faceAt more k).body → (faceAt more i).source ≡ (faceAt more k).source → ⊥
   apart i k h le m b s =
@@ -37,7 +38,7 @@ module _ (fs : List Face) (x : Face) (D : Distinct fs) (new : some (sameSource x
       let source : x.source ≡ (faceAt fs i).source = ap (λ f. f.source) (sym q) ∙ sym s ∙ ap (λ f. f.source) p in
       false≢true (sym new ∙ in-some (sameSource x) (getD-in fs i noFace h) (both-and _ _ (eq-eqb _ _ body) (eq-eqb _ _ source)))
 
-  -- both before: they were one; one of them new: impossible, unless both are
+  -- two faces before with one body and source were one already
   before : (i k : ℕ) → i < length fs → k < length fs
       → (faceAt more i).body ≡ (faceAt more k).body → (faceAt more i).source ≡ (faceAt more k).source → i ≡ k
   before i k hi hk b s =
@@ -45,6 +46,7 @@ module _ (fs : List Face) (x : Face) (D : Distinct fs) (new : some (sameSource x
       let q : faceAt more k ≡ faceAt fs k = old k hk in
       D i k hi hk (ap (λ f. f.body) (sym p) ∙ b ∙ ap (λ f. f.body) q) (ap (λ f. f.source) (sym p) ∙ s ∙ ap (λ f. f.source) q)
 
+  -- two with one body and source are both before or both the new one
   pub distinct-more : Distinct (fs ++ (x ∷ []))
   distinct-more i k hi hk b s =
       ⊎_elim
