@@ -33,7 +33,7 @@ use Rattle.lists.specs.Lists.{positions, same}
 use Rattle.rules.specs.Outcome.{Outcome, ok, refuse}
 use Rattle.rules.specs.Rules.{ordinary}
 use Rattle.rules.specs.Sew.{sewn}
-use Rattle.rules.specs.Stage.{readStage, pairStage, mergeStage, vertexLoopStage, walkStage, loopStage, fanStage, edgeStage, joiningStage, shellStage, lumpStage}
+use Rattle.rules.specs.Stage.{read_stage, pair_stage, merge_stage, vertex_loop_stage, walk_stage, loop_stage, fan_stage, edge_stage, joining_stage, shell_stage, lump_stage}
 use Rattle.rules.specs.Open.{computes}
 
 -- a job, the operation (0 sewing, 1 to 11 the stages), the room, the answer
@@ -51,17 +51,17 @@ agrees (refuse n p) (refuse m q) = eqb n m && eqb p q
 
 unfoldable stages : ℕ → List ℕ → ℕ → Outcome (List ℕ)
 stages o job room =
-    cond (eqb o 1) (readStage job room)
-    (cond (eqb o 2) (pairStage job room)
-    (cond (eqb o 3) (mergeStage ordinary job room)
-    (cond (eqb o 4) (vertexLoopStage ordinary job room)
-    (cond (eqb o 5) (walkStage ordinary job room)
-    (cond (eqb o 6) (loopStage ordinary job room)
-    (cond (eqb o 7) (fanStage ordinary job room)
-    (cond (eqb o 8) (edgeStage ordinary job room)
-    (cond (eqb o 9) (joiningStage ordinary job room)
-    (cond (eqb o 10) (shellStage ordinary job room)
-    (cond (eqb o 11) (lumpStage ordinary job room)
+    cond (eqb o 1) (read_stage job room)
+    (cond (eqb o 2) (pair_stage job room)
+    (cond (eqb o 3) (merge_stage ordinary job room)
+    (cond (eqb o 4) (vertex_loop_stage ordinary job room)
+    (cond (eqb o 5) (walk_stage ordinary job room)
+    (cond (eqb o 6) (loop_stage ordinary job room)
+    (cond (eqb o 7) (fan_stage ordinary job room)
+    (cond (eqb o 8) (edge_stage ordinary job room)
+    (cond (eqb o 9) (joining_stage ordinary job room)
+    (cond (eqb o 10) (shell_stage ordinary job room)
+    (cond (eqb o 11) (lump_stage ordinary job room)
     (sewn ordinary job room)))))))))))
 
 unfoldable wrong : Row → Bool

@@ -6,123 +6,123 @@ use Rattle.std.proofs.Math.Path.{ap}
 use mathlib.Core.List.Memᴰ
 use Rattle.std.proofs.Math.ListN.{get_or-eq_default}
 use Rattle.lists.specs.Lists.{◌∈◌}
-use Rattle.lists.specs.Tests.{cond-true, cond-false}
+use Rattle.lists.specs.Tests.{cond_true, cond_false}
 use Rattle.rules.specs.declared.Counts.{Counts}
-use Rattle.fields.specs.Chains.{Falling, chain-end, chain-more, chain-below, chain-same}
-use Rattle.job.specs.Lists.{answerByte}
+use Rattle.fields.specs.Chains.{Falling, chain_end, chain_more, chain_below, chain_same}
+use Rattle.job.specs.Lists.{answer_byte}
 use Rattle.answers.specs.declared.Question.{Question}
 use Rattle.answers.specs.declared.Found.{Found as Place}
 use Rattle.answers.specs.declared.Found.TheVariants.{At, Missing}
-use Rattle.answers.specs.Question.{Padded, oneQuestion, questionIn, bucketOf, RightAnswer}
-use Rattle.answers.specs.QuestionLaws.{one-question}
-use Rattle.answers.specs.RecordLaws.{question-padded}
-use Rattle.answers.specs.Index.{nextAnswer, placeOn, answersOn, placeFor, Place32, Chained, Indexed}
+use Rattle.answers.specs.Question.{Padded, one_question, question_in, bucket_of, RightAnswer}
+use Rattle.answers.specs.QuestionLaws.{one_question_lem}
+use Rattle.answers.specs.RecordLaws.{question_padded}
+use Rattle.answers.specs.Index.{next_answer, place_on, answers_on, place_for, Place32, Chained, Indexed}
 
-pub bucket-below : (q : Question) → bucketOf q < 1024
-unfolding bucketOf
-bucket-below q = mod-lt (131 * q.kind + q.a + 61 * q.b + 17 * q.c + 307 * q.d) (omega arith)
+pub bucket_below : (q : Question) → bucket_of q < 1024
+unfolding bucket_of
+bucket_below q = mod-lt (131 * q.kind + q.a + 61 * q.b + 17 * q.c + 307 * q.d) (omega arith)
 
-pub next-at : (ix : List ℕ) (k : ℕ) → k < 2048 → nextAnswer ix k ≡ get_or ix (1024 + k) 0
-unfolding nextAnswer
-next-at ix k h = get_or-take 2048 (drop 1024 ix) k 0 h ∙ get_or-drop 1024 ix k 0
+pub next_at : (ix : List ℕ) (k : ℕ) → k < 2048 → next_answer ix k ≡ get_or ix (1024 + k) 0
+unfolding next_answer
+next_at ix k h = get_or-take 2048 (drop 1024 ix) k 0 h ∙ get_or-drop 1024 ix k 0
 
-pub next-past : (ix : List ℕ) (k : ℕ) → 2048 ≤ k → nextAnswer ix k ≡ 0
-unfolding nextAnswer
-next-past ix k h = get_or-eq_default (take 2048 (drop 1024 ix)) 0 (omega (arith, length-take 2048 (drop 1024 ix)))
+pub next_past : (ix : List ℕ) (k : ℕ) → 2048 ≤ k → next_answer ix k ≡ 0
+unfolding next_answer
+next_past ix k h = get_or-eq_default (take 2048 (drop 1024 ix)) 0 (omega (arith, length-take 2048 (drop 1024 ix)))
 
 -- A WALK
 
 module _ (bytes ix : List ℕ) (q : Question) where
-  pub place-end : (entry : ℕ) → entry ≤ 0 → placeOn bytes ix q (answersOn ix entry) ≡ Missing
-  unfolding placeOn
-  place-end entry h = let e : entry ≡ 0 = omega arith in ap (λ n. placeOn bytes ix q (answersOn ix n)) e ∙ ap (placeOn bytes ix q) (chain-end (nextAnswer ix))
+  pub place_end : (entry : ℕ) → entry ≤ 0 → place_on bytes ix q (answers_on ix entry) ≡ Missing
+  unfolding place_on
+  place_end entry h = let e : entry ≡ 0 = omega arith in ap (λ n. place_on bytes ix q (answers_on ix n)) e ∙ ap (place_on bytes ix q) (chain_end (next_answer ix))
 
-  place-first : (entry : ℕ) → Falling (nextAnswer ix) → 0 < entry
-      → placeOn bytes ix q (answersOn ix entry)
-      ≡ cond (oneQuestion (questionIn bytes (answerByte ix (entry - 1))) q) (At (answerByte ix (entry - 1))) (placeOn bytes ix q (answersOn ix (nextAnswer ix (entry - 1))))
-  unfolding placeOn
-  place-first entry f h = ap (placeOn bytes ix q) (chain-more (nextAnswer ix) f entry h)
+  place_first : (entry : ℕ) → Falling (next_answer ix) → 0 < entry
+      → place_on bytes ix q (answers_on ix entry)
+      ≡ cond (one_question (question_in bytes (answer_byte ix (entry - 1))) q) (At (answer_byte ix (entry - 1))) (place_on bytes ix q (answers_on ix (next_answer ix (entry - 1))))
+  unfolding place_on
+  place_first entry f h = ap (place_on bytes ix q) (chain_more (next_answer ix) f entry h)
 
   -- the first answer on the chain has the question
-  pub place-hit : (entry : ℕ) → Falling (nextAnswer ix) → 0 < entry → oneQuestion (questionIn bytes (answerByte ix (entry - 1))) q ≡ true
-      → placeOn bytes ix q (answersOn ix entry) ≡ At (answerByte ix (entry - 1))
-  place-hit entry f h e = place-first entry f h ∙ cond-true (oneQuestion (questionIn bytes (answerByte ix (entry - 1))) q) _ _ e
+  pub place_hit : (entry : ℕ) → Falling (next_answer ix) → 0 < entry → one_question (question_in bytes (answer_byte ix (entry - 1))) q ≡ true
+      → place_on bytes ix q (answers_on ix entry) ≡ At (answer_byte ix (entry - 1))
+  place_hit entry f h e = place_first entry f h ∙ cond_true (one_question (question_in bytes (answer_byte ix (entry - 1))) q) _ _ e
 
   -- it has another, and the walk goes on
-  pub place-miss : (entry : ℕ) → Falling (nextAnswer ix) → 0 < entry → entry ≤ 2048 → oneQuestion (questionIn bytes (answerByte ix (entry - 1))) q ≡ false
-      → placeOn bytes ix q (answersOn ix entry) ≡ placeOn bytes ix q (answersOn ix (get_or ix (1024 + (entry - 1)) 0))
-  place-miss entry f h l e =
-      place-first entry f h ∙ cond-false (oneQuestion (questionIn bytes (answerByte ix (entry - 1))) q) _ _ e ∙ ap (λ n. placeOn bytes ix q (answersOn ix n)) (next-at ix (entry - 1) (omega arith))
+  pub place_miss : (entry : ℕ) → Falling (next_answer ix) → 0 < entry → entry ≤ 2048 → one_question (question_in bytes (answer_byte ix (entry - 1))) q ≡ false
+      → place_on bytes ix q (answers_on ix entry) ≡ place_on bytes ix q (answers_on ix (get_or ix (1024 + (entry - 1)) 0))
+  place_miss entry f h l e =
+      place_first entry f h ∙ cond_false (one_question (question_in bytes (answer_byte ix (entry - 1))) q) _ _ e ∙ ap (λ n. place_on bytes ix q (answers_on ix n)) (next_at ix (entry - 1) (omega arith))
 
 -- the place found is one that the index can hold
-pub place-fits : (f : Place) (p : ℕ) → Place32 f → f ≡ At p → p < 4294967296
-place-fits f p h e = subst Place32 e h
+pub place_fits : (f : Place) (p : ℕ) → Place32 f → f ≡ At p → p < 4294967296
+place_fits f p h e = subst Place32 e h
 
 -- what is to be found is still to be found from an entry on
 abbrev pub Walked : List ℕ → List ℕ → Question → ℕ → Type 0
-Walked bytes ix q entry = (entry ≤ 2048) × (placeFor bytes ix q ≡ placeOn bytes ix q (answersOn ix entry))
+Walked bytes ix q entry = (entry ≤ 2048) × (place_for bytes ix q ≡ place_on bytes ix q (answers_on ix entry))
 
 module _ (bytes ix : List ℕ) (q : Question) (h : Chained ix) where
-  pub walk-start : (b entry : ℕ) → b ≡ bucketOf q → entry ≡ get_or ix b 0 → Walked bytes ix q entry
-  walk-start b entry eb e =
-      let head : entry ≡ get_or ix (bucketOf q) 0 = e ∙ ap (λ x. get_or ix x 0) eb in
-      (omega (arith, h.heads (bucketOf q) (bucket-below q)), ap (λ x. placeOn bytes ix q (answersOn ix x)) (sym head))
+  pub walk_start : (b entry : ℕ) → b ≡ bucket_of q → entry ≡ get_or ix b 0 → Walked bytes ix q entry
+  walk_start b entry eb e =
+      let head : entry ≡ get_or ix (bucket_of q) 0 = e ∙ ap (λ x. get_or ix x 0) eb in
+      (omega (arith, h.heads (bucket_of q) (bucket_below q)), ap (λ x. place_on bytes ix q (answers_on ix x)) (sym head))
 
-  pub walk-end : (entry : ℕ) → Walked bytes ix q entry → entry ≤ 0 → Missing ≡ placeFor bytes ix q
-  walk-end entry w l = sym (w.1 ∙ place-end bytes ix q entry l)
+  pub walk_end : (entry : ℕ) → Walked bytes ix q entry → entry ≤ 0 → Missing ≡ place_for bytes ix q
+  walk_end entry w l = sym (w.1 ∙ place_end bytes ix q entry l)
 
   -- one answer looked at, at byte p, whose question is r
-  module _ (entry p : ℕ) (r : Question) (t : Bool) (w : Walked bytes ix q entry) (more : 0 < entry) (ep : p ≡ get_or ix (3072 + (entry - 1)) 0) (er : r ≡ questionIn bytes p)
-      (et : t ≡ oneQuestion r q)
+  module _ (entry p : ℕ) (r : Question) (t : Bool) (w : Walked bytes ix q entry) (more : 0 < entry) (ep : p ≡ get_or ix (3072 + (entry - 1)) 0) (er : r ≡ question_in bytes p)
+      (et : t ≡ one_question r q)
     where
-      test : oneQuestion (questionIn bytes (answerByte ix (entry - 1))) q ≡ t
-      test = sym (et ∙ ap (λ x. oneQuestion x q) (er ∙ ap (questionIn bytes) ep))
+      test : one_question (question_in bytes (answer_byte ix (entry - 1))) q ≡ t
+      test = sym (et ∙ ap (λ x. one_question x q) (er ∙ ap (question_in bytes) ep))
 
-      pub walk-found : t ≡ true → At p ≡ placeFor bytes ix q
-      walk-found e = sym (w.1 ∙ place-hit bytes ix q entry h.falling more (test ∙ e) ∙ ap At (sym ep))
+      pub walk_found : t ≡ true → At p ≡ place_for bytes ix q
+      walk_found e = sym (w.1 ∙ place_hit bytes ix q entry h.falling more (test ∙ e) ∙ ap At (sym ep))
 
-      pub walk-on : (after : ℕ) → t ≡ false → after ≡ get_or ix (1024 + (entry - 1)) 0 → Walked bytes ix q after × (after < entry)
-      walk-on after e ea =
-          let falls : after < entry = omega (arith, next-at ix (entry - 1) (omega arith), h.falling (entry - 1)) in
-          ((omega arith, w.1 ∙ place-miss bytes ix q entry h.falling more w.0 (test ∙ e) ∙ ap (λ x. placeOn bytes ix q (answersOn ix x)) (sym ea)), falls)
+      pub walk_on : (after : ℕ) → t ≡ false → after ≡ get_or ix (1024 + (entry - 1)) 0 → Walked bytes ix q after × (after < entry)
+      walk_on after e ea =
+          let falls : after < entry = omega (arith, next_at ix (entry - 1) (omega arith), h.falling (entry - 1)) in
+          ((omega arith, w.1 ∙ place_miss bytes ix q entry h.falling more w.0 (test ∙ e) ∙ ap (λ x. place_on bytes ix q (answers_on ix x)) (sym ea)), falls)
 
 -- WHAT IS FOUND
 
-placed-on : (bytes ix : List ℕ) (q : Question) (ks : List ℕ) (p : ℕ) → placeOn bytes ix q ks ≡ At p → (k : ℕ) × (k ∈ ks) × (p ≡ answerByte ix k) × (oneQuestion (questionIn bytes p) q ≡ true)
-unfolding placeOn
-placed-on bytes ix q [] p e = absurd (let z : ◌≡◌ {A = ℕ} 0 1 = cc in omega arith)
-placed-on bytes ix q (k ∷ ks) p e = go (oneQuestion (questionIn bytes (answerByte ix k)) q) refl e (placed-on bytes ix q ks p)
+placed_on : (bytes ix : List ℕ) (q : Question) (ks : List ℕ) (p : ℕ) → place_on bytes ix q ks ≡ At p → (k : ℕ) × (k ∈ ks) × (p ≡ answer_byte ix k) × (one_question (question_in bytes p) q ≡ true)
+unfolding place_on
+placed_on bytes ix q [] p e = absurd (let z : ◌≡◌ {A = ℕ} 0 1 = cc in omega arith)
+placed_on bytes ix q (k ∷ ks) p e = go (one_question (question_in bytes (answer_byte ix k)) q) refl e (placed_on bytes ix q ks p)
   where
-    go : (t : Bool) → oneQuestion (questionIn bytes (answerByte ix k)) q ≡ t → cond t (At (answerByte ix k)) (placeOn bytes ix q ks) ≡ At p
-        → (placeOn bytes ix q ks ≡ At p → (j : ℕ) × (j ∈ ks) × (p ≡ answerByte ix j) × (oneQuestion (questionIn bytes p) q ≡ true))
-        → (j : ℕ) × (j ∈ k ∷ ks) × (p ≡ answerByte ix j) × (oneQuestion (questionIn bytes p) q ≡ true)
-    go true t e later = let s : answerByte ix k ≡ p = cc in (k, Memᴰ.head refl, sym s, ap (λ x. oneQuestion (questionIn bytes x) q) (sym s) ∙ t)
+    go : (t : Bool) → one_question (question_in bytes (answer_byte ix k)) q ≡ t → cond t (At (answer_byte ix k)) (place_on bytes ix q ks) ≡ At p
+        → (place_on bytes ix q ks ≡ At p → (j : ℕ) × (j ∈ ks) × (p ≡ answer_byte ix j) × (one_question (question_in bytes p) q ≡ true))
+        → (j : ℕ) × (j ∈ k ∷ ks) × (p ≡ answer_byte ix j) × (one_question (question_in bytes p) q ≡ true)
+    go true t e later = let s : answer_byte ix k ≡ p = cc in (k, Memᴰ.head refl, sym s, ap (λ x. one_question (question_in bytes x) q) (sym s) ∙ t)
     go false t e later = let r = later e in (r.0, Memᴰ.tail r.1, r.2, r.3)
 
 pub chained : (bytes ix : List ℕ) (c : Counts) → Indexed bytes ix c → Chained ix
 chained bytes ix c i = record { falling = i.falling; heads = λ b h. omega (arith, i.heads b h, i.limit) }
 
 -- the record found is a right answer, with the question that was asked
-pub placed-right : (bytes ix : List ℕ) (c : Counts) (q : Question) (p : ℕ) → Indexed bytes ix c → Padded q → placeFor bytes ix q ≡ At p → RightAnswer bytes p × (questionIn bytes p ≡ q)
-placed-right bytes ix c q p i s e =
-    let r = placed-on bytes ix q (answersOn ix (get_or ix (bucketOf q) 0)) p e in
-    let l = chain-below (nextAnswer ix) i.falling (get_or ix (bucketOf q) 0) r.0 r.1 in
-    let h = i.heads (bucketOf q) (bucket-below q) in
-    (rw r.2 (i.right r.0 (omega arith)), one-question (questionIn bytes p) q (question-padded bytes p) s r.3)
+pub placed_right : (bytes ix : List ℕ) (c : Counts) (q : Question) (p : ℕ) → Indexed bytes ix c → Padded q → place_for bytes ix q ≡ At p → RightAnswer bytes p × (question_in bytes p ≡ q)
+placed_right bytes ix c q p i s e =
+    let r = placed_on bytes ix q (answers_on ix (get_or ix (bucket_of q) 0)) p e in
+    let l = chain_below (next_answer ix) i.falling (get_or ix (bucket_of q) 0) r.0 r.1 in
+    let h = i.heads (bucket_of q) (bucket_below q) in
+    (rw r.2 (i.right r.0 (omega arith)), one_question_lem (question_in bytes p) q (question_padded bytes p) s r.3)
 
 -- TWO INDEXES THAT AGREE
 
-place-same : (bytes ix iy : List ℕ) (q : Question) (ks : List ℕ) → ((k : ℕ) → k ∈ ks → answerByte iy k ≡ answerByte ix k) → placeOn bytes iy q ks ≡ placeOn bytes ix q ks
-unfolding placeOn
-place-same bytes ix iy q [] h = refl
-place-same bytes ix iy q (k ∷ ks) h =
+place_same : (bytes ix iy : List ℕ) (q : Question) (ks : List ℕ) → ((k : ℕ) → k ∈ ks → answer_byte iy k ≡ answer_byte ix k) → place_on bytes iy q ks ≡ place_on bytes ix q ks
+unfolding place_on
+place_same bytes ix iy q [] h = refl
+place_same bytes ix iy q (k ∷ ks) h =
     let e = h k (Memᴰ.head refl) in
-    let r = place-same bytes ix iy q ks (λ j m. h j (Memᴰ.tail m)) in
-    λ t. cond (oneQuestion (questionIn bytes (e t)) q) (At (e t)) (r t)
+    let r = place_same bytes ix iy q ks (λ j m. h j (Memᴰ.tail m)) in
+    λ t. cond (one_question (question_in bytes (e t)) q) (At (e t)) (r t)
 
 -- a walk meets only what stands below its entry
-pub walk-same : (bytes ix iy : List ℕ) (q : Question) (entry : ℕ) → Falling (nextAnswer ix) → ((k : ℕ) → k < entry → nextAnswer ix k ≡ nextAnswer iy k)
-    → ((k : ℕ) → k < entry → answerByte iy k ≡ answerByte ix k) → placeOn bytes iy q (answersOn iy entry) ≡ placeOn bytes ix q (answersOn ix entry)
-walk-same bytes ix iy q entry f nexts places =
-    ap (placeOn bytes iy q) (sym (chain-same (nextAnswer ix) (nextAnswer iy) f entry nexts))
-    ∙ place-same bytes ix iy q (answersOn ix entry) (λ k m. places k (chain-below (nextAnswer ix) f entry k m))
+pub walk_same : (bytes ix iy : List ℕ) (q : Question) (entry : ℕ) → Falling (next_answer ix) → ((k : ℕ) → k < entry → next_answer ix k ≡ next_answer iy k)
+    → ((k : ℕ) → k < entry → answer_byte iy k ≡ answer_byte ix k) → place_on bytes iy q (answers_on iy entry) ≡ place_on bytes ix q (answers_on ix entry)
+walk_same bytes ix iy q entry f nexts places =
+    ap (place_on bytes iy q) (sym (chain_same (next_answer ix) (next_answer iy) f entry nexts))
+    ∙ place_same bytes ix iy q (answers_on ix entry) (λ k m. places k (chain_below (next_answer ix) f entry k m))

@@ -5,11 +5,11 @@
 
 ghost use Rattle.std.specs.Prelude.{◌≡◌, ◌+◌, ◌<◌};
 ghost use Rattle.rules.specs.Fields.{le16};
-ghost use Rattle.rules.specs.Kinds.{kindOf};
-ghost use Rattle.rules.specs.Load.{answeredBefore};
-ghost use Rattle.job.specs.Lists.{fieldsAt, answersIn};
-ghost use Rattle.answers.specs.Question.{Padded, Shaped, aboutOne, aboutTwo, aboutEither, oneQuestion, questionIn, bucketOf, RightAnswer};
-ghost use Rattle.answers.specs.Index.{placeFor, Place32, entered, Chained, Indexed};
+ghost use Rattle.rules.specs.Kinds.{kind_of};
+ghost use Rattle.rules.specs.Load.{answered_before};
+ghost use Rattle.job.specs.Lists.{fields_at, answers_in};
+ghost use Rattle.answers.specs.Question.{Padded, Shaped, about_one, about_two, about_either, one_question, question_in, bucket_of, RightAnswer};
+ghost use Rattle.answers.specs.Index.{place_for, Place32, entered, Chained, Indexed};
 
 use fields::{get, half, put, word};
 use job::{ANSWERS, BUCKETS, CHAIN};
@@ -35,7 +35,7 @@ pub enum Found {
 
 // A question about one number, about two, about two without order.
 pub fn about_one(kind: usize, a: usize) -> Question
-    ensures { result ≡ aboutOne kind a }
+    ensures { result ≡ about_one kind a }
 {
     Question {
         kind,
@@ -48,7 +48,7 @@ pub fn about_one(kind: usize, a: usize) -> Question
 }
 
 pub fn about_two(kind: usize, a: usize, b: usize) -> Question
-    ensures { result ≡ aboutTwo kind a b }
+    ensures { result ≡ about_two kind a b }
 {
     Question {
         kind,
@@ -62,7 +62,7 @@ pub fn about_two(kind: usize, a: usize, b: usize) -> Question
 
 // Kinds 9 and 10 have no order of their two.
 pub fn about_either(kind: usize, a: usize, b: usize) -> Question
-    ensures { result ≡ aboutEither kind a b }
+    ensures { result ≡ about_either kind a b }
 {
     if a <= b {
         return about_two(kind, a, b);
@@ -73,7 +73,7 @@ pub fn about_either(kind: usize, a: usize, b: usize) -> Question
 // The question of the answer whose record stands at a byte.
 pub fn question_at(job: &[u8], at: usize) -> Question
     requires { at < 4294967296 }
-    ensures { (result ≡ questionIn job.now at) × Shaped result }
+    ensures { (result ≡ question_in job.now at) × Shaped result }
 {
     let k = half(job, at + 4);
     let p = at + 6;
@@ -110,7 +110,7 @@ pub fn question_at(job: &[u8], at: usize) -> Question
 // Both have the same kind and numbers.
 pub fn same_question(q: Question, r: Question) -> bool
     requires { Padded q × Padded r }
-    ensures { result ≡ oneQuestion q r }
+    ensures { result ≡ one_question q r }
 {
     if q.kind != r.kind {
         return false;
@@ -136,7 +136,7 @@ pub fn same_question(q: Question, r: Question) -> bool
 // The chain in which a question's answer stands.
 fn bucket(q: Question) -> usize
     requires { Shaped q }
-    ensures { (result ≡ bucketOf q) × (result < 1024) }
+    ensures { (result ≡ bucket_of q) × (result < 1024) }
 {
     (131 * q.kind + q.a + 61 * q.b + 17 * q.c + 307 * q.d) % BUCKETS
 }
@@ -144,7 +144,7 @@ fn bucket(q: Question) -> usize
 // The record that answers a question.
 pub fn find(job: &[u8], index: &[u32], q: Question) -> Found
     requires { Shaped q × Chained index.now }
-    ensures { (result ≡ placeFor job.now index.now q) × Place32 result }
+    ensures { (result ≡ place_for job.now index.now q) × Place32 result }
 {
     let mut i = get(index, bucket(q));
     while 0 < i {
@@ -161,7 +161,7 @@ pub fn find(job: &[u8], index: &[u32], q: Question) -> Found
 // The question of the record at a byte is answered before.
 pub fn answered_before(job: &[u8], index: &[u32], c: Counts, at: usize) -> bool
     requires { Indexed job.now index.now c × RightAnswer job.now at × (at < 4294967296) }
-    ensures { result ≡ answeredBefore (kindOf (le16 job.now (at + 4))) (answersIn job.now index.now c) (fieldsAt job.now at) }
+    ensures { result ≡ answered_before (kind_of (le16 job.now (at + 4))) (answers_in job.now index.now c) (fields_at job.now at) }
 {
     let f = find(job, index, question_at(job, at));
     match f {

@@ -3,11 +3,11 @@
 #![tactic(auto)]
 
 ghost use Rattle.std.specs.Prelude.{◌≡◌, [], ◌∷◌, ◌≢◌, ◌<◌};
-ghost use Rattle.rules.specs.Questions.{surfaceAnswer, verdict as verdictOf, find as findAnswer, askYes, askSame, askRadial};
-ghost use Rattle.job.specs.Lists.{answersIn};
-ghost use Rattle.answers.specs.Question.{keyOf, Shaped};
+ghost use Rattle.rules.specs.Questions.{surface_answer, verdict as verdictOf, find as findAnswer, ask_yes, ask_same, ask_radial};
+ghost use Rattle.job.specs.Lists.{answers_in};
+ghost use Rattle.answers.specs.Question.{key_of, Shaped};
 ghost use Rattle.answers.specs.Index.{Indexed};
-ghost use Rattle.ask.specs.Told.{valueOf, surfaceBy, answeredBy, toldOf, orderOf, Order32};
+ghost use Rattle.ask.specs.Told.{value_of, surface_by, answered_by, told_of, order_of, Order32};
 
 use answers::{Found, Question};
 use fields::word;
@@ -58,7 +58,7 @@ pub enum Order {
 
 fn answer_to(job: &[u8], index: &[u32], c: Counts, q: Question) -> Answer
     requires { Indexed job.now index.now c × Shaped q × (q.kind ≢ 7) }
-    ensures { result ≡ valueOf (findAnswer (answersIn job.now index.now c) q.kind (keyOf q)) }
+    ensures { result ≡ value_of (findAnswer (answers_in job.now index.now c) q.kind (key_of q)) }
 {
     let f = answers::find(job, index, q);
     match f {
@@ -69,7 +69,7 @@ fn answer_to(job: &[u8], index: &[u32], c: Counts, q: Question) -> Answer
 
 // The answer of kind 8 that has a number.
 pub fn surface_answer(v: usize) -> SurfaceAnswer
-    ensures { result ≡ surfaceAnswer v }
+    ensures { result ≡ surface_answer v }
 {
     match v {
         0 => SurfaceAnswer::Different,
@@ -94,7 +94,7 @@ pub fn verdict(v: usize) -> Verdict
 // What is on record for a question of kinds 9 to 13.
 fn recorded(job: &[u8], index: &[u32], c: Counts, q: Question) -> Answered
     requires { Indexed job.now index.now c × Shaped q × (q.kind ≢ 7) }
-    ensures { result ≡ answeredBy (findAnswer (answersIn job.now index.now c) q.kind (keyOf q)) }
+    ensures { result ≡ answered_by (findAnswer (answers_in job.now index.now c) q.kind (key_of q)) }
 {
     let a = answer_to(job, index, c, q);
     match a {
@@ -106,7 +106,7 @@ fn recorded(job: &[u8], index: &[u32], c: Counts, q: Question) -> Answered
 // Kinds 9 to 13.
 pub fn ask_yes(job: &[u8], index: &[u32], c: Counts, q: Question) -> Told
     requires { Indexed job.now index.now c × Shaped q × (q.kind ≢ 7) }
-    ensures { toldOf result ≡ askYes (answersIn job.now index.now c) q.kind (keyOf q) }
+    ensures { told_of result ≡ ask_yes (answers_in job.now index.now c) q.kind (key_of q) }
 {
     let kind = q.kind;
     let Answered::Says(v) = recorded(job, index, c, q) else {
@@ -122,7 +122,7 @@ pub fn ask_yes(job: &[u8], index: &[u32], c: Counts, q: Question) -> Told
 // Kinds 9 and 10: equal numbers are the same without a record.
 pub fn ask_same(job: &[u8], index: &[u32], c: Counts, kind: usize, a: usize, b: usize) -> Told
     requires { Indexed job.now index.now c × (kind < 65536) × (kind ≢ 7) × (a < 4294967296) × (b < 4294967296) }
-    ensures { toldOf result ≡ askSame (answersIn job.now index.now c) kind a b }
+    ensures { told_of result ≡ ask_same (answers_in job.now index.now c) kind a b }
 {
     if a == b {
         return Told::Yes;
@@ -133,7 +133,7 @@ pub fn ask_same(job: &[u8], index: &[u32], c: Counts, kind: usize, a: usize, b: 
 // Kind 8, for the lower use of a pair.
 pub fn ask_surface(job: &[u8], index: &[u32], c: Counts, h: usize) -> Surface
     requires { Indexed job.now index.now c × (h < 4294967296) }
-    ensures { result ≡ surfaceBy (findAnswer (answersIn job.now index.now c) 8 (h ∷ [])) }
+    ensures { result ≡ surface_by (findAnswer (answers_in job.now index.now c) 8 (h ∷ [])) }
 {
     let a = answer_to(job, index, c, answers::about_one(8, h));
     match a {
@@ -153,7 +153,7 @@ pub fn ask_singular(
     point: usize,
 ) -> Told
     requires { Indexed job.now index.now c × (curve < 4294967296) × (low < 4294967296) × (high < 4294967296) × (point < 4294967296) }
-    ensures { toldOf result ≡ askYes (answersIn job.now index.now c) 11 (curve ∷ low ∷ high ∷ point ∷ []) }
+    ensures { told_of result ≡ ask_yes (answers_in job.now index.now c) 11 (curve ∷ low ∷ high ∷ point ∷ []) }
 {
     ask_yes(
         job,
@@ -173,7 +173,7 @@ pub fn ask_singular(
 // Kind 12.
 pub fn ask_outer(job: &[u8], index: &[u32], c: Counts, low: usize) -> Told
     requires { Indexed job.now index.now c × (low < 4294967296) }
-    ensures { toldOf result ≡ askYes (answersIn job.now index.now c) 12 (low ∷ []) }
+    ensures { told_of result ≡ ask_yes (answers_in job.now index.now c) 12 (low ∷ []) }
 {
     ask_yes(job, index, c, answers::about_one(12, low))
 }
@@ -181,7 +181,7 @@ pub fn ask_outer(job: &[u8], index: &[u32], c: Counts, low: usize) -> Told
 // Kind 13.
 pub fn ask_inside(job: &[u8], index: &[u32], c: Counts, probe: usize, container: usize) -> Told
     requires { Indexed job.now index.now c × (probe < 4294967296) × (container < 4294967296) }
-    ensures { toldOf result ≡ askYes (answersIn job.now index.now c) 13 (probe ∷ container ∷ []) }
+    ensures { told_of result ≡ ask_yes (answers_in job.now index.now c) 13 (probe ∷ container ∷ []) }
 {
     ask_yes(job, index, c, answers::about_two(13, probe, container))
 }
@@ -189,7 +189,7 @@ pub fn ask_inside(job: &[u8], index: &[u32], c: Counts, probe: usize, container:
 // Kind 7: none means undecided.
 pub fn ask_radial(job: &[u8], index: &[u32], c: Counts, e: usize) -> Order
     requires { Indexed job.now index.now c × (e < 4294967296) }
-    ensures { (orderOf job.now result ≡ askRadial (answersIn job.now index.now c) e) × Order32 result }
+    ensures { (order_of job.now result ≡ ask_radial (answers_in job.now index.now c) e) × Order32 result }
 {
     let f = answers::find(job, index, answers::about_one(7, e));
     let Found::At(p) = f else {

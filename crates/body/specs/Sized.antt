@@ -2,44 +2,44 @@
 use Rattle.std.specs.Prelude.{ℕ, ◌*◌, ◌≤◌, ◌≡◌, List, length}
 use Rattle.std.proofs.Common.{arith, sym, subst}
 use Rattle.rules.specs.declared.Counts.{Counts}
-use Rattle.rules.specs.Groups.{lowestMembers, Lowest}
-use Rattle.edges.specs.Table.{rowsIn, Laid}
+use Rattle.rules.specs.Groups.{lowest_members, Lowest}
+use Rattle.edges.specs.Table.{rows_in, Laid}
 use Rattle.body.specs.Vertices.{EndsOk}
 
 -- loops as stretches of a list of items
 pub record LoopsSized (items stretches faces : List ℕ) : Type 0 where
   pub laid : Laid stretches items
-  pub few-items : length items ≤ 2048
+  pub few_items : length items ≤ 2048
   pub few : length faces ≤ 2048
   pub room : 2 * length faces ≤ length stretches
 
 -- the tables of a body of k kept vertex loops and n shells, with room for the numbers of edges and vertices
 pub record BodySized (c : Counts) (groups rows items stretches faces members : List ℕ) (k n : ℕ) (numbers vertices : List ℕ) : Type 0 where
-  pub few-faces : c.faces ≤ 256
-  pub few-edges : length rows ≤ 14336
-  pub ends : EndsOk (length vertices) (rowsIn rows)
+  pub few_faces : c.faces ≤ 256
+  pub few_edges : length rows ≤ 14336
+  pub ends : EndsOk (length vertices) (rows_in rows)
   pub room : length rows ≤ 7 * length numbers
   pub loops : LoopsSized items stretches faces
-  pub few-members : length members ≤ 256
-  pub few-groups : length groups ≤ 256
+  pub few_members : length members ≤ 256
+  pub few_groups : length groups ≤ 256
   pub lowest : Lowest groups
-  pub own : members ≡ lowestMembers groups
-  pub few-kept : k ≤ 1024
-  pub few-shells : n ≤ 256
+  pub own : members ≡ lowest_members groups
+  pub few_kept : k ≤ 1024
+  pub few_shells : n ≤ 256
 
 -- the same tables with other spare ones of the same lengths
-pub spare-sized : (c : Counts) (groups rows items stretches faces members : List ℕ) (k n : ℕ) (numbers vertices numbers' vertices' : List ℕ) → BodySized c groups rows items stretches faces members k n numbers vertices
+pub spare_sized : (c : Counts) (groups rows items stretches faces members : List ℕ) (k n : ℕ) (numbers vertices numbers' vertices' : List ℕ) → BodySized c groups rows items stretches faces members k n numbers vertices
     → length numbers' ≡ length numbers → length vertices' ≡ length vertices → BodySized c groups rows items stretches faces members k n numbers' vertices'
-spare-sized c groups rows items stretches faces members k n numbers vertices numbers' vertices' B en ev = record {
-  few-faces = B.few-faces;
-  few-edges = B.few-edges;
-  ends = subst (λ size. EndsOk size (rowsIn rows)) (sym ev) B.ends;
+spare_sized c groups rows items stretches faces members k n numbers vertices numbers' vertices' B en ev = record {
+  few_faces = B.few_faces;
+  few_edges = B.few_edges;
+  ends = subst (λ size. EndsOk size (rows_in rows)) (sym ev) B.ends;
   room = omega (arith, B.room, en);
   loops = B.loops;
-  few-members = B.few-members;
-  few-groups = B.few-groups;
+  few_members = B.few_members;
+  few_groups = B.few_groups;
   lowest = B.lowest;
   own = B.own;
-  few-kept = B.few-kept;
-  few-shells = B.few-shells;
+  few_kept = B.few_kept;
+  few_shells = B.few_shells;
 }

@@ -5,21 +5,21 @@
 
 ghost use Rattle.std.specs.Prelude.{◌≡◌, ℕ, ◌+◌, ◌*◌, ◌<◌, ◌≤◌, ◌^◌, length};
 ghost use mathlib.Core.List.{List, [], ◌∷◌, map, flat_map};
-ghost use Rattle.rules.specs.Fields.{fieldBytes};
-ghost use Rattle.rules.specs.Frame.{framed, framedAll};
-ghost use Rattle.rules.specs.Join.{edgeDataAt, activeEdges};
-ghost use Rattle.rules.specs.Shells.{shellFaces, lumps};
-ghost use Rattle.rules.specs.Groups.{membersOf, lowestMembers, Lowest};
-ghost use Rattle.rules.specs.Body.{rec, stillActive, meet, metFans, memberAt, memberFields, membersRecord, bodyFaces, faceRecords, lumpRecords, bodyRecords, emptyBody, solidBody};
+ghost use Rattle.rules.specs.Fields.{field_bytes};
+ghost use Rattle.rules.specs.Frame.{framed, framed_all};
+ghost use Rattle.rules.specs.Join.{edge_data_at, active_edges};
+ghost use Rattle.rules.specs.Shells.{shell_faces, lumps};
+ghost use Rattle.rules.specs.Groups.{members_of, lowest_members, Lowest};
+ghost use Rattle.rules.specs.Body.{rec, still_active, meet, met_fans, member_at, member_fields, members_record, body_faces, face_records, lump_records, body_records, empty_body, solid_body};
 ghost use Rattle.rules.specs.Sew.{fitting, Ends};
 ghost use Rattle.fields.specs.Wrote.{Wrote};
-ghost use Rattle.job.specs.Lists.{facesIn};
-ghost use Rattle.edges.specs.Table.{rowsIn, faceLoopsIn};
-ghost use Rattle.vertex_loops.specs.Kept.{keptIn};
-ghost use Rattle.shells.specs.Table.{nestedIn};
-ghost use Rattle.body.specs.Numbers.{Blank, Numbering, numberOf, vertexIn};
-ghost use Rattle.body.specs.Vertices.{EndOk, EndsOk, Meeting, metBelow, activeBelow};
-ghost use Rattle.body.specs.Rows.{totalsIn, vertexAndEdgeBytes, edgeRow, itemRow, loopRow, loopRows, vertexLoopRow, vertexLoopRows, faceHead, memberRows, shellFaceRow, voidRow, voidRows, lumpRow};
+ghost use Rattle.job.specs.Lists.{faces_in};
+ghost use Rattle.edges.specs.Table.{rows_in, face_loops_in};
+ghost use Rattle.vertex_loops.specs.Kept.{kept_in};
+ghost use Rattle.shells.specs.Table.{nested_in};
+ghost use Rattle.body.specs.Numbers.{Blank, Numbering, number_of, vertex_in};
+ghost use Rattle.body.specs.Vertices.{EndOk, EndsOk, Meeting, met_below, active_below};
+ghost use Rattle.body.specs.Rows.{totals_in, vertex_and_edge_bytes, edge_row, item_row, loop_row, loop_rows, vertex_loop_row, vertex_loop_rows, face_head, member_rows, shell_face_row, void_row, void_rows, lump_row};
 ghost use Rattle.body.specs.Sized.{LoopsSized, BodySized};
 ghost use Rattle.members.specs.Group.{Chained, Leading};
 
@@ -45,7 +45,7 @@ pub struct Totals {
 // Two numbers as fields at a place; gives the place after them, as each function here does that writes at a place.
 fn put_two(out: &mut [u8], at: usize, a: usize, b: usize) -> usize
     requires { at < 2 ^ 59 }
-    ensures { Wrote out.old at (fieldBytes (a ∷ b ∷ [])) out.new result × (result ≤ at + 8) }
+    ensures { Wrote out.old at (field_bytes (a ∷ b ∷ [])) out.new result × (result ≤ at + 8) }
 {
     let p = put_word(out, at, a);
     put_word(out, p, b)
@@ -86,7 +86,7 @@ fn blank(table: &mut [u32])
 
 // The number of v in a table that has each number plus one, and 0 for none; without a number, how many numbers there are.
 fn number_of(numbers: &[u32], count: usize, v: usize) -> usize
-    ensures { result ≡ numberOf numbers.now count v }
+    ensures { result ≡ number_of numbers.now count v }
 {
     let n = get(numbers, v);
     if n == 0 {
@@ -97,8 +97,8 @@ fn number_of(numbers: &[u32], count: usize, v: usize) -> usize
 
 // Edge e takes the next number where it is active. Gives how many edges have numbers then.
 fn number_edge(rows: &[u32], numbers: &mut [u32], count: usize, e: usize) -> usize
-    requires { Numbering (activeBelow (rowsIn rows.now) e) numbers.old count × (e < length (rowsIn rows.now)) × (e < 2048) × (e < length numbers.old) }
-    ensures { Numbering (activeBelow (rowsIn rows.now) (e + 1)) numbers.new result }
+    requires { Numbering (active_below (rows_in rows.now) e) numbers.old count × (e < length (rows_in rows.now)) × (e < 2048) × (e < length numbers.old) }
+    ensures { Numbering (active_below (rows_in rows.now) (e + 1)) numbers.new result }
 {
     if edge_active(rows, e) {
         put(numbers, e, count + 1);
@@ -110,7 +110,7 @@ fn number_edge(rows: &[u32], numbers: &mut [u32], count: usize, e: usize) -> usi
 // Active edges are renumbered from 0, in a table all 0 at first. Gives how many there are.
 fn number_edges(rows: &[u32], numbers: &mut [u32]) -> usize
     requires { (length rows.now ≤ 14336) × (length rows.now ≤ 7 * length numbers.old) × Blank numbers.old }
-    ensures { Numbering (activeEdges (rowsIn rows.now)) numbers.new result }
+    ensures { Numbering (active_edges (rows_in rows.now)) numbers.new result }
 {
     let n = rows.len() / 7;
     let mut count: usize = 0;
@@ -158,8 +158,8 @@ fn meet_ends(
     out: &mut [u8],
     at: usize,
 ) -> usize
-    requires { (at < 2 ^ 58) × (count < 8190) × EndsOk (length vertices.old) (rowsIn rows.now) × (e < length (rowsIn rows.now)) }
-    ensures { (result ≤ count + 2) × ((before : List ℕ) → Meeting starts.now before at (metBelow (rowsIn rows.now) e) vertices.old out.old count → Meeting starts.now before at (metBelow (rowsIn rows.now) (e + 1)) vertices.new out.new result) }
+    requires { (at < 2 ^ 58) × (count < 8190) × EndsOk (length vertices.old) (rows_in rows.now) × (e < length (rows_in rows.now)) }
+    ensures { (result ≤ count + 2) × ((before : List ℕ) → Meeting starts.now before at (met_below (rows_in rows.now) e) vertices.old out.old count → Meeting starts.now before at (met_below (rows_in rows.now) (e + 1)) vertices.new out.new result) }
 {
     if edge_active(rows, e) {
         let v = edge_start(rows, e);
@@ -179,8 +179,8 @@ fn put_vertices(
     out: &mut [u8],
     at: usize,
 ) -> usize
-    requires { (at < 2 ^ 58) × (length rows.now ≤ 14336) × EndsOk (length vertices.old) (rowsIn rows.now) × Blank vertices.old }
-    ensures { (result ≤ 4096) × Meeting starts.now out.old at (metFans (stillActive (rowsIn rows.now))) vertices.new out.new result }
+    requires { (at < 2 ^ 58) × (length rows.now ≤ 14336) × EndsOk (length vertices.old) (rows_in rows.now) × Blank vertices.old }
+    ensures { (result ≤ 4096) × Meeting starts.now out.old at (met_fans (still_active (rows_in rows.now))) vertices.new out.new result }
 {
     let n = rows.len() / 7;
     let mut count: usize = 0;
@@ -196,7 +196,7 @@ fn put_vertices(
 
 // The vertex of fan v, or none.
 fn vertex_of(vertices: &[u32], count: usize, v: usize) -> usize
-    ensures { result ≡ vertexIn vertices.now count v }
+    ensures { result ≡ vertex_in vertices.now count v }
 {
     if v == UNSET {
         return UNSET;
@@ -214,7 +214,7 @@ fn put_edge(
     at: usize,
 ) -> usize
     requires { at < 2 ^ 58 }
-    ensures { Wrote out.old at (edgeRow vertices.now count (edgeDataAt (rowsIn rows.now) e)) out.new result × (result ≤ at + 22) }
+    ensures { Wrote out.old at (edge_row vertices.now count (edge_data_at (rows_in rows.now) e)) out.new result × (result ≤ at + 22) }
 {
     if edge_active(rows, e) {
         let x = edge_at(rows, e);
@@ -232,7 +232,7 @@ fn put_edge(
 // Kind 23: the active edges.
 fn put_edges(rows: &[u32], vertices: &[u32], count: usize, out: &mut [u8], at: usize) -> usize
     requires { (at < 2 ^ 57) × (length rows.now ≤ 14336) }
-    ensures { Wrote out.old at (flat_map (edgeRow vertices.now count) (rowsIn rows.now)) out.new result × (result ≤ at + 45056) }
+    ensures { Wrote out.old at (flat_map (edge_row vertices.now count) (rows_in rows.now)) out.new result × (result ≤ at + 45056) }
 {
     let n = rows.len() / 7;
     let mut p = at;
@@ -249,7 +249,7 @@ fn put_edges(rows: &[u32], vertices: &[u32], count: usize, out: &mut [u8], at: u
 // An item's edge by its number, and its sense.
 fn put_item(numbers: &[u32], count: usize, x: usize, out: &mut [u8], at: usize) -> usize
     requires { at < 2 ^ 58 }
-    ensures { Wrote out.old at (fieldBytes (itemRow numbers.now count x)) out.new result × (result ≤ at + 8) }
+    ensures { Wrote out.old at (field_bytes (item_row numbers.now count x)) out.new result × (result ≤ at + 8) }
 {
     let e = number_of(numbers, count, x / 2);
     put_two(out, at, e, x % 2)
@@ -258,7 +258,7 @@ fn put_item(numbers: &[u32], count: usize, x: usize, out: &mut [u8], at: usize) 
 // The items of a loop.
 fn put_items(part: &[u32], numbers: &[u32], count: usize, out: &mut [u8], at: usize) -> usize
     requires { (at < 2 ^ 57) × (length part.now ≤ 2048) }
-    ensures { Wrote out.old at (fieldBytes (flat_map (itemRow numbers.now count) part.now)) out.new result × (result ≤ at + 16384) }
+    ensures { Wrote out.old at (field_bytes (flat_map (item_row numbers.now count) part.now)) out.new result × (result ≤ at + 16384) }
 {
     let mut p = at;
     let mut i: usize = 0;
@@ -283,7 +283,7 @@ fn put_loop(
     at: usize,
 ) -> usize
     requires { (at < 2 ^ 56) × LoopsSized items.now stretches.now faces.now × (k < length faces.now) }
-    ensures { Wrote out.old at (loopRow items.now stretches.now faces.now numbers.now count f k) out.new result × (result ≤ at + 16390) }
+    ensures { Wrote out.old at (loop_row items.now stretches.now faces.now numbers.now count f k) out.new result × (result ≤ at + 16390) }
 {
     if get(faces, k) != f {
         return at;
@@ -306,7 +306,7 @@ fn put_loops(
     at: usize,
 ) -> usize
     requires { (at < 2 ^ 55) × LoopsSized items.now stretches.now faces.now }
-    ensures { Wrote out.old at (loopRows items.now stretches.now faces.now numbers.now count f) out.new result × (result ≤ at + 33566720) }
+    ensures { Wrote out.old at (loop_rows items.now stretches.now faces.now numbers.now count f) out.new result × (result ≤ at + 33566720) }
 {
     let mut p = at;
     let mut k: usize = 0;
@@ -320,7 +320,7 @@ fn put_loops(
 // Kind 26: vertex loop i where it is of merged face f.
 fn put_vertex_loop(kept: &[u32], f: usize, i: usize, out: &mut [u8], at: usize) -> usize
     requires { (at < 2 ^ 56) × (i < 1024) }
-    ensures { Wrote out.old at (vertexLoopRow kept.now f i) out.new result × (result ≤ at + 10) }
+    ensures { Wrote out.old at (vertex_loop_row kept.now f i) out.new result × (result ≤ at + 10) }
 {
     if get(kept, 2 * i) != f {
         return at;
@@ -332,7 +332,7 @@ fn put_vertex_loop(kept: &[u32], f: usize, i: usize, out: &mut [u8], at: usize) 
 // Kind 26: the vertex loops of merged face f, of k there are.
 fn put_vertex_loops(kept: &[u32], k: usize, f: usize, out: &mut [u8], at: usize) -> usize
     requires { (at < 2 ^ 55) × (k ≤ 1024) }
-    ensures { Wrote out.old at (vertexLoopRows kept.now k f) out.new result × (result ≤ at + 10240) }
+    ensures { Wrote out.old at (vertex_loop_rows kept.now k f) out.new result × (result ≤ at + 10240) }
 {
     let mut p = at;
     let mut i: usize = 0;
@@ -346,7 +346,7 @@ fn put_vertex_loops(kept: &[u32], k: usize, f: usize, out: &mut [u8], at: usize)
 // Kind 24: surface and stored sense of selected face r.
 fn put_face(job: &[u8], index: &[u32], c: Counts, r: usize, out: &mut [u8], at: usize) -> usize
     requires { (at < 2 ^ 56) × (c.faces ≤ 256) }
-    ensures { Wrote out.old at (framed (faceHead (facesIn job.now index.now c) r)) out.new result × (result ≤ at + 14) }
+    ensures { Wrote out.old at (framed (face_head (faces_in job.now index.now c) r)) out.new result × (result ≤ at + 14) }
 {
     let surface = job::face_surface(job, index, c, r);
     let sense = job::sense_number(job::stored_sense(job, index, c, r));
@@ -357,7 +357,7 @@ fn put_face(job: &[u8], index: &[u32], c: Counts, r: usize, out: &mut [u8], at: 
 // Body and source face of selected face i.
 fn put_member(job: &[u8], index: &[u32], c: Counts, i: usize, out: &mut [u8], at: usize) -> usize
     requires { (at < 2 ^ 58) × (c.faces ≤ 256) }
-    ensures { Wrote out.old at (fieldBytes (memberFields (memberAt (facesIn job.now index.now c) i))) out.new result × (result ≤ at + 8) }
+    ensures { Wrote out.old at (field_bytes (member_fields (member_at (faces_in job.now index.now c) i))) out.new result × (result ≤ at + 8) }
 {
     let body = job::face_body(job, index, c, i);
     let source = job::face_source(job, index, c, i);
@@ -377,7 +377,7 @@ fn put_group(
     at: usize,
 ) -> usize
     requires { (at < 2 ^ 57) × (c.faces ≤ 256) × Chained groups.now next.now × Leading groups.now m }
-    ensures { Wrote out.old at (fieldBytes (memberRows (facesIn job.now index.now c) groups.now m)) out.new result × (result ≤ at + 2048) }
+    ensures { Wrote out.old at (field_bytes (member_rows (faces_in job.now index.now c) groups.now m)) out.new result × (result ≤ at + 2048) }
 {
     let mut p = at;
     let mut i = m;
@@ -400,7 +400,7 @@ fn put_members(
     at: usize,
 ) -> usize
     requires { (at < 2 ^ 56) × (c.faces ≤ 256) × Chained groups.now next.now × Leading groups.now m }
-    ensures { Wrote out.old at (framed (membersRecord (map (memberAt (facesIn job.now index.now c)) (membersOf groups.now m)))) out.new result × (result ≤ at + 2054) }
+    ensures { Wrote out.old at (framed (members_record (map (member_at (faces_in job.now index.now c)) (members_of groups.now m)))) out.new result × (result ≤ at + 2054) }
 {
     let size = group_size(groups, next, m);
     let p = put_head(out, at, 29, 2 * size);
@@ -424,8 +424,8 @@ fn put_faces(
     out: &mut [u8],
     at: usize,
 ) -> usize
-    requires { (at < 2 ^ 53) × (c.faces ≤ 256) × (length rows.now ≤ 14336) × (length rows.now ≤ 7 * length numbers.old) × LoopsSized items.now stretches.now faces.now × (k ≤ 1024) × (length members.now ≤ 256) × (length groups.now ≤ 256) × Lowest groups.now × (members.now ≡ lowestMembers groups.now) }
-    ensures { Wrote out.old at (framedAll (flat_map faceRecords (bodyFaces (facesIn job.now index.now c) groups.now (activeEdges (rowsIn rows.now)) (faceLoopsIn items.now stretches.now faces.now) (keptIn k kept.now) 0 members.now))) out.new result × (result ≤ at + 8596231168) }
+    requires { (at < 2 ^ 53) × (c.faces ≤ 256) × (length rows.now ≤ 14336) × (length rows.now ≤ 7 * length numbers.old) × LoopsSized items.now stretches.now faces.now × (k ≤ 1024) × (length members.now ≤ 256) × (length groups.now ≤ 256) × Lowest groups.now × (members.now ≡ lowest_members groups.now) }
+    ensures { Wrote out.old at (framed_all (flat_map face_records (body_faces (faces_in job.now index.now c) groups.now (active_edges (rows_in rows.now)) (face_loops_in items.now stretches.now faces.now) (kept_in k kept.now) 0 members.now))) out.new result × (result ≤ at + 8596231168) }
 {
     blank(numbers);
     let count = number_edges(rows, numbers);
@@ -457,7 +457,7 @@ fn put_shell_face(
     at: usize,
 ) -> usize
     requires { at < 2 ^ 58 }
-    ensures { Wrote out.old at (shellFaceRow boundaries.now members.now b f) out.new result × (result ≤ at + 4) }
+    ensures { Wrote out.old at (shell_face_row boundaries.now members.now b f) out.new result × (result ≤ at + 4) }
 {
     let m = get(members, f);
     if get(boundaries, m) != b {
@@ -475,7 +475,7 @@ fn put_shell_faces(
     at: usize,
 ) -> usize
     requires { (at < 2 ^ 57) × (length members.now ≤ 256) }
-    ensures { Wrote out.old at (fieldBytes (shellFaces boundaries.now members.now b)) out.new result × (result ≤ at + 1024) }
+    ensures { Wrote out.old at (field_bytes (shell_faces boundaries.now members.now b)) out.new result × (result ≤ at + 1024) }
 {
     let mut p = at;
     let mut f: usize = 0;
@@ -489,7 +489,7 @@ fn put_shell_faces(
 // Kind 28: the boundary with label b; its size is what its faces take where there is no room.
 fn put_shell(boundaries: &[u32], members: &[u32], b: usize, out: &mut [u8], at: usize) -> usize
     requires { (at < 2 ^ 56) × (length members.now ≤ 256) }
-    ensures { Wrote out.old at (framed (rec 28 (shellFaces boundaries.now members.now b))) out.new result × (result ≤ at + 1030) }
+    ensures { Wrote out.old at (framed (rec 28 (shell_faces boundaries.now members.now b))) out.new result × (result ≤ at + 1030) }
 {
     let mut none = [0u8; 1];
     let size = put_shell_faces(boundaries, members, b, &mut none, 0);
@@ -508,7 +508,7 @@ fn put_void(
     at: usize,
 ) -> usize
     requires { (at < 2 ^ 56) × (length members.now ≤ 256) × (k < 256) }
-    ensures { Wrote out.old at (voidRow boundaries.now members.now table.now o k) out.new result × (result ≤ at + 1030) }
+    ensures { Wrote out.old at (void_row boundaries.now members.now table.now o k) out.new result × (result ≤ at + 1030) }
 {
     if shell_outer(table, k) {
         return at;
@@ -531,7 +531,7 @@ fn put_voids(
     at: usize,
 ) -> usize
     requires { (at < 2 ^ 55) × (length members.now ≤ 256) × (n ≤ 256) }
-    ensures { Wrote out.old at (voidRows boundaries.now members.now table.now n o) out.new result × (result ≤ at + 263680) }
+    ensures { Wrote out.old at (void_rows boundaries.now members.now table.now n o) out.new result × (result ≤ at + 263680) }
 {
     let mut p = at;
     let mut k: usize = 0;
@@ -553,7 +553,7 @@ fn put_lump(
     at: usize,
 ) -> usize
     requires { (at < 2 ^ 54) × (length members.now ≤ 256) × (n ≤ 256) × (k < 256) }
-    ensures { Wrote out.old at (lumpRow boundaries.now members.now table.now n k) out.new result × (result ≤ at + 264716) }
+    ensures { Wrote out.old at (lump_row boundaries.now members.now table.now n k) out.new result × (result ≤ at + 264716) }
 {
     if shell_outer(table, k) {
         let b = shell_boundary(table, k);
@@ -575,7 +575,7 @@ fn put_lumps(
     at: usize,
 ) -> usize
     requires { (at < 2 ^ 53) × (length members.now ≤ 256) × (n ≤ 256) }
-    ensures { Wrote out.old at (framedAll (flat_map lumpRecords (lumps (nestedIn boundaries.now members.now n table.now)))) out.new result }
+    ensures { Wrote out.old at (framed_all (flat_map lump_records (lumps (nested_in boundaries.now members.now n table.now)))) out.new result }
 {
     let mut p = at;
     let mut k: usize = 0;
@@ -595,8 +595,8 @@ fn put_vertices_and_edges(
     vertices: &mut [u32],
     out: &mut [u8],
 ) -> usize
-    requires { (length rows.now ≤ 14336) × EndsOk (length vertices.old) (rowsIn rows.now) }
-    ensures { Wrote out.old 34 (vertexAndEdgeBytes starts.now (rowsIn rows.now)) out.new result × (result ≤ 86050) }
+    requires { (length rows.now ≤ 14336) × EndsOk (length vertices.old) (rows_in rows.now) }
+    ensures { Wrote out.old 34 (vertex_and_edge_bytes starts.now (rows_in rows.now)) out.new result × (result ≤ 86050) }
 {
     blank(vertices);
     let count = put_vertices(rows, starts, vertices, out, 34);
@@ -626,7 +626,7 @@ fn put_records(
     out: &mut [u8],
 ) -> usize
     requires { BodySized c groups.now rows.now items.now stretches.now faces.now members.now k n numbers.old vertices.old }
-    ensures { Wrote out.old 0 (framedAll (bodyRecords (solidBody (totalsIn totals) (facesIn job.now index.now c) groups.now starts.now (rowsIn rows.now) (faceLoopsIn items.now stretches.now faces.now) members.now (keptIn k kept.now) (lumps (nestedIn boundaries.now members.now n table.now))))) out.new result }
+    ensures { Wrote out.old 0 (framed_all (body_records (solid_body (totals_in totals) (faces_in job.now index.now c) groups.now starts.now (rows_in rows.now) (face_loops_in items.now stretches.now faces.now) members.now (kept_in k kept.now) (lumps (nested_in boundaries.now members.now n table.now))))) out.new result }
 {
     put_totals(out, 1, totals);
     let p = put_vertices_and_edges(rows, starts, vertices, out);
@@ -638,7 +638,7 @@ fn put_records(
 
 // The body of a job without selected faces: one record, or refusal 40 with the bytes needed.
 pub fn put_empty(out: &mut [u8]) -> Ending
-    ensures { Ends (fitting (length out.old) (framedAll (bodyRecords emptyBody))) out.old out.new result }
+    ensures { Ends (fitting (length out.old) (framed_all (body_records empty_body))) out.old out.new result }
 {
     if out.len() < 34 {
         return Ending::Refused(40, 34);
@@ -679,7 +679,7 @@ pub fn put_body(
     out: &mut [u8],
 ) -> Ending
     requires { BodySized c groups.now rows.now items.now stretches.now faces.now members.now k n numbers.old vertices.old }
-    ensures { Ends (fitting (length out.old) (framedAll (bodyRecords (solidBody (totalsIn totals) (facesIn job.now index.now c) groups.now starts.now (rowsIn rows.now) (faceLoopsIn items.now stretches.now faces.now) members.now (keptIn k kept.now) (lumps (nestedIn boundaries.now members.now n table.now)))))) out.old out.new result }
+    ensures { Ends (fitting (length out.old) (framed_all (body_records (solid_body (totals_in totals) (faces_in job.now index.now c) groups.now starts.now (rows_in rows.now) (face_loops_in items.now stretches.now faces.now) members.now (kept_in k kept.now) (lumps (nested_in boundaries.now members.now n table.now)))))) out.old out.new result }
 {
     let mut none = [0u8; 1];
     let needed = put_records(

@@ -2,33 +2,33 @@
 use Rattle.std.specs.Prelude.{ℕ, ◌%◌, ◌<◌, ◌≤◌, ◌≡◌, List, Bool, ◌&&◌, cond, get_or, take, eqb, ltb}
 use Rattle.lists.specs.Lists.{◌∈◌, some}
 use Rattle.rules.specs.declared.Use.{Use}
-use Rattle.rules.specs.Fans.{fanPoint}
-use Rattle.rules.specs.Contact.{useLabel, touches}
+use Rattle.rules.specs.Fans.{fan_point}
+use Rattle.rules.specs.Contact.{use_label, touches}
 use Rattle.fields.specs.Chains.{chain, Falling}
 
 -- the entry after place k
-abbrev pub nextFan : List ℕ → ℕ → ℕ
-nextFan nexts k = get_or nexts k 0
+abbrev pub next_fan : List ℕ → ℕ → ℕ
+next_fan nexts k = get_or nexts k 0
 
 -- fan g stands at point p and has label l
-unfoldable pub standsWith : List Use → List ℕ → List ℕ → ℕ → ℕ → ℕ → Bool
-standsWith us starts labels p l g = eqb p (fanPoint starts g) && eqb l (useLabel us labels g)
+unfoldable pub stands_with : List Use → List ℕ → List ℕ → ℕ → ℕ → ℕ → Bool
+stands_with us starts labels p l g = eqb p (fan_point starts g) && eqb l (use_label us labels g)
 
 -- the point of the fan at place k
-abbrev pub pointAt : List ℕ → List ℕ → ℕ → ℕ
-pointAt starts names k = fanPoint starts (get_or names k 0)
+abbrev pub point_at : List ℕ → List ℕ → ℕ → ℕ
+point_at starts names k = fan_point starts (get_or names k 0)
 
 -- each of the first k fans is on the chain of its point, one of w chains
 pub record Bucketed (w : ℕ) (starts names heads nexts : List ℕ) (k : ℕ) : Type 0 where
-  pub falling : Falling (nextFan nexts)
+  pub falling : Falling (next_fan nexts)
   pub entries : (b : ℕ) → get_or heads b 0 ≤ k
-  pub holds : (j : ℕ) → j < k → j ∈ chain (nextFan nexts) (get_or heads (pointAt starts names j % w) 0)
+  pub holds : (j : ℕ) → j < k → j ∈ chain (next_fan nexts) (get_or heads (point_at starts names j % w) 0)
 
 -- the fan at place k touches an earlier one
-abbrev pub touchesEarlier : List Use → List ℕ → List ℕ → List ℕ → ℕ → Bool
-touchesEarlier us starts labels names k = some (touches us starts labels (get_or names k 0)) (take k names)
+abbrev pub touches_earlier : List Use → List ℕ → List ℕ → List ℕ → ℕ → Bool
+touches_earlier us starts labels names k = some (touches us starts labels (get_or names k 0)) (take k names)
 
 -- the lower of the lowest point so far and the point of the fan at place k where that touches an earlier one
 pub record Lowered (us : List Use) (starts labels names : List ℕ) (k lowest r : ℕ) : Type 0 where
-  pub small : pointAt starts names k < 4294967296
-  pub lower : r ≡ cond (ltb (pointAt starts names k) lowest && touchesEarlier us starts labels names k) (pointAt starts names k) lowest
+  pub small : point_at starts names k < 4294967296
+  pub lower : r ≡ cond (ltb (point_at starts names k) lowest && touches_earlier us starts labels names k) (point_at starts names k) lowest

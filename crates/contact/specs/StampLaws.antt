@@ -9,176 +9,176 @@ use Rattle.std.proofs.Math.ListN.{length, set, length-set}
 use Rattle.std.proofs.Math.Dec.{eqb}
 use borrow.Author.Tests.{eq-eqb, ne_eqb, lt-ltb, le-ltb}
 use Rattle.lists.specs.Lists.{has, repeats, keep}
-use Rattle.lists.specs.Tests.{both-ways, or-first, or-second, none-or, and-both, cond-true, cond-false}
-use Rattle.lists.specs.Constants.{getD-constant}
-use Rattle.lists.specs.Members.{keep-yes, keep-no}
-use Rattle.lists.specs.ListEnds.{has-hit, has-miss, has-none}
-use Rattle.lists.specs.Tables.{set-each}
+use Rattle.lists.specs.Tests.{both_ways, or_first, or_second, none_or, and_both, cond_true, cond_false}
+use Rattle.lists.specs.Constants.{get_or_constant}
+use Rattle.lists.specs.Members.{keep_yes, keep_no}
+use Rattle.lists.specs.ListEnds.{has_hit, has_miss, has_none}
+use Rattle.lists.specs.Tables.{set_each}
 use Rattle.rules.specs.declared.Use.{Use}
-use Rattle.rules.specs.Read.{faceOfUse}
-use Rattle.rules.specs.Groups.{labelOf}
-use Rattle.rules.specs.Pair.{usesOfEdge, twinOf}
-use Rattle.rules.specs.Contact.{useLabel, isLowerUse, pairLabels, edgeTouches}
+use Rattle.rules.specs.Read.{face_of_use}
+use Rattle.rules.specs.Groups.{label_of}
+use Rattle.rules.specs.Pair.{uses_of_edge, twin_of}
+use Rattle.rules.specs.Contact.{use_label, is_lower_use, pair_labels, edge_touches}
 use Rattle.fields.specs.Chains.{chain}
-use Rattle.edge_uses.specs.Links.{nextUse, usesOn, Linked}
-use Rattle.edge_uses.specs.LinkLaws.{Along, along-none, along-more, along-all, count-linked}
+use Rattle.edge_uses.specs.Links.{next_use, uses_on, Linked}
+use Rattle.edge_uses.specs.LinkLaws.{Along, along_none, along_more, along_all, count_linked}
 use Rattle.contact.specs.Clear.{LowLabels}
-use Rattle.contact.specs.Stamps.{Stale, meets, stampedBy}
+use Rattle.contact.specs.Stamps.{Stale, meets, stamped_by}
 
-pub stale-none : (n : ℕ) → Stale (replicate n 0) 0
-stale-none n l = omega (arith, getD-constant n zero l)
+pub stale_none : (n : ℕ) → Stale (replicate n 0) 0
+stale_none n l = omega (arith, get_or_constant n zero l)
 
-pub stale-on : (stamps : List ℕ) (e : ℕ) → Stale stamps e → Stale stamps (e + 1)
-stale-on stamps e s l = omega (arith, s l)
+pub stale_on : (stamps : List ℕ) (e : ℕ) → Stale stamps e → Stale stamps (e + 1)
+stale_on stamps e s l = omega (arith, s l)
 
 -- ONE USE
 
 -- the code's numbers: the twin t of use h, its label l and the stamp there
-module _ (us : List Use) (ts labels stamps : List ℕ) (e h t : ℕ) (et : t ≡ twinOf ts h) where
-  pub higher-use : t ≤ h → (false ≡ meets us ts labels stamps e h) × (stamps ≡ stampedBy us ts labels stamps e h)
-  unfolding meets stampedBy
-  higher-use le = let f : isLowerUse ts h ≡ false = le-ltb h (twinOf ts h) (omega arith) in rw f (refl, refl)
+module _ (us : List Use) (ts labels stamps : List ℕ) (e h t : ℕ) (et : t ≡ twin_of ts h) where
+  pub higher_use : t ≤ h → (false ≡ meets us ts labels stamps e h) × (stamps ≡ stamped_by us ts labels stamps e h)
+  unfolding meets stamped_by
+  higher_use le = let f : is_lower_use ts h ≡ false = le-ltb h (twin_of ts h) (omega arith) in rw f (refl, refl)
 
-  module _ (l stamp : ℕ) (after : List ℕ) (lt : h < t) (face : ℕ) (ef : face ≡ faceOfUse us h) (el : l ≡ labelOf labels face) (em : stamp ≡ get_or stamps l 0) (ea : after ≡ set stamps l (e + 1)) where
-    label : l ≡ useLabel us labels h
-    label = el ∙ ap (labelOf labels) ef
+  module _ (l stamp : ℕ) (after : List ℕ) (lt : h < t) (face : ℕ) (ef : face ≡ face_of_use us h) (el : l ≡ label_of labels face) (em : stamp ≡ get_or stamps l 0) (ea : after ≡ set stamps l (e + 1)) where
+    label : l ≡ use_label us labels h
+    label = el ∙ ap (label_of labels) ef
 
-    lower-one : isLowerUse ts h ≡ true
-    lower-one = lt-ltb h (twinOf ts h) (omega arith)
+    lower_one : is_lower_use ts h ≡ true
+    lower_one = lt-ltb h (twin_of ts h) (omega arith)
 
-    stored : after ≡ stampedBy us ts labels stamps e h
-    unfolding stampedBy
-    stored = ea ∙ ap (λ k. set stamps k (e + 1)) label ∙ sym (cond-true (isLowerUse ts h) (set stamps (useLabel us labels h) (e + 1)) stamps lower-one)
+    stored : after ≡ stamped_by us ts labels stamps e h
+    unfolding stamped_by
+    stored = ea ∙ ap (λ k. set stamps k (e + 1)) label ∙ sym (cond_true (is_lower_use ts h) (set stamps (use_label us labels h) (e + 1)) stamps lower_one)
 
-    pub new-label : (stamp ≡ e + 1 → ⊥) → (false ≡ meets us ts labels stamps e h) × (after ≡ stampedBy us ts labels stamps e h)
+    pub new_label : (stamp ≡ e + 1 → ⊥) → (false ≡ meets us ts labels stamps e h) × (after ≡ stamped_by us ts labels stamps e h)
     unfolding meets
-    new-label ne = (
-      rw (lower-one, ← label, ← em, ne_eqb stamp (e + 1) ne),
+    new_label ne = (
+      rw (lower_one, ← label, ← em, ne_eqb stamp (e + 1) ne),
       stored,
     )
 
-    pub old-label : stamp ≡ e + 1 → (true ≡ meets us ts labels stamps e h) × (after ≡ stampedBy us ts labels stamps e h)
+    pub old_label : stamp ≡ e + 1 → (true ≡ meets us ts labels stamps e h) × (after ≡ stamped_by us ts labels stamps e h)
     unfolding meets
-    old-label q = (
-      rw (lower-one, ← label, ← em, eq-eqb stamp (e + 1) q),
+    old_label q = (
+      rw (lower_one, ← label, ← em, eq-eqb stamp (e + 1) q),
       stored,
     )
 
 -- THE PAIRS OF AN EDGE
 
 module _ (us : List Use) (ts labels : List ℕ) where
-  labels-lower : (h : ℕ) (hs : List ℕ) → isLowerUse ts h ≡ true → pairLabels us ts labels (h ∷ hs) ≡ useLabel us labels h ∷ pairLabels us ts labels hs
-  labels-lower h hs e = ap (map (useLabel us labels)) (keep-yes (isLowerUse ts) h hs e)
+  labels_lower : (h : ℕ) (hs : List ℕ) → is_lower_use ts h ≡ true → pair_labels us ts labels (h ∷ hs) ≡ use_label us labels h ∷ pair_labels us ts labels hs
+  labels_lower h hs e = ap (map (use_label us labels)) (keep_yes (is_lower_use ts) h hs e)
 
-  labels-higher : (h : ℕ) (hs : List ℕ) → isLowerUse ts h ≡ false → pairLabels us ts labels (h ∷ hs) ≡ pairLabels us ts labels hs
-  labels-higher h hs e = ap (map (useLabel us labels)) (keep-no (isLowerUse ts) h hs e)
+  labels_higher : (h : ℕ) (hs : List ℕ) → is_lower_use ts h ≡ false → pair_labels us ts labels (h ∷ hs) ≡ pair_labels us ts labels hs
+  labels_higher h hs e = ap (map (use_label us labels)) (keep_no (is_lower_use ts) h hs e)
 
-  repeats-more : (h : ℕ) (hs : List ℕ) → repeats (pairLabels us ts labels hs) ≡ true → repeats (pairLabels us ts labels (h ∷ hs)) ≡ true
+  repeats_more : (h : ℕ) (hs : List ℕ) → repeats (pair_labels us ts labels hs) ≡ true → repeats (pair_labels us ts labels (h ∷ hs)) ≡ true
   unfolding repeats
-  repeats-more h hs r =
+  repeats_more h hs r =
       ⊎_elim
-      (λ t. ap repeats (labels-lower h hs t) ∙ or-second (has (useLabel us labels h) (pairLabels us ts labels hs)) (repeats (pairLabels us ts labels hs)) r)
-      (λ t. ap repeats (labels-higher h hs t) ∙ r)
-      (both-ways (isLowerUse ts h))
+      (λ t. ap repeats (labels_lower h hs t) ∙ or_second (has (use_label us labels h) (pair_labels us ts labels hs)) (repeats (pair_labels us ts labels hs)) r)
+      (λ t. ap repeats (labels_higher h hs t) ∙ r)
+      (both_ways (is_lower_use ts h))
 
   -- two pairs of some uses have one label, so two of all do
-  repeats-onto : (l hs : List ℕ) → repeats (pairLabels us ts labels hs) ≡ true → repeats (pairLabels us ts labels (reverse_aux l hs)) ≡ true
-  repeats-onto [] hs r = r
-  repeats-onto (h ∷ l) hs r = repeats-onto l (h ∷ hs) (repeats-more h hs r)
+  repeats_onto : (l hs : List ℕ) → repeats (pair_labels us ts labels hs) ≡ true → repeats (pair_labels us ts labels (reverse_aux l hs)) ≡ true
+  repeats_onto [] hs r = r
+  repeats_onto (h ∷ l) hs r = repeats_onto l (h ∷ hs) (repeats_more h hs r)
 
   -- going along the uses of edge e, at entry i: the labels of those passed have a stamp each, and none stands twice
   pub record Meeting (nexts stamps : List ℕ) (e i : ℕ) : Type 0 where
     pub passed : List ℕ
     pub along : Along us nexts e i passed
-    pub apart : repeats (pairLabels us ts labels passed) ≡ false
+    pub apart : repeats (pair_labels us ts labels passed) ≡ false
     pub size : length stamps ≡ 256
     pub stale : Stale stamps (e + 1)
-    pub met : (l : ℕ) → l < 256 → eqb (get_or stamps l 0) (e + 1) ≡ has l (pairLabels us ts labels passed)
+    pub met : (l : ℕ) → l < 256 → eqb (get_or stamps l 0) (e + 1) ≡ has l (pair_labels us ts labels passed)
 
   module _ (firsts nexts : List ℕ) (linked : Linked us firsts nexts) where
-    pub meeting-start : (stamps : List ℕ) (e i : ℕ) → e < length firsts → i ≡ get_or firsts e 0 → length stamps ≡ 256 → Stale stamps e → Meeting nexts stamps e i
+    pub meeting_start : (stamps : List ℕ) (e i : ℕ) → e < length firsts → i ≡ get_or firsts e 0 → length stamps ≡ 256 → Stale stamps e → Meeting nexts stamps e i
     unfolding repeats keep
-    meeting-start stamps e i lt q size stale = record {
+    meeting_start stamps e i lt q size stale = record {
       passed = [];
-      along = along-none us firsts nexts linked e i lt q;
+      along = along_none us firsts nexts linked e i lt q;
       apart = refl;
       size = size;
-      stale = stale-on stamps e stale;
-      met = λ l h. ne_eqb (get_or stamps l 0) (e + 1) (λ r. omega (arith, stale l, r)) ∙ sym (has-none l);
+      stale = stale_on stamps e stale;
+      met = λ l h. ne_eqb (get_or stamps l 0) (e + 1) (λ r. omega (arith, stale l, r)) ∙ sym (has_none l);
     }
 
     module _ (stamps : List ℕ) (e i : ℕ) (m : Meeting nexts stamps e i) (low : LowLabels labels) (more : 0 < i) (here : Bool) (after : List ℕ)
-        (ehere : here ≡ meets us ts labels stamps e (i - 1)) (eafter : after ≡ stampedBy us ts labels stamps e (i - 1)) where
+        (ehere : here ≡ meets us ts labels stamps e (i - 1)) (eafter : after ≡ stamped_by us ts labels stamps e (i - 1)) where
       abbrev h : ℕ
       h = i - 1
 
       abbrev l : ℕ
-      l = useLabel us labels h
+      l = use_label us labels h
 
-      unstamped : isLowerUse ts h ≡ false → after ≡ stamps
-      unfolding stampedBy
-      unstamped t = eafter ∙ cond-false (isLowerUse ts h) (set stamps l (e + 1)) stamps t
+      unstamped : is_lower_use ts h ≡ false → after ≡ stamps
+      unfolding stamped_by
+      unstamped t = eafter ∙ cond_false (is_lower_use ts h) (set stamps l (e + 1)) stamps t
 
-      stamped : isLowerUse ts h ≡ true → after ≡ set stamps l (e + 1)
-      unfolding stampedBy
-      stamped t = eafter ∙ cond-true (isLowerUse ts h) (set stamps l (e + 1)) stamps t
+      stamped : is_lower_use ts h ≡ true → after ≡ set stamps l (e + 1)
+      unfolding stamped_by
+      stamped t = eafter ∙ cond_true (is_lower_use ts h) (set stamps l (e + 1)) stamps t
 
-      tested : isLowerUse ts h ≡ true → here ≡ has l (pairLabels us ts labels m.passed)
+      tested : is_lower_use ts h ≡ true → here ≡ has l (pair_labels us ts labels m.passed)
       unfolding meets
-      tested t = ehere ∙ ap (λ (b : Bool). b && eqb (get_or stamps l 0) (e + 1)) t ∙ m.met l (low (faceOfUse us h))
+      tested t = ehere ∙ ap (λ (b : Bool). b && eqb (get_or stamps l 0) (e + 1)) t ∙ m.met l (low (face_of_use us h))
 
-      pub meeting-stale : Stale after (e + 1)
-      meeting-stale k =
+      pub meeting_stale : Stale after (e + 1)
+      meeting_stale k =
           ⊎_elim
-          (λ t. rw (stamped t) (set-each (λ j x. x ≤ e + 1) stamps l (e + 1) 0 (omega (arith, m.size, low (faceOfUse us h))) (omega arith) k (λ n. m.stale k)))
+          (λ t. rw (stamped t) (set_each (λ j x. x ≤ e + 1) stamps l (e + 1) 0 (omega (arith, m.size, low (face_of_use us h))) (omega arith) k (λ n. m.stale k)))
           (λ t. rw (unstamped t) (m.stale k))
-          (both-ways (isLowerUse ts h))
+          (both_ways (is_lower_use ts h))
 
       on : (j : ℕ) → j ≡ get_or nexts h 0 → Along us nexts e j (h ∷ m.passed)
-      on j q = along-more us nexts linked.falling e i j m.passed m.along more q
+      on j q = along_more us nexts linked.falling e i j m.passed m.along more q
 
-      pub meeting-step : (j : ℕ) → here ≡ false → j ≡ get_or nexts h 0 → Meeting nexts after e j
+      pub meeting_step : (j : ℕ) → here ≡ false → j ≡ get_or nexts h 0 → Meeting nexts after e j
       unfolding repeats
-      meeting-step j f q =
+      meeting_step j f q =
           ⊎_elim
           (λ t. record {
             passed = h ∷ m.passed;
             along = on j q;
-            apart = ap repeats (labels-lower h m.passed t) ∙ none-or (has l (pairLabels us ts labels m.passed)) (repeats (pairLabels us ts labels m.passed)) (sym (tested t) ∙ f) m.apart;
+            apart = ap repeats (labels_lower h m.passed t) ∙ none_or (has l (pair_labels us ts labels m.passed)) (repeats (pair_labels us ts labels m.passed)) (sym (tested t) ∙ f) m.apart;
             size = ap length (stamped t) ∙ length-set stamps l (e + 1) ∙ m.size;
-            stale = meeting-stale;
+            stale = meeting_stale;
             met = λ k lt. rw (stamped t)
-                (set-each (λ n x. n < 256 → eqb x (e + 1) ≡ has n (pairLabels us ts labels (h ∷ m.passed))) stamps l (e + 1) 0 (omega (arith, m.size, low (faceOfUse us h)))
-                (λ b. eq-eqb (e + 1) (e + 1) refl ∙ sym (ap (has l) (labels-lower h m.passed t) ∙ has-hit l l (pairLabels us ts labels m.passed) refl))
-                k (λ ne b. m.met k b ∙ sym (ap (has k) (labels-lower h m.passed t) ∙ has-miss k l (pairLabels us ts labels m.passed) (λ r. ne (sym r)))) lt);
+                (set_each (λ n x. n < 256 → eqb x (e + 1) ≡ has n (pair_labels us ts labels (h ∷ m.passed))) stamps l (e + 1) 0 (omega (arith, m.size, low (face_of_use us h)))
+                (λ b. eq-eqb (e + 1) (e + 1) refl ∙ sym (ap (has l) (labels_lower h m.passed t) ∙ has_hit l l (pair_labels us ts labels m.passed) refl))
+                k (λ ne b. m.met k b ∙ sym (ap (has k) (labels_lower h m.passed t) ∙ has_miss k l (pair_labels us ts labels m.passed) (λ r. ne (sym r)))) lt);
           })
           (λ t. record {
             passed = h ∷ m.passed;
             along = on j q;
-            apart = ap repeats (labels-higher h m.passed t) ∙ m.apart;
+            apart = ap repeats (labels_higher h m.passed t) ∙ m.apart;
             size = ap length (unstamped t) ∙ m.size;
-            stale = meeting-stale;
-            met = λ k lt. rw (unstamped t) (m.met k lt ∙ sym (ap (has k) (labels-higher h m.passed t)));
+            stale = meeting_stale;
+            met = λ k lt. rw (unstamped t) (m.met k lt ∙ sym (ap (has k) (labels_higher h m.passed t)));
           })
-          (both-ways (isLowerUse ts h))
+          (both_ways (is_lower_use ts h))
 
-      pub meeting-stop : here ≡ true → true ≡ repeats (pairLabels us ts labels (usesOfEdge us e))
+      pub meeting_stop : here ≡ true → true ≡ repeats (pair_labels us ts labels (uses_of_edge us e))
       unfolding repeats meets
-      meeting-stop f =
-          let t : isLowerUse ts h ≡ true = (and-both (isLowerUse ts h) (eqb (get_or stamps l 0) (e + 1)) (sym ehere ∙ f)).0 in
-          let twice : repeats (pairLabels us ts labels (h ∷ m.passed)) ≡ true =
-          ap repeats (labels-lower h m.passed t) ∙ or-first (has l (pairLabels us ts labels m.passed)) (repeats (pairLabels us ts labels m.passed)) (sym (tested t) ∙ f) in
-          sym (ap (λ hs. repeats (pairLabels us ts labels hs)) (sym (on (get_or nexts h 0) refl)) ∙ repeats-onto (chain (nextUse nexts) (get_or nexts h 0)) (h ∷ m.passed) twice)
+      meeting_stop f =
+          let t : is_lower_use ts h ≡ true = (and_both (is_lower_use ts h) (eqb (get_or stamps l 0) (e + 1)) (sym ehere ∙ f)).0 in
+          let twice : repeats (pair_labels us ts labels (h ∷ m.passed)) ≡ true =
+          ap repeats (labels_lower h m.passed t) ∙ or_first (has l (pair_labels us ts labels m.passed)) (repeats (pair_labels us ts labels m.passed)) (sym (tested t) ∙ f) in
+          sym (ap (λ hs. repeats (pair_labels us ts labels hs)) (sym (on (get_or nexts h 0) refl)) ∙ repeats_onto (chain (next_use nexts) (get_or nexts h 0)) (h ∷ m.passed) twice)
 
-    pub meeting-end : (stamps : List ℕ) (e i : ℕ) → Meeting nexts stamps e i → i ≤ 0 → false ≡ repeats (pairLabels us ts labels (usesOfEdge us e))
-    meeting-end stamps e i m le = sym m.apart ∙ ap (λ hs. repeats (pairLabels us ts labels hs)) (along-all us nexts e i m.passed m.along le)
+    pub meeting_end : (stamps : List ℕ) (e i : ℕ) → Meeting nexts stamps e i → i ≤ 0 → false ≡ repeats (pair_labels us ts labels (uses_of_edge us e))
+    meeting_end stamps e i m le = sym m.apart ∙ ap (λ hs. repeats (pair_labels us ts labels hs)) (along_all us nexts e i m.passed m.along le)
 
     -- by the number n of the edge's uses
-    module _ (e n : ℕ) (lt : e < length firsts) (en : n ≡ length (usesOn firsts nexts e)) where
-      pub few-uses : n ≤ 2 → false ≡ edgeTouches us ts labels e
-      unfolding edgeTouches
-      few-uses le = rw (le-ltb 2 (length (usesOfEdge us e)) (omega (arith, count-linked us firsts nexts linked e lt)))
+    module _ (e n : ℕ) (lt : e < length firsts) (en : n ≡ length (uses_on firsts nexts e)) where
+      pub few_uses : n ≤ 2 → false ≡ edge_touches us ts labels e
+      unfolding edge_touches
+      few_uses le = rw (le-ltb 2 (length (uses_of_edge us e)) (omega (arith, count_linked us firsts nexts linked e lt)))
 
-      pub many-uses : (r : Bool) → 2 < n → r ≡ repeats (pairLabels us ts labels (usesOfEdge us e)) → r ≡ edgeTouches us ts labels e
-      unfolding edgeTouches
-      many-uses r h q = q ∙ sym (ap (λ (b : Bool). b && repeats (pairLabels us ts labels (usesOfEdge us e))) (lt-ltb 2 (length (usesOfEdge us e)) (omega (arith, count-linked us firsts nexts linked e lt))))
+      pub many_uses : (r : Bool) → 2 < n → r ≡ repeats (pair_labels us ts labels (uses_of_edge us e)) → r ≡ edge_touches us ts labels e
+      unfolding edge_touches
+      many_uses r h q = q ∙ sym (ap (λ (b : Bool). b && repeats (pair_labels us ts labels (uses_of_edge us e))) (lt-ltb 2 (length (uses_of_edge us e)) (omega (arith, count_linked us firsts nexts linked e lt))))

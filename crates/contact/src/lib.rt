@@ -4,14 +4,14 @@
 
 ghost use Rattle.std.specs.Prelude.{◌≡◌, ◌+◌, ◌≤◌, ◌<◌, length, get_or, replicate};
 ghost use Rattle.lists.specs.Lists.{repeats, some};
-ghost use Rattle.rules.specs.Pair.{usesOfEdge};
-ghost use Rattle.rules.specs.Contact.{pairLabels, edgeTouches, edgesClear, pointsClear};
+ghost use Rattle.rules.specs.Pair.{uses_of_edge};
+ghost use Rattle.rules.specs.Contact.{pair_labels, edge_touches, edges_clear, points_clear};
 ghost use Rattle.fields.specs.Chains.{chain, Falling};
-ghost use Rattle.uses.specs.Table.{usesIn};
+ghost use Rattle.uses.specs.Table.{uses_in};
 ghost use Rattle.edge_uses.specs.Links.{Linked};
-ghost use Rattle.contact.specs.Clear.{clearOf, LowLabels};
-ghost use Rattle.contact.specs.Stamps.{Stale, meets, stampedBy};
-ghost use Rattle.contact.specs.Buckets.{nextFan, standsWith, Bucketed, Lowered};
+ghost use Rattle.contact.specs.Clear.{clear_of, LowLabels};
+ghost use Rattle.contact.specs.Stamps.{Stale, meets, stamped_by};
+ghost use Rattle.contact.specs.Buckets.{next_fan, stands_with, Bucketed, Lowered};
 
 use fields::{UNSET, get, put};
 use uses::use_face;
@@ -28,7 +28,7 @@ pub enum Clear {
 // Use h is the lower of its pair, and its label was met before at edge e. `stamps` has e + 1 at each label met.
 fn meet(uses: &[u32], twins: &[u32], labels: &[u32], stamps: &mut [u32], e: usize, h: usize) -> bool
     requires { e < 1024 }
-    ensures { (result ≡ meets (usesIn uses.now) twins.now labels.now stamps.old e h) × (stamps.new ≡ stampedBy (usesIn uses.now) twins.now labels.now stamps.old e h) }
+    ensures { (result ≡ meets (uses_in uses.now) twins.now labels.now stamps.old e h) × (stamps.new ≡ stamped_by (uses_in uses.now) twins.now labels.now stamps.old e h) }
 {
     let t = get(twins, h);
     if t <= h {
@@ -53,8 +53,8 @@ fn pairs_meet(
     stamps: &mut [u32],
     e: usize,
 ) -> bool
-    requires { Linked (usesIn uses.now) firsts.now nexts.now × LowLabels labels.now × (e < length firsts.now) × (e < 1024) × (length stamps.old ≡ 256) × Stale stamps.old e }
-    ensures { (result ≡ repeats (pairLabels (usesIn uses.now) twins.now labels.now (usesOfEdge (usesIn uses.now) e))) × Stale stamps.new (e + 1) }
+    requires { Linked (uses_in uses.now) firsts.now nexts.now × LowLabels labels.now × (e < length firsts.now) × (e < 1024) × (length stamps.old ≡ 256) × Stale stamps.old e }
+    ensures { (result ≡ repeats (pair_labels (uses_in uses.now) twins.now labels.now (uses_of_edge (uses_in uses.now) e))) × Stale stamps.new (e + 1) }
 {
     let mut i = get(firsts, e);
     while 0 < i {
@@ -76,8 +76,8 @@ fn edge_touches(
     stamps: &mut [u32],
     e: usize,
 ) -> bool
-    requires { Linked (usesIn uses.now) firsts.now nexts.now × LowLabels labels.now × (e < length firsts.now) × (e < 1024) × (length stamps.old ≡ 256) × Stale stamps.old e }
-    ensures { (result ≡ edgeTouches (usesIn uses.now) twins.now labels.now e) × Stale stamps.new (e + 1) }
+    requires { Linked (uses_in uses.now) firsts.now nexts.now × LowLabels labels.now × (e < length firsts.now) × (e < 1024) × (length stamps.old ≡ 256) × Stale stamps.old e }
+    ensures { (result ≡ edge_touches (uses_in uses.now) twins.now labels.now e) × Stale stamps.new (e + 1) }
 {
     let n = edge_uses::count_of(firsts, nexts, e);
     if n <= 2 {
@@ -95,8 +95,8 @@ pub fn edges_clear(
     nexts: &[u32],
     labels: &[u32],
 ) -> Clear
-    requires { Linked (usesIn uses.now) firsts.now nexts.now × LowLabels labels.now × (length firsts.now ≤ 1024) }
-    ensures { clearOf result ≡ edgesClear number (usesIn uses.now) twins.now labels.now (length firsts.now) }
+    requires { Linked (uses_in uses.now) firsts.now nexts.now × LowLabels labels.now × (length firsts.now ≤ 1024) }
+    ensures { clear_of result ≡ edges_clear number (uses_in uses.now) twins.now labels.now (length firsts.now) }
 {
     let mut stamps = [0u32; 256];
     let mut e: usize = 0;
@@ -113,7 +113,7 @@ pub fn edges_clear(
 
 // Fan g stands at point p and has label l.
 fn stands_with(uses: &[u32], starts: &[u32], labels: &[u32], p: usize, l: usize, g: usize) -> bool
-    ensures { result ≡ standsWith (usesIn uses.now) starts.now labels.now p l g }
+    ensures { result ≡ stands_with (uses_in uses.now) starts.now labels.now p l g }
 {
     let q = get(starts, g);
     if p != q {
@@ -137,8 +137,8 @@ fn one_stands(
     p: usize,
     l: usize,
 ) -> bool
-    requires { Falling (nextFan nexts.now) }
-    ensures { result ≡ some (λ k. standsWith (usesIn uses.now) starts.now labels.now p l (get_or names.now k 0)) (chain (nextFan nexts.now) entry) }
+    requires { Falling (next_fan nexts.now) }
+    ensures { result ≡ some (λ k. stands_with (uses_in uses.now) starts.now labels.now p l (get_or names.now k 0)) (chain (next_fan nexts.now) entry) }
 {
     let mut i = entry;
     while 0 < i {
@@ -163,7 +163,7 @@ fn lower(
     lowest: usize,
 ) -> usize
     requires { (k < length names.now) × (0 < length heads.now) × Bucketed (length heads.now) starts.now names.now heads.now nexts.now k }
-    ensures { Lowered (usesIn uses.now) starts.now labels.now names.now k lowest result }
+    ensures { Lowered (uses_in uses.now) starts.now labels.now names.now k lowest result }
 {
     let f = get(names, k);
     let p = get(starts, f);
@@ -201,7 +201,7 @@ fn points_chained(
     nexts: &mut [u32],
 ) -> Clear
     requires { (0 < length heads.old) × (length names.now ≤ length nexts.old) × (length nexts.old ≤ 2048) × (heads.old ≡ replicate (length heads.old) 0) × (nexts.old ≡ replicate (length nexts.old) 0) }
-    ensures { clearOf result ≡ pointsClear number (usesIn uses.now) starts.now labels.now names.now }
+    ensures { clear_of result ≡ points_clear number (uses_in uses.now) starts.now labels.now names.now }
 {
     let mut lowest = UNSET + 1;
     let mut k: usize = 0;
@@ -225,7 +225,7 @@ fn points_in_small(
     names: &[u32],
 ) -> Clear
     requires { length names.now ≤ 64 }
-    ensures { clearOf result ≡ pointsClear number (usesIn uses.now) starts.now labels.now names.now }
+    ensures { clear_of result ≡ points_clear number (uses_in uses.now) starts.now labels.now names.now }
 {
     let mut heads = [0u32; 64];
     let mut nexts = [0u32; 64];
@@ -242,7 +242,7 @@ fn points_in_large(
     names: &[u32],
 ) -> Clear
     requires { length names.now ≤ 2048 }
-    ensures { clearOf result ≡ pointsClear number (usesIn uses.now) starts.now labels.now names.now }
+    ensures { clear_of result ≡ points_clear number (uses_in uses.now) starts.now labels.now names.now }
 {
     let mut heads = [0u32; 512];
     let mut nexts = [0u32; 2048];
@@ -258,7 +258,7 @@ pub fn points_clear(
     names: &[u32],
 ) -> Clear
     requires { length names.now ≤ 2048 }
-    ensures { clearOf result ≡ pointsClear number (usesIn uses.now) starts.now labels.now names.now }
+    ensures { clear_of result ≡ points_clear number (uses_in uses.now) starts.now labels.now names.now }
 {
     if names.len() <= 64 {
         return points_in_small(number, uses, starts, labels, names);

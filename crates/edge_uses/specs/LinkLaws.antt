@@ -6,37 +6,37 @@ use Rattle.std.proofs.lemmas.List.{length-reverse}
 use Rattle.std.proofs.Math.ListN.{get_or-eq_default}
 use Rattle.std.proofs.Math.Seq.{set_out}
 use Rattle.lists.specs.Lists.{positions}
-use Rattle.lists.specs.Tests.{both-ways, equal-or-not}
-use Rattle.lists.specs.Tables.{set-each, getD-snoc-before, getD-snoc-last, length-snoc}
-use Rattle.lists.specs.Constants.{getD-constant}
-use Rattle.lists.specs.ListEnds.{positions-append}
+use Rattle.lists.specs.Tests.{both_ways, equal_or_not}
+use Rattle.lists.specs.Tables.{set_each, get_or_snoc_before, get_or_snoc_last, length_snoc}
+use Rattle.lists.specs.Constants.{get_or_constant}
+use Rattle.lists.specs.ListEnds.{positions_append}
 use Rattle.rules.specs.declared.Use.{Use}
-use Rattle.rules.specs.Read.{noUse, useAt}
-use Rattle.rules.specs.Pair.{onEdge, usesOfEdge}
-use Rattle.fields.specs.Chains.{chain, Falling, chain-end, chain-on, chain-more, chain-same}
-use Rattle.edge_uses.specs.Links.{nextUse, usesOn, Linked}
+use Rattle.rules.specs.Read.{no_use, use_at}
+use Rattle.rules.specs.Pair.{on_edge, uses_of_edge}
+use Rattle.fields.specs.Chains.{chain, Falling, chain_end, chain_on, chain_more, chain_same}
+use Rattle.edge_uses.specs.Links.{next_use, uses_on, Linked}
 
 -- no use, empty chains
-pub linked-none : (m : ℕ) → Linked [] (replicate m 0) []
+pub linked_none : (m : ℕ) → Linked [] (replicate m 0) []
 unfolding positions
-linked-none m = record {
+linked_none m = record {
   falling = λ k. omega arith;
-  heads = λ e. omega (arith, getD-constant m zero e);
-  chains = λ e h. ap (chain (nextUse [])) (getD-constant m zero e) ∙ chain-end (nextUse []);
+  heads = λ e. omega (arith, get_or_constant m zero e);
+  chains = λ e h. ap (chain (next_use [])) (get_or_constant m zero e) ∙ chain_end (next_use []);
 }
 
 -- the uses of an edge after one use more
-more-uses : (us : List Use) (u : Use) (e : ℕ) (b : Bool) → eqb u.edge e ≡ b → usesOfEdge (us ++ (u ∷ [])) e ≡ usesOfEdge us e ++ cond b (length us ∷ []) []
+more_uses : (us : List Use) (u : Use) (e : ℕ) (b : Bool) → eqb u.edge e ≡ b → uses_of_edge (us ++ (u ∷ [])) e ≡ uses_of_edge us e ++ cond b (length us ∷ []) []
 unfolding positions
-more-uses us u e b q =
+more_uses us u e b q =
     let z : 0 + length us ≡ length us = omega arith in
-    positions-append (onEdge e) 0 us (u ∷ []) ∙ (λ i. positions (onEdge e) 0 us ++ cond (q i) (z i ∷ []) [])
+    positions_append (on_edge e) 0 us (u ∷ []) ∙ (λ i. positions (on_edge e) 0 us ++ cond (q i) (z i ∷ []) [])
 
-more-on : (us : List Use) (u : Use) (e : ℕ) → e ≡ u.edge → backwards (usesOfEdge (us ++ (u ∷ [])) e) ≡ length us ∷ backwards (usesOfEdge us e)
-more-on us u e q = ap backwards (more-uses us u e true (eq-eqb u.edge e (sym q))) ∙ reverse-append (usesOfEdge us e) (length us ∷ [])
+more_on : (us : List Use) (u : Use) (e : ℕ) → e ≡ u.edge → backwards (uses_of_edge (us ++ (u ∷ [])) e) ≡ length us ∷ backwards (uses_of_edge us e)
+more_on us u e q = ap backwards (more_uses us u e true (eq-eqb u.edge e (sym q))) ∙ reverse-append (uses_of_edge us e) (length us ∷ [])
 
-more-off : (us : List Use) (u : Use) (e : ℕ) → (e ≡ u.edge → ⊥) → backwards (usesOfEdge (us ++ (u ∷ [])) e) ≡ backwards (usesOfEdge us e)
-more-off us u e q = ap backwards (more-uses us u e false (ne_eqb u.edge e (λ r. q (sym r))) ∙ append-nil (usesOfEdge us e))
+more_off : (us : List Use) (u : Use) (e : ℕ) → (e ≡ u.edge → ⊥) → backwards (uses_of_edge (us ++ (u ∷ [])) e) ≡ backwards (uses_of_edge us e)
+more_off us u e q = ap backwards (more_uses us u e false (ne_eqb u.edge e (λ r. q (sym r))) ∙ append-nil (uses_of_edge us e))
 
 -- one use more, in front of the chain of its edge
 module _ (us : List Use) (firsts nexts : List ℕ) (u : Use) (long : length nexts ≡ length us) (l : Linked us firsts nexts) where
@@ -49,109 +49,109 @@ module _ (us : List Use) (firsts nexts : List ℕ) (u : Use) (long : length next
   abbrev nexts' : List ℕ
   nexts' = nexts ++ (head ∷ [])
 
-  before : (k : ℕ) → k < length us → nextUse nexts k ≡ nextUse nexts' k
-  before k h = sym (getD-snoc-before nexts head 0 k (omega arith))
+  before : (k : ℕ) → k < length us → next_use nexts k ≡ next_use nexts' k
+  before k h = sym (get_or_snoc_before nexts head 0 k (omega arith))
 
-  last : nextUse nexts' (length us) ≡ head
-  last = ap (nextUse nexts') (sym long) ∙ getD-snoc-last nexts head 0
+  last : next_use nexts' (length us) ≡ head
+  last = ap (next_use nexts') (sym long) ∙ get_or_snoc_last nexts head 0
 
-  falls : Falling (nextUse nexts')
+  falls : Falling (next_use nexts')
   falls k =
       ⊎_elim
       (λ t. omega (arith, before k (ltb-true k (length us) t), l.falling k))
       (λ t. ⊎_elim
-      (λ q. omega (arith, ap (nextUse nexts') q.0, last, l.heads u.edge))
-      (λ q. omega (arith, get_or-eq_default nexts' 0 {n = k} (omega (arith, length-snoc nexts head, ltb-false k (length us) t, q.0))))
-      (equal-or-not k (length us)))
-      (both-ways (ltb k (length us)))
+      (λ q. omega (arith, ap (next_use nexts') q.0, last, l.heads u.edge))
+      (λ q. omega (arith, get_or-eq_default nexts' 0 {n = k} (omega (arith, length_snoc nexts head, ltb-false k (length us) t, q.0))))
+      (equal_or_not k (length us)))
+      (both_ways (ltb k (length us)))
 
   -- the chain of an edge that has no more uses
-  kept : (e : ℕ) → usesOn firsts nexts e ≡ chain (nextUse nexts') (get_or firsts e 0)
-  kept e = chain-same (nextUse nexts) (nextUse nexts') l.falling (get_or firsts e 0) (λ k h. before k (omega (arith, l.heads e)))
+  kept : (e : ℕ) → uses_on firsts nexts e ≡ chain (next_use nexts') (get_or firsts e 0)
+  kept e = chain_same (next_use nexts) (next_use nexts') l.falling (get_or firsts e 0) (λ k h. before k (omega (arith, l.heads e)))
 
   entry : (e : ℕ) → get_or firsts' e 0 ≤ suc (length us)
   entry e =
       ⊎_elim
-      (λ t. set-each (λ j x. x ≤ suc (length us)) firsts u.edge (suc (length us)) 0 (ltb-true u.edge (length firsts) t) (omega arith) e (λ n. omega (arith, l.heads e)))
+      (λ t. set_each (λ j x. x ≤ suc (length us)) firsts u.edge (suc (length us)) 0 (ltb-true u.edge (length firsts) t) (omega arith) e (λ n. omega (arith, l.heads e)))
       (λ t. omega (arith, ap (λ (fs : List ℕ). get_or fs e 0) (set_out firsts u.edge (suc (length us)) (ltb-false u.edge (length firsts) t)), l.heads e))
-      (both-ways (ltb u.edge (length firsts)))
+      (both_ways (ltb u.edge (length firsts)))
 
-  on : (e : ℕ) → e ≡ u.edge → e < length firsts → usesOn firsts' nexts' e ≡ backwards (usesOfEdge (us ++ (u ∷ [])) e)
+  on : (e : ℕ) → e ≡ u.edge → e < length firsts → uses_on firsts' nexts' e ≡ backwards (uses_of_edge (us ++ (u ∷ [])) e)
   on e q h =
-      ap (chain (nextUse nexts')) (ap (λ k. get_or (set firsts k (suc (length us))) e 0) (sym q) ∙ get_or-set_same firsts e (suc (length us)) 0 h)
-      ∙ chain-on (nextUse nexts') falls (length us)
-      ∙ ap {B = List ℕ} (λ r. length us ∷ r) (ap (chain (nextUse nexts')) (last ∙ ap (λ k. get_or firsts k 0) (sym q)) ∙ sym (kept e) ∙ l.chains e h)
-      ∙ sym (more-on us u e q)
+      ap (chain (next_use nexts')) (ap (λ k. get_or (set firsts k (suc (length us))) e 0) (sym q) ∙ get_or-set_same firsts e (suc (length us)) 0 h)
+      ∙ chain_on (next_use nexts') falls (length us)
+      ∙ ap {B = List ℕ} (λ r. length us ∷ r) (ap (chain (next_use nexts')) (last ∙ ap (λ k. get_or firsts k 0) (sym q)) ∙ sym (kept e) ∙ l.chains e h)
+      ∙ sym (more_on us u e q)
 
-  off : (e : ℕ) → (e ≡ u.edge → ⊥) → e < length firsts → usesOn firsts' nexts' e ≡ backwards (usesOfEdge (us ++ (u ∷ [])) e)
+  off : (e : ℕ) → (e ≡ u.edge → ⊥) → e < length firsts → uses_on firsts' nexts' e ≡ backwards (uses_of_edge (us ++ (u ∷ [])) e)
   off e q h =
-      ap (chain (nextUse nexts')) (get_or-set_other firsts u.edge e (suc (length us)) 0 q)
-      ∙ sym (kept e) ∙ l.chains e h ∙ sym (more-off us u e q)
+      ap (chain (next_use nexts')) (get_or-set_other firsts u.edge e (suc (length us)) 0 q)
+      ∙ sym (kept e) ∙ l.chains e h ∙ sym (more_off us u e q)
 
-  linked-more : Linked (us ++ (u ∷ [])) firsts' nexts'
-  linked-more = record {
+  linked_more : Linked (us ++ (u ∷ [])) firsts' nexts'
+  linked_more = record {
     falling = falls;
     heads = λ e.
-        let n : length (us ++ (u ∷ [])) ≡ suc (length us) = length-snoc us u in
+        let n : length (us ++ (u ∷ [])) ≡ suc (length us) = length_snoc us u in
         omega (arith, entry e);
     chains = λ e h.
         let lt : e < length firsts = omega (arith, length-set firsts u.edge (suc (length us))) in
-        ⊎_elim (λ q. on e q.0 lt) (λ q. off e q.0 lt) (equal-or-not e u.edge);
+        ⊎_elim (λ q. on e q.0 lt) (λ q. off e q.0 lt) (equal_or_not e u.edge);
   }
 
 -- the first h uses are on the chains: so is use h, once it is stored
-pub linked-step : (us : List Use) (firsts nexts firsts' nexts' : List ℕ) (h e v : ℕ) → Linked (take h us) firsts (take h nexts) → length nexts ≡ length us → h < length nexts
-    → e ≡ (useAt us h).edge → v ≡ get_or firsts e 0 → nexts' ≡ set nexts h v → firsts' ≡ set firsts e (h + 1) → Linked (take (h + 1) us) firsts' (take (h + 1) nexts')
-linked-step us firsts nexts firsts' nexts' h e v l long lt q r x y =
-    let u : Use = useAt us h in
+pub linked_step : (us : List Use) (firsts nexts firsts' nexts' : List ℕ) (h e v : ℕ) → Linked (take h us) firsts (take h nexts) → length nexts ≡ length us → h < length nexts
+    → e ≡ (use_at us h).edge → v ≡ get_or firsts e 0 → nexts' ≡ set nexts h v → firsts' ≡ set firsts e (h + 1) → Linked (take (h + 1) us) firsts' (take (h + 1) nexts')
+linked_step us firsts nexts firsts' nexts' h e v l long lt q r x y =
+    let u : Use = use_at us h in
     let n : length (take h us) ≡ h = length-take-le h us (omega arith) in
     let m : length (take h nexts) ≡ h = length-take-le h nexts (omega arith) in
-    let a : take h us ++ (u ∷ []) ≡ take (h + 1) us = sym (ap (λ k. take k us) (add-one h) ∙ take-suc us h noUse (omega arith)) in
+    let a : take h us ++ (u ∷ []) ≡ take (h + 1) us = sym (ap (λ k. take k us) (add-one h) ∙ take-suc us h no_use (omega arith)) in
     let b : set firsts u.edge (suc (length (take h us))) ≡ firsts' = (λ i. set firsts (sym q i) ((ap suc n ∙ sym (add-one h)) i)) ∙ sym y in
     let d : take h nexts ++ (get_or firsts u.edge 0 ∷ []) ≡ take (h + 1) nexts' = ap (λ k. take h nexts ++ (k ∷ [])) (ap (λ k. get_or firsts k 0) (sym q) ∙ sym r) ∙ sym (take-suc-set nexts h v lt) ∙ (λ i. take (sym (add-one h) i) (sym x i)) in
     subst (λ ns. Linked (take (h + 1) us) firsts' ns) d
     (subst (λ fs. Linked (take (h + 1) us) fs (take h nexts ++ (get_or firsts u.edge 0 ∷ []))) b
     (subst (λ (xs : List Use). Linked xs (set firsts u.edge (suc (length (take h us)))) (take h nexts ++ (get_or firsts u.edge 0 ∷ []))) a
-    (linked-more (take h us) firsts (take h nexts) u (m ∙ sym n) l)))
+    (linked_more (take h us) firsts (take h nexts) u (m ∙ sym n) l)))
 
 -- all uses are on the chains
-pub linked-all : (us : List Use) (firsts nexts : List ℕ) (h : ℕ) → Linked (take h us) firsts (take h nexts) → length nexts ≡ length us → length nexts ≤ h → Linked us firsts nexts
-linked-all us firsts nexts h l long le =
+pub linked_all : (us : List Use) (firsts nexts : List ℕ) (h : ℕ) → Linked (take h us) firsts (take h nexts) → length nexts ≡ length us → length nexts ≤ h → Linked us firsts nexts
+linked_all us firsts nexts h l long le =
     subst (λ ns. Linked us firsts ns) (take_all h nexts le)
     (subst (λ (xs : List Use). Linked xs firsts (take h nexts)) (take_all h us (omega arith)) l)
 
 -- the chain of an edge has as many as the edge has uses
-pub count-linked : (us : List Use) (firsts nexts : List ℕ) → Linked us firsts nexts → (e : ℕ) → e < length firsts → length (usesOn firsts nexts e) ≡ length (usesOfEdge us e)
-count-linked us firsts nexts l e h = ap length (l.chains e h) ∙ length-reverse (usesOfEdge us e)
+pub count_linked : (us : List Use) (firsts nexts : List ℕ) → Linked us firsts nexts → (e : ℕ) → e < length firsts → length (uses_on firsts nexts e) ≡ length (uses_of_edge us e)
+count_linked us firsts nexts l e h = ap length (l.chains e h) ∙ length-reverse (uses_of_edge us e)
 
 -- COUNTING ALONG A CHAIN
 
-pub count-more : (next : ℕ → ℕ) → Falling next → (n i j whole : ℕ) → n + length (chain next i) ≡ whole → 0 < i → j ≡ next (i - 1) → n + 1 + length (chain next j) ≡ whole
-count-more next f n i j whole e h q =
-    let on : length (chain next i) ≡ suc (length (chain next (next (i - 1)))) = ap length (chain-more next f i h) in
+pub count_more : (next : ℕ → ℕ) → Falling next → (n i j whole : ℕ) → n + length (chain next i) ≡ whole → 0 < i → j ≡ next (i - 1) → n + 1 + length (chain next j) ≡ whole
+count_more next f n i j whole e h q =
+    let on : length (chain next i) ≡ suc (length (chain next (next (i - 1)))) = ap length (chain_more next f i h) in
     omega (arith, ap (λ k. length (chain next k)) q)
 
-pub count-all : (next : ℕ → ℕ) (n i whole : ℕ) → n + length (chain next i) ≡ whole → i ≤ 0 → n ≡ whole
-count-all next n i whole e h =
+pub count_all : (next : ℕ → ℕ) (n i whole : ℕ) → n + length (chain next i) ≡ whole → i ≤ 0 → n ≡ whole
+count_all next n i whole e h =
     let z : i ≡ zero = omega arith in
-    let none : length (chain next zero) ≡ zero = ap length (chain-end next) in
+    let none : length (chain next zero) ≡ zero = ap length (chain_end next) in
     omega (arith, ap (λ k. length (chain next k)) z)
 
 -- GOING ALONG A CHAIN
 
 -- the uses on the chain from an entry on, and after them those passed, the last passed first, are the uses of the edge
 abbrev pub Along : List Use → List ℕ → ℕ → ℕ → List ℕ → Type 0
-Along us nexts e i passed = reverse_aux (chain (nextUse nexts) i) passed ≡ usesOfEdge us e
+Along us nexts e i passed = reverse_aux (chain (next_use nexts) i) passed ≡ uses_of_edge us e
 
-pub along-none : (us : List Use) (firsts nexts : List ℕ) → Linked us firsts nexts → (e i : ℕ) → e < length firsts → i ≡ get_or firsts e 0 → Along us nexts e i []
-along-none us firsts nexts l e i lt q = ap (λ k. backwards (chain (nextUse nexts) k)) q ∙ ap backwards (l.chains e lt) ∙ reverse-reverse (usesOfEdge us e)
+pub along_none : (us : List Use) (firsts nexts : List ℕ) → Linked us firsts nexts → (e i : ℕ) → e < length firsts → i ≡ get_or firsts e 0 → Along us nexts e i []
+along_none us firsts nexts l e i lt q = ap (λ k. backwards (chain (next_use nexts) k)) q ∙ ap backwards (l.chains e lt) ∙ reverse-reverse (uses_of_edge us e)
 
-pub along-more : (us : List Use) (nexts : List ℕ) → Falling (nextUse nexts) → (e i j : ℕ) (passed : List ℕ) → Along us nexts e i passed → 0 < i → j ≡ get_or nexts (i - 1) 0
+pub along_more : (us : List Use) (nexts : List ℕ) → Falling (next_use nexts) → (e i j : ℕ) (passed : List ℕ) → Along us nexts e i passed → 0 < i → j ≡ get_or nexts (i - 1) 0
     → Along us nexts e j ((i - 1) ∷ passed)
-along-more us nexts f e i j passed a h q =
-    ap (λ k. reverse_aux (chain (nextUse nexts) k) ((i - 1) ∷ passed)) q ∙ sym (ap (λ l. reverse_aux l passed) (chain-more (nextUse nexts) f i h)) ∙ a
+along_more us nexts f e i j passed a h q =
+    ap (λ k. reverse_aux (chain (next_use nexts) k) ((i - 1) ∷ passed)) q ∙ sym (ap (λ l. reverse_aux l passed) (chain_more (next_use nexts) f i h)) ∙ a
 
-pub along-all : (us : List Use) (nexts : List ℕ) (e i : ℕ) (passed : List ℕ) → Along us nexts e i passed → i ≤ 0 → passed ≡ usesOfEdge us e
-along-all us nexts e i passed a h =
+pub along_all : (us : List Use) (nexts : List ℕ) (e i : ℕ) (passed : List ℕ) → Along us nexts e i passed → i ≤ 0 → passed ≡ uses_of_edge us e
+along_all us nexts e i passed a h =
     let z : i ≡ zero = omega arith in
-    sym (ap (λ k. reverse_aux (chain (nextUse nexts) k) passed) z ∙ ap (λ l. reverse_aux l passed) (chain-end (nextUse nexts))) ∙ a
+    sym (ap (λ k. reverse_aux (chain (next_use nexts) k) passed) z ∙ ap (λ l. reverse_aux l passed) (chain_end (next_use nexts))) ∙ a

@@ -4,17 +4,17 @@
 #![tactic(auto)]
 
 ghost use Rattle.std.specs.Prelude.{◌≡◌, ◌≤◌, length, replicate};
-ghost use Rattle.uses.specs.Table.{usesIn};
+ghost use Rattle.uses.specs.Table.{uses_in};
 ghost use Rattle.fields.specs.Chains.{Falling};
-ghost use Rattle.edge_uses.specs.Links.{nextUse, usesOn, Linked};
+ghost use Rattle.edge_uses.specs.Links.{next_use, uses_on, Linked};
 
 use fields::{get, put};
 use uses::use_edge;
 
 // The chains of all uses; each chain is empty at first.
 pub fn link(uses: &[u32], firsts: &mut [u32], nexts: &mut [u32])
-    requires { (firsts.old ≡ replicate (length firsts.old) 0) × (length nexts.old ≡ length (usesIn uses.now)) × (length nexts.old ≤ 2048) }
-    ensures { Linked (usesIn uses.now) firsts.new nexts.new }
+    requires { (firsts.old ≡ replicate (length firsts.old) 0) × (length nexts.old ≡ length (uses_in uses.now)) × (length nexts.old ≤ 2048) }
+    ensures { Linked (uses_in uses.now) firsts.new nexts.new }
 {
     let mut h = 0;
     while h < nexts.len() {
@@ -27,8 +27,8 @@ pub fn link(uses: &[u32], firsts: &mut [u32], nexts: &mut [u32])
 
 // How many uses an edge has.
 pub fn count_of(firsts: &[u32], nexts: &[u32], e: usize) -> usize
-    requires { Falling (nextUse nexts.now) }
-    ensures { result ≡ length (usesOn firsts.now nexts.now e) }
+    requires { Falling (next_use nexts.now) }
+    ensures { result ≡ length (uses_on firsts.now nexts.now e) }
 {
     let mut n: usize = 0;
     let mut i = get(firsts, e);

@@ -7,56 +7,56 @@ use Rattle.rules.specs.declared.Sense.{Sense}
 use Rattle.rules.specs.declared.Item.{Item}
 use Rattle.rules.specs.declared.Use.{Use}
 use Rattle.rules.specs.declared.EdgeData.{EdgeData}
-use Rattle.rules.specs.Sense.{senseOf, senseNumber}
-use Rattle.rules.specs.Read.{useAt}
-use Rattle.rules.specs.Merge.{mergedFaceOf}
+use Rattle.rules.specs.Sense.{sense_of, sense_number}
+use Rattle.rules.specs.Read.{use_at}
+use Rattle.rules.specs.Merge.{merged_face_of}
 use Rattle.rules.specs.Edges.{FaceLoop}
 
 -- an edge by its seven numbers: curve, sense, start, end, the two faces, 1 for active
-unfoldable pub edgeOf : (ℕ → ℕ) → EdgeData
-edgeOf n = record { curve = n 0; sense = senseOf (n 1); start = n 2; end = n 3; faces = n 4 ∷ n 5 ∷ []; active = eqb (n 6) 1 }
+unfoldable pub edge_of : (ℕ → ℕ) → EdgeData
+edge_of n = record { curve = n 0; sense = sense_of (n 1); start = n 2; end = n 3; faces = n 4 ∷ n 5 ∷ []; active = eqb (n 6) 1 }
 
 -- the numbers of an edge
-unfoldable pub lineOf : ℕ → Sense → ℕ → ℕ → List ℕ
-lineOf curve sense start end = curve ∷ senseNumber sense ∷ start ∷ end ∷ []
+unfoldable pub line_of : ℕ → Sense → ℕ → ℕ → List ℕ
+line_of curve sense start end = curve ∷ sense_number sense ∷ start ∷ end ∷ []
 
-unfoldable pub sidesOf : ℕ → ℕ → Bool → List ℕ
-sidesOf low high active = low ∷ high ∷ cond active 1 0 ∷ []
+unfoldable pub sides_of : ℕ → ℕ → Bool → List ℕ
+sides_of low high active = low ∷ high ∷ cond active 1 0 ∷ []
 
-unfoldable pub numbersOf : EdgeData → List ℕ
-numbersOf x = lineOf x.curve x.sense x.start x.end ++ sidesOf (get_or x.faces 0 0) (get_or x.faces 1 0) x.active
+unfoldable pub numbers_of : EdgeData → List ℕ
+numbers_of x = line_of x.curve x.sense x.start x.end ++ sides_of (get_or x.faces 0 0) (get_or x.faces 1 0) x.active
 
 -- edge e of a table
-abbrev pub rowIn : List ℕ → ℕ → EdgeData
-rowIn t e = edgeOf (λ k. get_or t (7 * e + k) 0)
+abbrev pub row_in : List ℕ → ℕ → EdgeData
+row_in t e = edge_of (λ k. get_or t (7 * e + k) 0)
 
 -- the edges of a table
-unfoldable pub rowsIn : List ℕ → List EdgeData
-rowsIn t = map (rowIn t) (below (length t / 7))
+unfoldable pub rows_in : List ℕ → List EdgeData
+rows_in t = map (row_in t) (below (length t / 7))
 
 -- the table with edge e stored
-unfoldable pub withRow : List ℕ → ℕ → EdgeData → List ℕ
-withRow t e x = sets t (7 * e) (numbersOf x)
+unfoldable pub with_row : List ℕ → ℕ → EdgeData → List ℕ
+with_row t e x = sets t (7 * e) (numbers_of x)
 
 -- an item as a number: twice its edge, and one more where it is Reversed
-abbrev pub itemIn : ℕ → Item
-itemIn x = record { edge = x / 2; sense = senseOf (x % 2) }
+abbrev pub item_in : ℕ → Item
+item_in x = record { edge = x / 2; sense = sense_of (x % 2) }
 
 -- a use as such a number, from the table of the uses' edges
-unfoldable pub itemCode : List Use → List ℕ → ℕ → ℕ
-itemCode us owns h = 2 * get_or owns h 0 + senseNumber (useAt us h).sense
+unfoldable pub item_code : List Use → List ℕ → ℕ → ℕ
+item_code us owns h = 2 * get_or owns h 0 + sense_number (use_at us h).sense
 
 -- loop k of a list: its start and its end stand one after the other in the table of stretches
-abbrev pub loopAt : List ℕ → List ℕ → ℕ → List ℕ
-loopAt l stretches k = stretch l (get_or stretches (2 * k) 0) (get_or stretches (2 * k + 1) 0)
+abbrev pub loop_at : List ℕ → List ℕ → ℕ → List ℕ
+loop_at l stretches k = stretch l (get_or stretches (2 * k) 0) (get_or stretches (2 * k + 1) 0)
 
 -- the merged face of loop k, where it is given by its uses
-abbrev pub loopFace : List Use → List ℕ → List ℕ → List ℕ → ℕ → ℕ
-loopFace us numbers ways stretches k = mergedFaceOf us numbers (get_or (loopAt ways stretches k) 0 0)
+abbrev pub loop_face : List Use → List ℕ → List ℕ → List ℕ → ℕ → ℕ
+loop_face us numbers ways stretches k = merged_face_of us numbers (get_or (loop_at ways stretches k) 0 0)
 
 -- the loops by their faces and items
-unfoldable pub faceLoopsIn : List ℕ → List ℕ → List ℕ → List FaceLoop
-faceLoopsIn items stretches faces = map (λ k. record { face = get_or faces k 0; items = map itemIn (loopAt items stretches k) }) (below (length faces))
+unfoldable pub face_loops_in : List ℕ → List ℕ → List ℕ → List FaceLoop
+face_loops_in items stretches faces = map (λ k. record { face = get_or faces k 0; items = map item_in (loop_at items stretches k) }) (below (length faces))
 
 -- the loops lie one after the other in a list of so many items
 pub record Laid (stretches items : List ℕ) : Type 0 where

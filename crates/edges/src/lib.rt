@@ -5,15 +5,15 @@
 
 ghost use Rattle.std.specs.Prelude.{◌≡◌, ℕ, ◌+◌, ◌*◌, ◌<◌, ◌≤◌, ◌^◌, min, max, [], ◌∷◌, map, cond, length, get_or};
 ghost use Rattle.std.proofs.lemmas.List.Edits.{sets};
-ghost use Rattle.rules.specs.Join.{edgeDataAt};
+ghost use Rattle.rules.specs.Join.{edge_data_at};
 ghost use Rattle.rules.specs.Job.{unset};
-ghost use Rattle.rules.specs.Groups.{labelOf};
-ghost use Rattle.rules.specs.Pair.{twinOf};
+ghost use Rattle.rules.specs.Groups.{label_of};
+ghost use Rattle.rules.specs.Pair.{twin_of};
 ghost use Rattle.lists.specs.Lists.{below};
-ghost use Rattle.rules.specs.Edges.{lowerKept, facePair, edgeData};
-ghost use Rattle.job.specs.Lists.{edgesIn};
-ghost use Rattle.uses.specs.Table.{usesIn};
-ghost use Rattle.edges.specs.Table.{lineOf, sidesOf, rowsIn, withRow, itemCode, loopAt, loopFace};
+ghost use Rattle.rules.specs.Edges.{lower_kept, face_pair, edge_data};
+ghost use Rattle.job.specs.Lists.{edges_in};
+ghost use Rattle.uses.specs.Table.{uses_in};
+ghost use Rattle.edges.specs.Table.{line_of, sides_of, rows_in, with_row, item_code, loop_at, loop_face};
 ghost use Rattle.edges.specs.Made.{OneEdge, Made};
 
 use fields::{UNSET, get, is_set, put};
@@ -32,7 +32,7 @@ fn number(rows: &[u32], e: usize, k: usize) -> u32
 
 // Edge e.
 pub fn edge_at(rows: &[u32], e: usize) -> EdgeData
-    ensures { result ≡ edgeDataAt (rowsIn rows.now) e }
+    ensures { result ≡ edge_data_at (rows_in rows.now) e }
 {
     if e < rows.len() / 7 {
         let curve = number(rows, e, 0);
@@ -62,7 +62,7 @@ pub fn edge_at(rows: &[u32], e: usize) -> EdgeData
 
 // Where edge e starts.
 pub fn edge_start(rows: &[u32], e: usize) -> usize
-    ensures { (result ≡ (edgeDataAt (rowsIn rows.now) e).start) × (result < 4294967296) }
+    ensures { (result ≡ (edge_data_at (rows_in rows.now) e).start) × (result < 4294967296) }
 {
     if e < rows.len() / 7 {
         return get(rows, 7 * e + 2);
@@ -72,7 +72,7 @@ pub fn edge_start(rows: &[u32], e: usize) -> usize
 
 // Where edge e ends.
 pub fn edge_end(rows: &[u32], e: usize) -> usize
-    ensures { (result ≡ (edgeDataAt (rowsIn rows.now) e).end) × (result < 4294967296) }
+    ensures { (result ≡ (edge_data_at (rows_in rows.now) e).end) × (result < 4294967296) }
 {
     if e < rows.len() / 7 {
         return get(rows, 7 * e + 3);
@@ -82,7 +82,7 @@ pub fn edge_end(rows: &[u32], e: usize) -> usize
 
 // No join has taken edge e.
 pub fn edge_active(rows: &[u32], e: usize) -> bool
-    ensures { result ≡ (edgeDataAt (rowsIn rows.now) e).active }
+    ensures { result ≡ (edge_data_at (rows_in rows.now) e).active }
 {
     if e < rows.len() / 7 {
         return get(rows, 7 * e + 6) == 1;
@@ -103,7 +103,7 @@ fn flag_number(b: bool) -> usize
 // The first four numbers of edge e are stored.
 fn put_line(rows: &mut [u32], e: usize, curve: u32, sense: Sense, start: u32, end: u32)
     requires { e < 2 ^ 60 }
-    ensures { rows.new ≡ sets rows.old (7 * e) (lineOf curve sense start end) }
+    ensures { rows.new ≡ sets rows.old (7 * e) (line_of curve sense start end) }
 {
     put(rows, 7 * e, curve as usize);
     put(rows, 7 * e + 1, job::sense_number(sense));
@@ -114,7 +114,7 @@ fn put_line(rows: &mut [u32], e: usize, curve: u32, sense: Sense, start: u32, en
 // The last three numbers of edge e are stored.
 fn put_sides(rows: &mut [u32], e: usize, low: u32, high: u32, active: bool)
     requires { e < 2 ^ 60 }
-    ensures { rows.new ≡ sets rows.old (7 * e + 4) (sidesOf low high active) }
+    ensures { rows.new ≡ sets rows.old (7 * e + 4) (sides_of low high active) }
 {
     put(rows, 7 * e + 4, low as usize);
     put(rows, 7 * e + 5, high as usize);
@@ -124,7 +124,7 @@ fn put_sides(rows: &mut [u32], e: usize, low: u32, high: u32, active: bool)
 // Edge e is stored.
 pub fn put_edge(rows: &mut [u32], e: usize, x: EdgeData)
     requires { e < 2 ^ 60 }
-    ensures { rows.new ≡ withRow rows.old e x }
+    ensures { rows.new ≡ with_row rows.old e x }
 {
     let sense = x.sense;
     let faces = x.faces;
@@ -136,7 +136,7 @@ pub fn put_edge(rows: &mut [u32], e: usize, x: EdgeData)
 
 // Use h is kept and the lower of its pair.
 fn is_lower(twins: &[u32], removed: &[bool], h: usize) -> bool
-    ensures { result ≡ lowerKept twins.now removed.now h }
+    ensures { result ≡ lower_kept twins.now removed.now h }
 {
     if is_set(removed, h) {
         return false;
@@ -157,7 +157,7 @@ fn ascending(a: usize, b: usize) -> [u32; 2]
 
 // The merged faces beside use h.
 fn faces_beside(uses: &[u32], twins: &[u32], numbers: &[u32], h: usize) -> [u32; 2]
-    ensures { result ≡ facePair (usesIn uses.now) twins.now numbers.now h }
+    ensures { result ≡ face_pair (uses_in uses.now) twins.now numbers.now h }
 {
     let pair = uses::pair_of(uses, h, get(twins, h));
     let u = uses::of_two(pair, 0);
@@ -169,7 +169,7 @@ fn faces_beside(uses: &[u32], twins: &[u32], numbers: &[u32], h: usize) -> [u32;
 
 // The fan of use h, or none.
 fn fan_or_none(none: bool, fans: &[u32], h: usize) -> u32
-    ensures { result ≡ cond none unset (labelOf fans.now h) }
+    ensures { result ≡ cond none unset (label_of fans.now h) }
 {
     if none {
         return 4294967295;
@@ -189,7 +189,7 @@ fn edge_of(
     h: usize,
 ) -> EdgeData
     requires { (c.vertices ≤ 1024) × (c.edges ≤ 1024) × (h < length succ.now) }
-    ensures { result ≡ edgeData (edgesIn job.now c) (usesIn uses.now) twins.now numbers.now succ.now fans.now h }
+    ensures { result ≡ edge_data (edges_in job.now c) (uses_in uses.now) twins.now numbers.now succ.now fans.now h }
 {
     let e = use_edge(uses, h);
     let curve = job::edge_curve(job, c, e) as u32;
@@ -235,7 +235,7 @@ fn add_edge(
     count: usize,
 ) -> usize
     requires { (c.vertices ≤ 1024) × (c.edges ≤ 1024) × (h < length succ.now) × (count < 2048) }
-    ensures { OneEdge (lowerKept twins.now removed.now h) (edgeData (edgesIn job.now c) (usesIn uses.now) twins.now numbers.now succ.now fans.now h) (twinOf twins.now h) h count rows.old owns.old rows.new owns.new result }
+    ensures { OneEdge (lower_kept twins.now removed.now h) (edge_data (edges_in job.now c) (uses_in uses.now) twins.now numbers.now succ.now fans.now h) (twin_of twins.now h) h count rows.old owns.old rows.new owns.new result }
 {
     if is_lower(twins, removed, h) {
         let x = edge_of(job, c, uses, twins, numbers, succ, fans, h);
@@ -262,7 +262,7 @@ pub fn edges(
     owns: &mut [u32],
 ) -> usize
     requires { (c.vertices ≤ 1024) × (c.edges ≤ 1024) × (length twins.now ≤ 2048) × (length succ.now ≡ length twins.now) × (length owns.old ≡ length twins.now) × (7 * length twins.now ≤ length rows.old) }
-    ensures { Made (edgesIn job.now c) (usesIn uses.now) twins.now removed.now numbers.now succ.now fans.now owns.old rows.new owns.new result }
+    ensures { Made (edges_in job.now c) (uses_in uses.now) twins.now removed.now numbers.now succ.now fans.now owns.old rows.new owns.new result }
 {
     let mut count: usize = 0;
     let mut h: usize = 0;
@@ -280,7 +280,7 @@ pub fn edges(
 // Use h as an item.
 fn item_of(uses: &[u32], owns: &[u32], h: usize) -> usize
     requires { (k : ℕ) → get_or owns.now k 0 ≤ 2048 }
-    ensures { (result ≡ itemCode (usesIn uses.now) owns.now h) × (result < 4294967296) }
+    ensures { (result ≡ item_code (uses_in uses.now) owns.now h) × (result < 4294967296) }
 {
     let e = get(owns, h);
     let s = job::sense_number(use_sense(uses, h));
@@ -290,7 +290,7 @@ fn item_of(uses: &[u32], owns: &[u32], h: usize) -> usize
 // The uses of the loops become items in their places.
 pub fn items(uses: &[u32], owns: &[u32], ways: &mut [u32])
     requires { (k : ℕ) → get_or owns.now k 0 ≤ 2048 }
-    ensures { ways.new ≡ map (itemCode (usesIn uses.now) owns.now) ways.old }
+    ensures { ways.new ≡ map (item_code (uses_in uses.now) owns.now) ways.old }
 {
     let mut i: usize = 0;
     while i < ways.len() {
@@ -304,7 +304,7 @@ pub fn items(uses: &[u32], owns: &[u32], ways: &mut [u32])
 // The first use of loop k; of an empty one, 0.
 fn first_use(ways: &[u32], stretches: &[u32], k: usize) -> usize
     requires { k < 2 ^ 62 }
-    ensures { result ≡ get_or (loopAt ways.now stretches.now k) 0 0 }
+    ensures { result ≡ get_or (loop_at ways.now stretches.now k) 0 0 }
 {
     let a = get(stretches, 2 * k);
     let e = get(stretches, 2 * k + 1);
@@ -316,7 +316,7 @@ fn first_use(ways: &[u32], stretches: &[u32], k: usize) -> usize
 
 // The merged face of each loop, by its first use.
 pub fn loop_faces(uses: &[u32], numbers: &[u32], ways: &[u32], stretches: &[u32], faces: &mut [u32])
-    ensures { faces.new ≡ map (loopFace (usesIn uses.now) numbers.now ways.now stretches.now) (below (length faces.old)) }
+    ensures { faces.new ≡ map (loop_face (uses_in uses.now) numbers.now ways.now stretches.now) (below (length faces.old)) }
 {
     let mut k: usize = 0;
     while k < faces.len() {

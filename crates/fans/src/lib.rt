@@ -3,9 +3,9 @@
 #![tactic(auto)]
 
 ghost use Rattle.std.specs.Prelude.{◌≡◌, List, ℕ, ◌+◌, ◌≤◌, ◌<◌, length, take};
-ghost use Rattle.rules.specs.Fans.{keptWithEnds, fanStep, fans as fansOf, namesFan, fanNames, startPoints};
-ghost use Rattle.job.specs.Lists.{pointsIn, edgesIn};
-ghost use Rattle.uses.specs.Table.{usesIn};
+ghost use Rattle.rules.specs.Fans.{kept_with_ends, fan_step, fans as fans_of, names_fan, fan_names, start_points};
+ghost use Rattle.job.specs.Lists.{points_in, edges_in};
+ghost use Rattle.uses.specs.Table.{uses_in};
 ghost use Rattle.groups.specs.Parents.{Ordered, Stands};
 ghost use Rattle.fans.specs.Naming.{Naming};
 
@@ -16,7 +16,7 @@ use rules::Counts;
 // Use h is kept and has ends.
 pub fn kept_with_ends(job: &[u8], c: Counts, uses: &[u32], removed: &[bool], h: usize) -> bool
     requires { (c.vertices ≤ 1024) × (c.edges ≤ 1024) }
-    ensures { result ≡ keptWithEnds (edgesIn job.now c) (usesIn uses.now) removed.now h }
+    ensures { result ≡ kept_with_ends (edges_in job.now c) (uses_in uses.now) removed.now h }
 {
     if is_set(removed, h) {
         return false;
@@ -41,7 +41,7 @@ fn fan_step(
     h: usize,
 )
     requires { (c.vertices ≤ 1024) × (c.edges ≤ 1024) × (h < length succ.now) × Ordered labels.old }
-    ensures { (g : List ℕ) → Stands labels.old g → Stands labels.new (fanStep (edgesIn job.now c) (usesIn uses.now) twins.now removed.now succ.now g h) }
+    ensures { (g : List ℕ) → Stands labels.old g → Stands labels.new (fan_step (edges_in job.now c) (uses_in uses.now) twins.now removed.now succ.now g h) }
 {
     if kept_with_ends(job, c, uses, removed, h) {
         let s = get(succ, h);
@@ -60,8 +60,8 @@ pub fn fans(
     succ: &[u32],
     labels: &mut [u32],
 )
-    requires { (c.vertices ≤ 1024) × (c.edges ≤ 1024) × (length succ.now ≡ length (usesIn uses.now)) × (length labels.old ≡ length (usesIn uses.now)) × (length (usesIn uses.now) ≤ 2048) }
-    ensures { labels.new ≡ fansOf (edgesIn job.now c) (usesIn uses.now) twins.now removed.now succ.now }
+    requires { (c.vertices ≤ 1024) × (c.edges ≤ 1024) × (length succ.now ≡ length (uses_in uses.now)) × (length labels.old ≡ length (uses_in uses.now)) × (length (uses_in uses.now) ≤ 2048) }
+    ensures { labels.new ≡ fans_of (edges_in job.now c) (uses_in uses.now) twins.now removed.now succ.now }
 {
     groups::alone(labels);
     let mut h: usize = 0;
@@ -77,7 +77,7 @@ pub fn fans(
 // Use h names a fan.
 fn names_fan(job: &[u8], c: Counts, uses: &[u32], removed: &[bool], fans: &[u32], h: usize) -> bool
     requires { (c.vertices ≤ 1024) × (c.edges ≤ 1024) }
-    ensures { result ≡ namesFan (edgesIn job.now c) (usesIn uses.now) removed.now fans.now h }
+    ensures { result ≡ names_fan (edges_in job.now c) (uses_in uses.now) removed.now fans.now h }
 {
     if get(fans, h) != h {
         return false;
@@ -96,8 +96,8 @@ fn name_use(
     count: usize,
     h: usize,
 ) -> usize
-    requires { (c.vertices ≤ 1024) × (c.edges ≤ 1024) × (h < length names.old) × (length names.old ≤ 2048) × Naming (namesFan (edgesIn job.now c) (usesIn uses.now) removed.now fans.now) names.old count h }
-    ensures { Naming (namesFan (edgesIn job.now c) (usesIn uses.now) removed.now fans.now) names.new result (h + 1) }
+    requires { (c.vertices ≤ 1024) × (c.edges ≤ 1024) × (h < length names.old) × (length names.old ≤ 2048) × Naming (names_fan (edges_in job.now c) (uses_in uses.now) removed.now fans.now) names.old count h }
+    ensures { Naming (names_fan (edges_in job.now c) (uses_in uses.now) removed.now fans.now) names.new result (h + 1) }
 {
     if names_fan(job, c, uses, removed, fans, h) {
         put(names, count, h);
@@ -115,8 +115,8 @@ pub fn fan_names(
     fans: &[u32],
     names: &mut [u32],
 ) -> usize
-    requires { (c.vertices ≤ 1024) × (c.edges ≤ 1024) × (length names.old ≡ length (usesIn uses.now)) × (length (usesIn uses.now) ≤ 2048) }
-    ensures { (take result names.new ≡ fanNames (edgesIn job.now c) (usesIn uses.now) removed.now fans.now) × (result ≤ length (usesIn uses.now)) }
+    requires { (c.vertices ≤ 1024) × (c.edges ≤ 1024) × (length names.old ≡ length (uses_in uses.now)) × (length (uses_in uses.now) ≤ 2048) }
+    ensures { (take result names.new ≡ fan_names (edges_in job.now c) (uses_in uses.now) removed.now fans.now) × (result ≤ length (uses_in uses.now)) }
 {
     let mut count: usize = 0;
     let mut h: usize = 0;
@@ -131,8 +131,8 @@ pub fn fan_names(
 
 // The point where each use starts.
 pub fn start_points(job: &[u8], c: Counts, uses: &[u32], starts: &mut [u32])
-    requires { (c.vertices ≤ 1024) × (c.edges ≤ 1024) × (length starts.old ≡ length (usesIn uses.now)) }
-    ensures { starts.new ≡ startPoints (pointsIn job.now c) (edgesIn job.now c) (usesIn uses.now) }
+    requires { (c.vertices ≤ 1024) × (c.edges ≤ 1024) × (length starts.old ≡ length (uses_in uses.now)) }
+    ensures { starts.new ≡ start_points (points_in job.now c) (edges_in job.now c) (uses_in uses.now) }
 {
     let mut h: usize = 0;
     while h < starts.len() {

@@ -8,28 +8,28 @@ abbrev pub Wrote : List ℕ → ℕ → List ℕ → List ℕ → ℕ → Type 0
 Wrote before at bytes after next = (after ≡ sets before at bytes) × (next ≡ at + length bytes)
 
 -- nothing written
-pub wrote-none : (l : List ℕ) (at : ℕ) → Wrote l at [] l at
-wrote-none l at = (refl, omega arith)
+pub wrote_none : (l : List ℕ) (at : ℕ) → Wrote l at [] l at
+wrote_none l at = (refl, omega arith)
 
-pub sets-append : (l : List ℕ) (at : ℕ) (xs ys : List ℕ) → sets (sets l at xs) (at + length xs) ys ≡ sets l at (xs ++ ys)
-sets-append l at [] ys = let e : at + 0 ≡ at = omega arith in ap (λ k. sets l k ys) e
-sets-append l at (x ∷ xs) ys =
+pub sets_append : (l : List ℕ) (at : ℕ) (xs ys : List ℕ) → sets (sets l at xs) (at + length xs) ys ≡ sets l at (xs ++ ys)
+sets_append l at [] ys = let e : at + 0 ≡ at = omega arith in ap (λ k. sets l k ys) e
+sets_append l at (x ∷ xs) ys =
     let e : at + suc (length xs) ≡ suc at + length xs = omega arith in
-    ap (λ k. sets (sets (set l at x) (suc at) xs) k ys) e ∙ sets-append (set l at x) (suc at) xs ys
+    ap (λ k. sets (sets (set l at x) (suc at) xs) k ys) e ∙ sets_append (set l at x) (suc at) xs ys
 
 -- one after the other
-pub wrote-more : (before mid after xs ys : List ℕ) (at p next : ℕ) → Wrote before at xs mid p → Wrote mid p ys after next → Wrote before at (xs ++ ys) after next
-wrote-more before mid after xs ys at p next a b = (
-  b.0 ∙ (λ i. sets (a.0 i) (a.1 i) ys) ∙ sets-append before at xs ys,
+pub wrote_more : (before mid after xs ys : List ℕ) (at p next : ℕ) → Wrote before at xs mid p → Wrote mid p ys after next → Wrote before at (xs ++ ys) after next
+wrote_more before mid after xs ys at p next a b = (
+  b.0 ∙ (λ i. sets (a.0 i) (a.1 i) ys) ∙ sets_append before at xs ys,
   omega (arith, a.1, b.1, length-append xs ys),
 )
 
 -- one byte, two, and four, stored one after the other
-pub two-stores : (o a b : List ℕ) (p x y : ℕ) → a ≡ set o p x → b ≡ set a (p + 1) y → b ≡ sets o p (x ∷ y ∷ [])
-two-stores o a b p x y ea eb = eb ∙ (λ i. set (ea i) (add-one p i) y)
+pub two_stores : (o a b : List ℕ) (p x y : ℕ) → a ≡ set o p x → b ≡ set a (p + 1) y → b ≡ sets o p (x ∷ y ∷ [])
+two_stores o a b p x y ea eb = eb ∙ (λ i. set (ea i) (add-one p i) y)
 
-pub four-stores : (o a b c d : List ℕ) (p x y z w : ℕ) → a ≡ set o p x → b ≡ set a (p + 1) y → c ≡ set b (p + 2) z → d ≡ set c (p + 3) w
+pub four_stores : (o a b c d : List ℕ) (p x y z w : ℕ) → a ≡ set o p x → b ≡ set a (p + 1) y → c ≡ set b (p + 2) z → d ≡ set c (p + 3) w
     → d ≡ sets o p (x ∷ y ∷ z ∷ w ∷ [])
-four-stores o a b c d p x y z w ea eb ec ed =
+four_stores o a b c d p x y z w ea eb ec ed =
     ed ∙ (λ i. set (ec i) (add-three p i) w) ∙ (λ i. set (set (eb i) (add-two p i) z) (suc (suc (suc p))) w)
     ∙ (λ i. set (set (set (ea i) (add-one p i) y) (suc (suc p)) z) (suc (suc (suc p))) w)

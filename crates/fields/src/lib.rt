@@ -5,7 +5,7 @@
 
 ghost use Rattle.std.specs.Prelude.{◌≡◌, ◌+◌, ◌*◌, ◌<◌, ◌^◌, ◌++◌, false, length, get_or, set};
 ghost use Rattle.std.proofs.lemmas.List.Edits.{sets};
-ghost use Rattle.rules.specs.Fields.{le16, le32, bytes16, bytes32, fieldBytes};
+ghost use Rattle.rules.specs.Fields.{le16, le32, bytes16, bytes32, field_bytes};
 ghost use Rattle.fields.specs.Wrote.{Wrote};
 
 // The mark for no vertex, no fan, no twin.
@@ -167,7 +167,7 @@ pub fn put_head(out: &mut [u8], at: usize, kind: usize, fields: usize) -> usize
 // The numbers of a table as four-byte fields at a place; gives the place after them.
 pub fn put_table(out: &mut [u8], at: usize, t: &[u32]) -> usize
     requires { at + 4 * length t.now < 2 ^ 60 }
-    ensures { Wrote out.old at (fieldBytes t.now) out.new result }
+    ensures { Wrote out.old at (field_bytes t.now) out.new result }
 {
     let mut p = at;
     let mut i = 0;

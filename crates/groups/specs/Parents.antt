@@ -1,6 +1,6 @@
 -- Groups as a table of parents: which labels it stands for, also past its end, where a number reads as 0.
 use Rattle.std.specs.Prelude.{ℕ, ◌≤◌, ◌<◌, ◌≡◌, List, ◌++◌, Bool, length, get_or, replicate}
-use Rattle.rules.specs.Groups.{labelOf, joined, separate}
+use Rattle.rules.specs.Groups.{label_of, joined, separate}
 
 -- no parent lies above its number
 pub record Ordered (parents : List ℕ) : Type 0 where
@@ -10,15 +10,15 @@ pub record Ordered (parents : List ℕ) : Type 0 where
 pub record Stands (parents ls : List ℕ) : Type 0 where
   pub size : length ls ≡ length parents
   pub ordered : Ordered parents
-  pub up : (i : ℕ) → labelOf ls (get_or parents i 0) ≡ labelOf ls i
-  pub top : (i : ℕ) → get_or parents i 0 ≡ i → labelOf ls i ≡ i
+  pub up : (i : ℕ) → label_of ls (get_or parents i 0) ≡ label_of ls i
+  pub top : (i : ℕ) → get_or parents i 0 ≡ i → label_of ls i ≡ i
 
 -- a root was looked for: the table stands for the same labels, and the root is the label
 pub record Rooted (before after : List ℕ) (start r : ℕ) : Type 0 where
   pub ordered : Ordered after
   pub size : length after ≡ length before
   pub small : r < 4294967296
-  pub stands : (ls : List ℕ) → Stands before ls → (r ≡ labelOf ls start) × Stands after ls
+  pub stands : (ls : List ℕ) → Stands before ls → (r ≡ label_of ls start) × Stands after ls
 
 -- the groups of two numbers were joined
 pub record JoinedIn (before after : List ℕ) (a b : ℕ) : Type 0 where

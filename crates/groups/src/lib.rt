@@ -5,7 +5,7 @@
 
 ghost use Rattle.std.specs.Prelude.{◌≡◌, List, map, ℕ, ◌-◌, ◌≤◌, length};
 ghost use Rattle.lists.specs.Lists.{below};
-ghost use Rattle.rules.specs.Groups.{alone as aloneOf, labelOf};
+ghost use Rattle.rules.specs.Groups.{alone as aloneOf, label_of};
 ghost use Rattle.groups.specs.Parents.{Ordered, Stands, Rooted, JoinedIn, SeparateIn, padded};
 
 use fields::{get, put};
@@ -106,7 +106,7 @@ pub fn join(g: &mut Groups, a: usize, b: usize) -> bool
 // Each number's label.
 pub fn labels_of(g: Groups, labels: &mut [u32])
     requires { Ordered g.parents }
-    ensures { (ls : List ℕ) → Stands g.parents ls → labels.new ≡ map (labelOf ls) (below (length labels.old)) }
+    ensures { (ls : List ℕ) → Stands g.parents ls → labels.new ≡ map (label_of ls) (below (length labels.old)) }
 {
     let mut groups = g;
     let mut i: usize = 0;

@@ -1,71 +1,71 @@
 -- The fields of a record as they stand in the bytes.
 use Rattle.std.specs.Prelude.{ℕ, zero, suc, ◌+◌, ◌*◌, ◌-◌, ◌/◌, ◌<◌, ◌≤◌, ◌≡◌, refl, List, ◌∷◌, length, get_or, take, drop}
 use Rattle.std.proofs.Common.{arith, sym, ap, ◌∙◌, get_or-drop, drop-drop}
-use Rattle.rules.specs.Sense.{senseOf}
-use Rattle.rules.specs.Fields.{le32, field, fieldsIn}
-use Rattle.rules.specs.Load.{faceOf}
-use Rattle.job.specs.Lists.{fieldsAt, faceIn}
+use Rattle.rules.specs.Sense.{sense_of}
+use Rattle.rules.specs.Fields.{le32, field, fields_in}
+use Rattle.rules.specs.Load.{face_of}
+use Rattle.job.specs.Lists.{fields_at, face_in}
 
 -- a field at a place of a suffix
-pub le32-drop : (n : ℕ) (s : List ℕ) (p : ℕ) → le32 (drop n s) p ≡ le32 s (n + p)
+pub le32_drop : (n : ℕ) (s : List ℕ) (p : ℕ) → le32 (drop n s) p ≡ le32 s (n + p)
 unfolding le32
-le32-drop n s p =
+le32_drop n s p =
     let one : n + (p + 1) ≡ n + p + 1 = omega arith in
     let two : n + (p + 2) ≡ n + p + 2 = omega arith in
     let three : n + (p + 3) ≡ n + p + 3 = omega arith in
     simp (get_or-drop, one, two, three)
 
-pub length-fields : (n : ℕ) (s : List ℕ) → length (fieldsIn n s) ≡ n
-unfolding fieldsIn
-length-fields zero s = refl
-length-fields (suc n) s = ap suc (length-fields n (drop 4 s))
+pub length_fields : (n : ℕ) (s : List ℕ) → length (fields_in n s) ≡ n
+unfolding fields_in
+length_fields zero s = refl
+length_fields (suc n) s = ap suc (length_fields n (drop 4 s))
 
-pub take-fields : (m n : ℕ) (s : List ℕ) → m ≤ n → take m (fieldsIn n s) ≡ fieldsIn m s
-unfolding fieldsIn
-take-fields zero n s h = refl
-take-fields (suc m) zero s h = absurd (omega arith)
-take-fields (suc m) (suc n) s h = ap {B = List ℕ} (λ l. le32 s 0 ∷ l) (take-fields m n (drop 4 s) (omega arith))
+pub take_fields : (m n : ℕ) (s : List ℕ) → m ≤ n → take m (fields_in n s) ≡ fields_in m s
+unfolding fields_in
+take_fields zero n s h = refl
+take_fields (suc m) zero s h = absurd (omega arith)
+take_fields (suc m) (suc n) s h = ap {B = List ℕ} (λ l. le32 s 0 ∷ l) (take_fields m n (drop 4 s) (omega arith))
 
-pub drop-fields : (m n : ℕ) (s : List ℕ) → drop m (fieldsIn n s) ≡ fieldsIn (n - m) (drop (4 * m) s)
-unfolding fieldsIn
-drop-fields zero n s = let e : n ≡ n - 0 = omega arith in ap (λ k. fieldsIn k s) e
-drop-fields (suc m) zero s = let e : 0 ≡ 0 - suc m = omega arith in ap (λ k. fieldsIn k (drop (4 * suc m) s)) e
-drop-fields (suc m) (suc n) s =
+pub drop_fields : (m n : ℕ) (s : List ℕ) → drop m (fields_in n s) ≡ fields_in (n - m) (drop (4 * m) s)
+unfolding fields_in
+drop_fields zero n s = let e : n ≡ n - 0 = omega arith in ap (λ k. fields_in k s) e
+drop_fields (suc m) zero s = let e : 0 ≡ 0 - suc m = omega arith in ap (λ k. fields_in k (drop (4 * suc m) s)) e
+drop_fields (suc m) (suc n) s =
     let e : n - m ≡ suc n - suc m = omega arith in
     let d : 4 + 4 * m ≡ 4 * suc m = omega arith in
-    drop-fields m n (drop 4 s) ∙ ap (fieldsIn (n - m)) (drop-drop (4 * m) 4 s) ∙ (λ i. fieldsIn (e i) (drop (d i) s))
+    drop_fields m n (drop 4 s) ∙ ap (fields_in (n - m)) (drop-drop (4 * m) 4 s) ∙ (λ i. fields_in (e i) (drop (d i) s))
 
 -- field i of those at the front of a suffix
-pub field-in : (n : ℕ) (s : List ℕ) (p i : ℕ) → i < n → get_or (fieldsIn n (drop p s)) i 0 ≡ le32 s (p + 4 * i)
-unfolding fieldsIn
-field-in zero s p i h = absurd (omega arith)
-field-in (suc n) s p zero h = le32-drop p s 0
-field-in (suc n) s p (suc i) h =
+pub field_in : (n : ℕ) (s : List ℕ) (p i : ℕ) → i < n → get_or (fields_in n (drop p s)) i 0 ≡ le32 s (p + 4 * i)
+unfolding fields_in
+field_in zero s p i h = absurd (omega arith)
+field_in (suc n) s p zero h = le32_drop p s 0
+field_in (suc n) s p (suc i) h =
     let e : p + 4 + 4 * i ≡ p + 4 * suc i = omega arith in
-    ap (λ t. get_or (fieldsIn n t) i 0) (drop-drop 4 p s) ∙ field-in n s (p + 4) i (omega arith) ∙ ap (le32 s) e
+    ap (λ t. get_or (fields_in n t) i 0) (drop-drop 4 p s) ∙ field_in n s (p + 4) i (omega arith) ∙ ap (le32 s) e
 
 -- field i of the record at a byte
-pub field-at : (bytes : List ℕ) (at i : ℕ) → i < le32 bytes at / 4 → get_or (fieldsAt bytes at) i 0 ≡ le32 bytes (at + 6 + 4 * i)
-unfolding fieldsAt
-field-at bytes at i h = field-in (le32 bytes at / 4) bytes (at + 6) i h
+pub field_at : (bytes : List ℕ) (at i : ℕ) → i < le32 bytes at / 4 → get_or (fields_at bytes at) i 0 ≡ le32 bytes (at + 6 + 4 * i)
+unfolding fields_at
+field_at bytes at i h = field_in (le32 bytes at / 4) bytes (at + 6) i h
 
 -- the face whose record stands at a byte, by its fields
-pub face-is : (bytes : List ℕ) (at : ℕ) → le32 bytes at / 4 ≡ 5 → faceIn bytes at ≡ faceOf (fieldsAt bytes at)
-unfolding faceIn
-face-is bytes at five =
-    let f : (i p : ℕ) → i < 5 → at + 6 + 4 * i ≡ p → le32 bytes p ≡ field (fieldsAt bytes at) i =
-    λ i p h e. ap (le32 bytes) (sym e) ∙ sym (field-at bytes at i (omega (arith, five, h))) in
+pub face_is : (bytes : List ℕ) (at : ℕ) → le32 bytes at / 4 ≡ 5 → face_in bytes at ≡ face_of (fields_at bytes at)
+unfolding face_in
+face_is bytes at five =
+    let f : (i p : ℕ) → i < 5 → at + 6 + 4 * i ≡ p → le32 bytes p ≡ field (fields_at bytes at) i =
+    λ i p h e. ap (le32 bytes) (sym e) ∙ sym (field_at bytes at i (omega (arith, five, h))) in
     let f0 = f 0 (at + 6) (omega arith) (omega arith) in
     let f1 = f 1 (at + 10) (omega arith) (omega arith) in
     let f2 = f 2 (at + 14) (omega arith) (omega arith) in
     let f3 = f 3 (at + 18) (omega arith) (omega arith) in
     let f4 = f 4 (at + 22) (omega arith) (omega arith) in
-    λ i. record { surface = f0 i; own = senseOf (f1 i); selected = senseOf (f2 i); body = f3 i; source = f4 i }
+    λ i. record { surface = f0 i; own = sense_of (f1 i); selected = sense_of (f2 i); body = f3 i; source = f4 i }
 
 -- the first fields of the record at a byte, one more in front
-pub fields-first : (n : ℕ) (s : List ℕ) (p : ℕ) → fieldsIn (suc n) (drop p s) ≡ le32 s p ∷ fieldsIn n (drop (p + 4) s)
-unfolding fieldsIn
-fields-first n s p =
+pub fields_first : (n : ℕ) (s : List ℕ) (p : ℕ) → fields_in (suc n) (drop p s) ≡ le32 s p ∷ fields_in n (drop (p + 4) s)
+unfolding fields_in
+fields_first n s p =
     let e : p + 0 ≡ p = omega arith in
-    let one : le32 (drop p s) 0 ≡ le32 s p = le32-drop p s 0 ∙ ap (le32 s) e in
-    λ i. one i ∷ fieldsIn n (drop-drop 4 p s i)
+    let one : le32 (drop p s) 0 ≡ le32 s p = le32_drop p s 0 ∙ ap (le32 s) e in
+    λ i. one i ∷ fields_in n (drop-drop 4 p s i)

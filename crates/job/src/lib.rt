@@ -4,12 +4,12 @@
 #![tactic(auto)]
 
 ghost use Rattle.std.specs.Prelude.{◌≡◌, ◌+◌, ◌*◌, ◌<◌, ◌≤◌, get_or};
-ghost use Rattle.rules.specs.Sense.{senseOf, senseNumber, sameSense, reverse as reversed, FourAnswers};
-ghost use Rattle.rules.specs.Job.{edgeAt, faceAt, startBy, endBy};
-ghost use Rattle.rules.specs.Read.{storedSense};
-ghost use Rattle.rules.specs.Kinds.{kindOf};
+ghost use Rattle.rules.specs.Sense.{sense_of, sense_number, same_sense, reverse as reversed, FourAnswers};
+ghost use Rattle.rules.specs.Job.{edge_at, face_at, start_by, end_by};
+ghost use Rattle.rules.specs.Read.{stored_sense};
+ghost use Rattle.rules.specs.Kinds.{kind_of};
 ghost use Rattle.rules.specs.Fields.{le16, le32};
-ghost use Rattle.job.specs.Lists.{pointsIn, edgesIn, facesIn, loopByte};
+ghost use Rattle.job.specs.Lists.{points_in, edges_in, faces_in, loop_byte};
 
 use fields::{UNSET, get, half, word};
 use rules::{Counts, Kind, Sense};
@@ -32,7 +32,7 @@ pub const OWNERS: usize = 6400;
 // SENSES AND KINDS
 
 pub fn sense_of(n: usize) -> Sense
-    ensures { result ≡ senseOf n }
+    ensures { result ≡ sense_of n }
 {
     if n == 0 {
         return Sense::Same;
@@ -41,7 +41,7 @@ pub fn sense_of(n: usize) -> Sense
 }
 
 pub fn sense_number(s: Sense) -> usize
-    ensures { (result ≡ senseNumber s) × (result < 2) }
+    ensures { (result ≡ sense_number s) × (result < 2) }
 {
     match s {
         Sense::Same => 0,
@@ -76,7 +76,7 @@ pub fn product(a: Sense, b: Sense) -> Sense
 }
 
 pub fn same_sense(a: Sense, b: Sense) -> bool
-    ensures { result ≡ sameSense a b }
+    ensures { result ≡ same_sense a b }
 {
     match a {
         Sense::Same => match b {
@@ -92,7 +92,7 @@ pub fn same_sense(a: Sense, b: Sense) -> bool
 
 // The kind of a record.
 pub fn kind_of(k: usize) -> Kind
-    ensures { result ≡ kindOf k }
+    ensures { result ≡ kind_of k }
 {
     match k {
         1 => Kind::Head,
@@ -117,7 +117,7 @@ pub fn kind_of(k: usize) -> Kind
 // The point of a vertex.
 pub fn point(job: &[u8], c: Counts, v: usize) -> usize
     requires { c.vertices ≤ 1024 }
-    ensures { (result ≡ get_or (pointsIn job.now c) v 0) × (result < 4294967296) }
+    ensures { (result ≡ get_or (points_in job.now c) v 0) × (result < 4294967296) }
 {
     if v < c.vertices {
         return word(job, 16 + 10 * v);
@@ -127,7 +127,7 @@ pub fn point(job: &[u8], c: Counts, v: usize) -> usize
 
 pub fn edge_curve(job: &[u8], c: Counts, e: usize) -> usize
     requires { (c.vertices ≤ 1024) × (c.edges ≤ 1024) }
-    ensures { (result ≡ (edgeAt (edgesIn job.now c) e).curve) × (result < 4294967296) }
+    ensures { (result ≡ (edge_at (edges_in job.now c) e).curve) × (result < 4294967296) }
 {
     if e < c.edges {
         return word(job, 16 + 10 * c.vertices + 22 * e);
@@ -137,7 +137,7 @@ pub fn edge_curve(job: &[u8], c: Counts, e: usize) -> usize
 
 pub fn edge_sense(job: &[u8], c: Counts, e: usize) -> Sense
     requires { (c.vertices ≤ 1024) × (c.edges ≤ 1024) }
-    ensures { result ≡ (edgeAt (edgesIn job.now c) e).sense }
+    ensures { result ≡ (edge_at (edges_in job.now c) e).sense }
 {
     if e < c.edges {
         return sense_of(word(job, 16 + 10 * c.vertices + 22 * e + 4));
@@ -147,7 +147,7 @@ pub fn edge_sense(job: &[u8], c: Counts, e: usize) -> Sense
 
 pub fn edge_start(job: &[u8], c: Counts, e: usize) -> usize
     requires { (c.vertices ≤ 1024) × (c.edges ≤ 1024) }
-    ensures { (result ≡ (edgeAt (edgesIn job.now c) e).start) × (result < 4294967296) }
+    ensures { (result ≡ (edge_at (edges_in job.now c) e).start) × (result < 4294967296) }
 {
     if e < c.edges {
         return word(job, 16 + 10 * c.vertices + 22 * e + 8);
@@ -157,7 +157,7 @@ pub fn edge_start(job: &[u8], c: Counts, e: usize) -> usize
 
 pub fn edge_end(job: &[u8], c: Counts, e: usize) -> usize
     requires { (c.vertices ≤ 1024) × (c.edges ≤ 1024) }
-    ensures { (result ≡ (edgeAt (edgesIn job.now c) e).end) × (result < 4294967296) }
+    ensures { (result ≡ (edge_at (edges_in job.now c) e).end) × (result < 4294967296) }
 {
     if e < c.edges {
         return word(job, 16 + 10 * c.vertices + 22 * e + 12);
@@ -168,7 +168,7 @@ pub fn edge_end(job: &[u8], c: Counts, e: usize) -> usize
 // The vertex where a sense of an edge starts, and where it ends.
 pub fn start_by(job: &[u8], c: Counts, e: usize, s: Sense) -> usize
     requires { (c.vertices ≤ 1024) × (c.edges ≤ 1024) }
-    ensures { (result ≡ startBy s (edgeAt (edgesIn job.now c) e)) × (result < 4294967296) }
+    ensures { (result ≡ start_by s (edge_at (edges_in job.now c) e)) × (result < 4294967296) }
 {
     match s {
         Sense::Same => edge_start(job, c, e),
@@ -178,7 +178,7 @@ pub fn start_by(job: &[u8], c: Counts, e: usize, s: Sense) -> usize
 
 pub fn end_by(job: &[u8], c: Counts, e: usize, s: Sense) -> usize
     requires { (c.vertices ≤ 1024) × (c.edges ≤ 1024) }
-    ensures { (result ≡ endBy s (edgeAt (edgesIn job.now c) e)) × (result < 4294967296) }
+    ensures { (result ≡ end_by s (edge_at (edges_in job.now c) e)) × (result < 4294967296) }
 {
     match s {
         Sense::Same => edge_end(job, c, e),
@@ -190,7 +190,7 @@ pub fn end_by(job: &[u8], c: Counts, e: usize, s: Sense) -> usize
 
 pub fn face_surface(job: &[u8], index: &[u32], c: Counts, f: usize) -> usize
     requires { c.faces ≤ 256 }
-    ensures { (result ≡ (faceAt (facesIn job.now index.now c) f).surface) × (result < 4294967296) }
+    ensures { (result ≡ (face_at (faces_in job.now index.now c) f).surface) × (result < 4294967296) }
 {
     if f < c.faces {
         return word(job, get(index, FACES + f) + 6);
@@ -200,7 +200,7 @@ pub fn face_surface(job: &[u8], index: &[u32], c: Counts, f: usize) -> usize
 
 pub fn face_own(job: &[u8], index: &[u32], c: Counts, f: usize) -> Sense
     requires { c.faces ≤ 256 }
-    ensures { result ≡ (faceAt (facesIn job.now index.now c) f).own }
+    ensures { result ≡ (face_at (faces_in job.now index.now c) f).own }
 {
     if f < c.faces {
         return sense_of(word(job, get(index, FACES + f) + 10));
@@ -210,7 +210,7 @@ pub fn face_own(job: &[u8], index: &[u32], c: Counts, f: usize) -> Sense
 
 pub fn face_selected(job: &[u8], index: &[u32], c: Counts, f: usize) -> Sense
     requires { c.faces ≤ 256 }
-    ensures { result ≡ (faceAt (facesIn job.now index.now c) f).selected }
+    ensures { result ≡ (face_at (faces_in job.now index.now c) f).selected }
 {
     if f < c.faces {
         return sense_of(word(job, get(index, FACES + f) + 14));
@@ -221,7 +221,7 @@ pub fn face_selected(job: &[u8], index: &[u32], c: Counts, f: usize) -> Sense
 // The body that the face was selected on, 0 or 1.
 pub fn face_body(job: &[u8], index: &[u32], c: Counts, f: usize) -> usize
     requires { c.faces ≤ 256 }
-    ensures { result ≡ (faceAt (facesIn job.now index.now c) f).body }
+    ensures { result ≡ (face_at (faces_in job.now index.now c) f).body }
 {
     if f < c.faces {
         return word(job, get(index, FACES + f) + 18);
@@ -232,7 +232,7 @@ pub fn face_body(job: &[u8], index: &[u32], c: Counts, f: usize) -> usize
 // Its number there.
 pub fn face_source(job: &[u8], index: &[u32], c: Counts, f: usize) -> usize
     requires { c.faces ≤ 256 }
-    ensures { result ≡ (faceAt (facesIn job.now index.now c) f).source }
+    ensures { result ≡ (face_at (faces_in job.now index.now c) f).source }
 {
     if f < c.faces {
         return word(job, get(index, FACES + f) + 22);
@@ -243,7 +243,7 @@ pub fn face_source(job: &[u8], index: &[u32], c: Counts, f: usize) -> usize
 // Own times selected.
 pub fn stored_sense(job: &[u8], index: &[u32], c: Counts, f: usize) -> Sense
     requires { c.faces ≤ 256 }
-    ensures { result ≡ storedSense (faceAt (facesIn job.now index.now c) f) }
+    ensures { result ≡ stored_sense (face_at (faces_in job.now index.now c) f) }
 {
     let own = face_own(job, index, c, f);
     let selected = face_selected(job, index, c, f);
@@ -262,21 +262,21 @@ pub fn loop_face(index: &[u32], l: usize) -> usize
 
 pub fn loop_kind(job: &[u8], index: &[u32], l: usize) -> usize
     requires { l < 1024 }
-    ensures { result ≡ le16 job.now (loopByte index.now l + 4) }
+    ensures { result ≡ le16 job.now (loop_byte index.now l + 4) }
 {
     half(job, get(index, LOOPS + l) + 4)
 }
 
 pub fn loop_start(index: &[u32], l: usize) -> usize
     requires { l < 1024 }
-    ensures { (result ≡ loopByte index.now l + 6) × (result < 4294967302) }
+    ensures { (result ≡ loop_byte index.now l + 6) × (result < 4294967302) }
 {
     get(index, LOOPS + l) + 6
 }
 
 pub fn loop_size(job: &[u8], index: &[u32], l: usize) -> usize
     requires { l < 1024 }
-    ensures { (result ≡ le32 job.now (loopByte index.now l)) × (result < 4294967296) }
+    ensures { (result ≡ le32 job.now (loop_byte index.now l)) × (result < 4294967296) }
 {
     word(job, get(index, LOOPS + l))
 }

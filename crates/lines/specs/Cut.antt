@@ -8,22 +8,22 @@ use mathlib.Core.List.{List, [], ◌∷◌, ◌++◌, flat_map, append_assoc, ap
 use Rattle.std.proofs.Math.ListN.{length, drop, length-drop, length-append}
 use Rattle.std.proofs.lemmas.List.Edits.{sets}
 use Rattle.lists.specs.Lists.{◌∈◌}
-use Rattle.fields.specs.Wrote.{Wrote, wrote-none, wrote-more}
+use Rattle.fields.specs.Wrote.{Wrote, wrote_none, wrote_more}
 
 -- the items at the front, by what stands there and how many bytes it takes, at most so many
-unfoldable pub cutFrom : {A : Type 0} → (List ℕ → A) → (List ℕ → ℕ) → ℕ → List ℕ → List A
-cutFrom item size zero rest = []
-cutFrom item size (suc most) [] = []
-cutFrom item size (suc most) (b ∷ bs) = item (b ∷ bs) ∷ cutFrom item size most (drop (size (b ∷ bs)) (b ∷ bs))
+unfoldable pub cut_from : {A : Type 0} → (List ℕ → A) → (List ℕ → ℕ) → ℕ → List ℕ → List A
+cut_from item size zero rest = []
+cut_from item size (suc most) [] = []
+cut_from item size (suc most) (b ∷ bs) = item (b ∷ bs) ∷ cut_from item size most (drop (size (b ∷ bs)) (b ∷ bs))
 
 -- all items; each takes a byte at least
-abbrev pub cutAll : {A : Type 0} → (List ℕ → A) → (List ℕ → ℕ) → List ℕ → List A
-cutAll item size bytes = cutFrom item size (length bytes) bytes
+abbrev pub cut_all : {A : Type 0} → (List ℕ → A) → (List ℕ → ℕ) → List ℕ → List A
+cut_all item size bytes = cut_from item size (length bytes) bytes
 
 module _ {A : Type 0} (item : List ℕ → A) (size : List ℕ → ℕ) (some : (rest : List ℕ) → 1 ≤ size rest) where
   -- any bound from the length on gives the same items
-  enough : (n m : ℕ) (rest : List ℕ) → length rest ≤ n → length rest ≤ m → cutFrom item size n rest ≡ cutFrom item size m rest
-  unfolding cutFrom
+  enough : (n m : ℕ) (rest : List ℕ) → length rest ≤ n → length rest ≤ m → cut_from item size n rest ≡ cut_from item size m rest
+  unfolding cut_from
   enough zero zero rest h k = refl
   enough zero (suc m) [] h k = refl
   enough zero (suc m) (b ∷ bs) h k = absurd (not-suc-le-zero h)
@@ -37,33 +37,33 @@ module _ {A : Type 0} (item : List ℕ → A) (size : List ℕ → ℕ) (some : 
       (omega (arith, length-drop (size (b ∷ bs)) (b ∷ bs), some (b ∷ bs))))
 
   -- the item at the front, then those after it
-  pub cut-more : (rest : List ℕ) → 0 < length rest → cutAll item size rest ≡ item rest ∷ cutAll item size (drop (size rest) rest)
-  unfolding cutFrom
-  cut-more [] h = absurd (not-suc-le-zero h)
-  cut-more (b ∷ bs) h =
+  pub cut_more : (rest : List ℕ) → 0 < length rest → cut_all item size rest ≡ item rest ∷ cut_all item size (drop (size rest) rest)
+  unfolding cut_from
+  cut_more [] h = absurd (not-suc-le-zero h)
+  cut_more (b ∷ bs) h =
       ap {B = List A} (λ r. item (b ∷ bs) ∷ r)
       (enough (length bs) _ (drop (size (b ∷ bs)) (b ∷ bs))
       (omega (arith, length-drop (size (b ∷ bs)) (b ∷ bs), some (b ∷ bs)))
       (le_refl _))
 
-  cut-none : (rest : List ℕ) → length rest ≤ 0 → cutAll item size rest ≡ []
-  unfolding cutFrom
-  cut-none [] h = refl
-  cut-none (b ∷ bs) h = absurd (not-suc-le-zero h)
+  cut_none : (rest : List ℕ) → length rest ≤ 0 → cut_all item size rest ≡ []
+  unfolding cut_from
+  cut_none [] h = refl
+  cut_none (b ∷ bs) h = absurd (not-suc-le-zero h)
 
   -- items that were put one after the other are found again
-  pub cut-put : (bytes : A → List ℕ) (xs : List A) → ((x : A) → x ∈ xs → (more : List ℕ) → (item (bytes x ++ more) ≡ x) × (size (bytes x ++ more) ≡ length (bytes x)))
-      → cutAll item size (flat_map bytes xs) ≡ xs
+  pub cut_put : (bytes : A → List ℕ) (xs : List A) → ((x : A) → x ∈ xs → (more : List ℕ) → (item (bytes x ++ more) ≡ x) × (size (bytes x ++ more) ≡ length (bytes x)))
+      → cut_all item size (flat_map bytes xs) ≡ xs
   unfolding flat_map
-  cut-put bytes [] back = cut-none [] (omega arith)
-  cut-put bytes (x ∷ xs) back =
+  cut_put bytes [] back = cut_none [] (omega arith)
+  cut_put bytes (x ∷ xs) back =
       let more : List ℕ = flat_map bytes xs in
       let b = back x (Memᴰ.head refl) more in
       let s : size (bytes x ++ more) ≡ length (bytes x) = b.1 in
-      cut-more (bytes x ++ more) (omega (arith, length-append (bytes x) more, s, some (bytes x ++ more)))
-      ∙ (λ i. b.0 i ∷ cutAll item size (drop (s i) (bytes x ++ more)))
-      ∙ ap {B = List A} (λ l. x ∷ cutAll item size l) (drop_at (bytes x) more (length (bytes x)) refl)
-      ∙ ap {B = List A} (λ l. x ∷ l) (cut-put bytes xs (λ y m. back y (Memᴰ.tail m)))
+      cut_more (bytes x ++ more) (omega (arith, length-append (bytes x) more, s, some (bytes x ++ more)))
+      ∙ (λ i. b.0 i ∷ cut_all item size (drop (s i) (bytes x ++ more)))
+      ∙ ap {B = List A} (λ l. x ∷ cut_all item size l) (drop_at (bytes x) more (length (bytes x)) refl)
+      ∙ ap {B = List A} (λ l. x ∷ l) (cut_put bytes xs (λ y m. back y (Memᴰ.tail m)))
 
 -- A TEXT FOR EACH ITEM
 
@@ -72,30 +72,30 @@ module _ {A : Type 0} (item : List ℕ → A) (size : List ℕ → ℕ) (text : 
   pub record Going (after : List ℕ) (p from : ℕ) : Type 0 where
     pub done : List ℕ
     pub wrote : Wrote before at done after p
-    pub whole : flat_map text (cutAll item size bytes) ≡ done ++ flat_map text (cutAll item size (drop from bytes))
+    pub whole : flat_map text (cut_all item size bytes) ≡ done ++ flat_map text (cut_all item size (drop from bytes))
     pub few : p ≤ at + 6 * from
 
-  pub going-start : Going before at 0
-  going-start = record { done = []; wrote = wrote-none before at; whole = refl; few = omega arith }
+  pub going_start : Going before at 0
+  going_start = record { done = []; wrote = wrote_none before at; whole = refl; few = omega arith }
 
-  pub going-step : ((rest : List ℕ) → 1 ≤ size rest) → ((rest : List ℕ) → length (text (item rest)) ≤ 6 * size rest) → (mid after : List ℕ) (p q from next : ℕ) → Going mid p from
+  pub going_step : ((rest : List ℕ) → 1 ≤ size rest) → ((rest : List ℕ) → length (text (item rest)) ≤ 6 * size rest) → (mid after : List ℕ) (p q from next : ℕ) → Going mid p from
       → from < length bytes → next ≡ from + size (drop from bytes) → Wrote mid p (text (item (drop from bytes))) after q → Going after q next
   unfolding flat_map
-  going-step some short mid after p q from next G lt e w =
+  going_step some short mid after p q from next G lt e w =
       let rest : List ℕ = drop from bytes in
       let here : List ℕ = text (item rest) in
-      let on : cutAll item size rest ≡ item rest ∷ cutAll item size (drop next bytes) =
-      cut-more item size some rest (omega (arith, length-drop from bytes)) ∙ ap {B = List A} (λ l. item rest ∷ cutAll item size l) (drop-drop (size rest) from bytes ∙ ap (λ n. drop n bytes) (sym e)) in
+      let on : cut_all item size rest ≡ item rest ∷ cut_all item size (drop next bytes) =
+      cut_more item size some rest (omega (arith, length-drop from bytes)) ∙ ap {B = List A} (λ l. item rest ∷ cut_all item size l) (drop-drop (size rest) from bytes ∙ ap (λ n. drop n bytes) (sym e)) in
       record {
         done = G.done ++ here;
-        wrote = wrote-more before mid after G.done here at p q G.wrote w;
-        whole = G.whole ∙ ap (λ l. G.done ++ flat_map text l) on ∙ sym (append_assoc G.done here (flat_map text (cutAll item size (drop next bytes))));
+        wrote = wrote_more before mid after G.done here at p q G.wrote w;
+        whole = G.whole ∙ ap (λ l. G.done ++ flat_map text l) on ∙ sym (append_assoc G.done here (flat_map text (cut_all item size (drop next bytes))));
         few = omega (arith, G.few, short rest, w.1, e);
       }
 
-  pub going-end : (after : List ℕ) (p from : ℕ) → Going after p from → length bytes ≤ from → Wrote before at (flat_map text (cutAll item size bytes)) after p
-  unfolding flat_map cutFrom
-  going-end after p from G le =
-      let all : flat_map text (cutAll item size bytes) ≡ G.done =
-      G.whole ∙ ap (λ l. G.done ++ flat_map text (cutAll item size l)) (drop_of_length-le bytes le) ∙ append-nil G.done in
+  pub going_end : (after : List ℕ) (p from : ℕ) → Going after p from → length bytes ≤ from → Wrote before at (flat_map text (cut_all item size bytes)) after p
+  unfolding flat_map cut_from
+  going_end after p from G le =
+      let all : flat_map text (cut_all item size bytes) ≡ G.done =
+      G.whole ∙ ap (λ l. G.done ++ flat_map text (cut_all item size l)) (drop_of_length-le bytes le) ∙ append-nil G.done in
       (G.wrote.0 ∙ ap (sets before at) (sym all), G.wrote.1 ∙ ap (λ l. at + length l) (sym all))

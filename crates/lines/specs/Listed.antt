@@ -2,58 +2,58 @@
 use Rattle.std.specs.Prelude.{ℕ, ◌<◌, ◌≡◌, refl, List, length, get_or}
 use Rattle.std.proofs.Common.{arith, sym, subst}
 use Rattle.lists.specs.Lists.{◌∈◌}
-use Rattle.lists.specs.Membership.{in-getD}
-use Rattle.lists.specs.Members.{flatMap-length}
-use Rattle.lists.specs.KeepCounts.{sum-member}
+use Rattle.lists.specs.Membership.{in_get_or}
+use Rattle.lists.specs.Members.{flat_map_length}
+use Rattle.lists.specs.KeepCounts.{sum_member}
 use Rattle.rules.specs.declared.Ending.{Ending}
 use Rattle.rules.specs.Outcome.{Outcome, ok, refuse}
-use Rattle.rules.proofs.OutcomeLaws.{ok-one, bind-ok}
-use Rattle.rules.specs.Frame.{Record, framed, framedAll}
+use Rattle.rules.proofs.OutcomeLaws.{ok_one, bind_ok}
+use Rattle.rules.specs.Frame.{Record, framed, framed_all}
 use Rattle.rules.specs.Load.{loaded}
-use Rattle.rules.specs.Rules.{Table, fullTable, ordinary}
-use Rattle.rules.specs.Body.{Body, bodyRecords}
+use Rattle.rules.specs.Rules.{Table, full_table, ordinary}
+use Rattle.rules.specs.Body.{Body, body_records}
 use Rattle.rules.specs.Sew.{rebuild, fitting, sewn, Ends}
-use Rattle.rules.specs.Listing.{listingOf, sewnRecords, listing}
+use Rattle.rules.specs.Listing.{listing_of, sewn_records, listing}
 use Rattle.fields.specs.Wrote.{Wrote}
-use Rattle.theorems.specs.Demand3.{withTable}
+use Rattle.theorems.specs.Demand3.{with_table}
 use Rattle.theorems.specs.Narrow.{Below}
-use Rattle.theorems.proofs.Narrow.{rebuilt-narrow}
+use Rattle.theorems.proofs.Narrow.{rebuilt_narrow}
 use Rattle.lines.specs.Text.{recorded}
-use Rattle.lines.specs.Writing.{wrote-same}
-use Rattle.lines.specs.Exact.{Fits, AllFit, framed-length, room-listing, listing-is, Printed, prints}
-use Rattle.lines.specs.Room.{Within, listed-small, sewn-within}
+use Rattle.lines.specs.Writing.{wrote_same}
+use Rattle.lines.specs.Exact.{Fits, AllFit, framed_length, room_listing, listing_is, Printed, prints}
+use Rattle.lines.specs.Room.{Within, listed_small, sewn_within}
 
 -- bytes place by place
-pub bytes-below : (l : List ℕ) → ((i : ℕ) → get_or l i 0 < 256) → Below 256 l
-bytes-below l h x m = let r = in-getD 0 m in subst (λ y. y < 256) r.2 (h r.0)
+pub bytes_below : (l : List ℕ) → ((i : ℕ) → get_or l i 0 < 256) → Below 256 l
+bytes_below l h x m = let r = in_get_or 0 m in subst (λ y. y < 256) r.2 (h r.0)
 
 -- AllFit by what the outcome can be
-all-fit-by : (o : Outcome (List Record)) → ((rs : List Record) → o ≡ ok rs → (r : Record) → r ∈ rs → Fits r) → AllFit o
-all-fit-by (ok rs) h = h rs refl
-all-fit-by (refuse n p) h = tt
+all_fit_by : (o : Outcome (List Record)) → ((rs : List Record) → o ≡ ok rs → (r : Record) → r ∈ rs → Fits r) → AllFit o
+all_fit_by (ok rs) h = h rs refl
+all_fit_by (refuse n p) h = tt
 
 -- the records of a job of bytes fit their bytes
-pub all-fit : (t : Table) (job : List ℕ) (room : ℕ) → Below 256 job → room < 4294967296 → AllFit (sewnRecords (withTable t) job room)
-unfolding sewnRecords
-all-fit t job room bytes h = all-fit-by (sewnRecords (withTable t) job room) (λ rs e r m.
-    let a = bind-ok (loaded job) _ rs e in
-    let b = bind-ok (rebuild (withTable t) a.0) _ rs a.2 in
+pub all_fit : (t : Table) (job : List ℕ) (room : ℕ) → Below 256 job → room < 4294967296 → AllFit (sewn_records (with_table t) job room)
+unfolding sewn_records
+all_fit t job room bytes h = all_fit_by (sewn_records (with_table t) job room) (λ rs e r m.
+    let a = bind_ok (loaded job) _ rs e in
+    let b = bind_ok (rebuild (with_table t) a.0) _ rs a.2 in
     let body : Body = b.0 in
-    let c = bind-ok (fitting room (framedAll (bodyRecords body))) (λ _. ok (bodyRecords body)) rs b.2 in
-    let i : r ∈ bodyRecords body = subst (λ l. r ∈ l) (sym (ok-one c.2)) m in
-    let narrow = rebuilt-narrow t job a.0 body bytes a.1 b.1 r i in
+    let c = bind_ok (fitting room (framed_all (body_records body))) (λ _. ok (body_records body)) rs b.2 in
+    let i : r ∈ body_records body = subst (λ l. r ∈ l) (sym (ok_one c.2)) m in
+    let narrow = rebuilt_narrow t job a.0 body bytes a.1 b.1 r i in
     record {
       kind = narrow.0;
-      size = omega (arith, subst (Within room) e (sewn-within (withTable t) job room), flatMap-length framed rs, sum-member (λ s. length (framed s)) m, framed-length r);
+      size = omega (arith, subst (Within room) e (sewn_within (with_table t) job room), flat_map_length framed rs, sum_member (λ s. length (framed s)) m, framed_length r);
       fields = narrow.1;
     })
 
 -- WHAT IS LISTED OF A JOB
 
 -- the text of sewing's answer in so many bytes is that of the job's records
-pub recorded-listing : (t : Table) (job before after : List ℕ) (e : Ending) → Below 256 job → length before < 4294967296 → Ends (sewn (withTable t) job (length before)) before after e
-    → listingOf (recorded after e) ≡ listingOf (sewnRecords (withTable t) job (length before))
-recorded-listing t job before after e bytes h E = room-listing (withTable t) job before after e (all-fit t job (length before) bytes h) E
+pub recorded_listing : (t : Table) (job before after : List ℕ) (e : Ending) → Below 256 job → length before < 4294967296 → Ends (sewn (with_table t) job (length before)) before after e
+    → listing_of (recorded after e) ≡ listing_of (sewn_records (with_table t) job (length before))
+recorded_listing t job before after e bytes h E = room_listing (with_table t) job before after e (all_fit t job (length before) bytes h) E
 
 -- what sewing a job makes of an output
 abbrev pub SewnInto : List ℕ → List ℕ → List ℕ → Type 0
@@ -68,9 +68,9 @@ Lists job page printed r = Printed (listing ordinary job) page printed 196608 r
 
 -- the text of sewing's answer is put as the job's listing
 pub lists : (job before after page printed : List ℕ) (q : ℕ) (e : Ending) → Below 256 job → length before ≡ 65536
-    → Ends (sewn ordinary job (length before)) before after e → Wrote page 0 (listingOf (recorded after e)) printed q → Lists job page printed q
+    → Ends (sewn ordinary job (length before)) before after e → Wrote page 0 (listing_of (recorded after e)) printed q → Lists job page printed q
 lists job before after page printed q e bytes n E w =
-    let fit = all-fit fullTable job 65536 bytes (omega arith) in
+    let fit = all_fit full_table job 65536 bytes (omega arith) in
     prints (listing ordinary job) page printed 196608 q
-    (wrote-same page printed (listingOf (recorded after e)) (listing ordinary job) 0 q (listing-is ordinary job before after e fit n E) w)
-    (listed-small (sewnRecords ordinary job 65536) fit (sewn-within ordinary job 65536))
+    (wrote_same page printed (listing_of (recorded after e)) (listing ordinary job) 0 q (listing_is ordinary job before after e fit n E) w)
+    (listed_small (sewn_records ordinary job 65536) fit (sewn_within ordinary job 65536))

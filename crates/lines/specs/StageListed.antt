@@ -7,36 +7,36 @@ use Rattle.std.proofs.Math.ListN.{get_or-eq_default}
 use Rattle.lists.specs.Lists.{◌∈◌}
 use Rattle.rules.specs.declared.Ending.{Ending}
 use Rattle.rules.specs.Outcome.{Outcome, ok, refuse}
-use Rattle.rules.proofs.OutcomeLaws.{ok-one, bind-ok, need-ok}
-use Rattle.rules.specs.Fields.{fieldBytes}
+use Rattle.rules.proofs.OutcomeLaws.{ok_one, bind_ok, need_ok}
+use Rattle.rules.specs.Fields.{field_bytes}
 use Rattle.rules.specs.Job.{Job}
 use Rattle.rules.specs.Load.{loaded}
-use Rattle.rules.specs.Rules.{Rules, fullTable, ordinary}
+use Rattle.rules.specs.Rules.{Rules, full_table, ordinary}
 use Rattle.rules.specs.Sew.{fitting, Ends}
-use Rattle.rules.specs.Rows.{readRows, pairRows, mergeRows, vertexLoopRows, walkRows, loopRows, fanRows, edgeRows, joiningRows as joinedRows, shellRows, lumpRows, stagedRows, rowText, rowsListing}
-use Rattle.rules.specs.Rows.{allRows, stageListing}
+use Rattle.rules.specs.Rows.{read_rows, pair_rows, merge_rows, vertex_loop_rows, walk_rows, loop_rows, fan_rows, edge_rows, joining_rows as joined_rows, shell_rows, lump_rows, staged_rows, row_text, rows_listing}
+use Rattle.rules.specs.Rows.{all_rows, stage_listing}
 use Rattle.rules.specs.Operation.{operation}
-use Rattle.fields.specs.Wrote.{Wrote, wrote-none}
-use Rattle.fields.specs.Tabled.{length-field-bytes}
+use Rattle.fields.specs.Wrote.{Wrote, wrote_none}
+use Rattle.fields.specs.Tabled.{length_field_bytes}
 use Rattle.theorems.specs.Narrow.{Below}
 use Rattle.theorems.specs.Shapes.{Shaped, AllShaped, Laid}
-use Rattle.theorems.proofs.Shapes.{read-shaped, pair-shaped, merge-shaped, vertex-loops-shaped, walk-shaped}
-use Rattle.theorems.proofs.Shapes.{loops-shaped, fans-shaped, edges-laid, joining-laid, shells-shaped, lumps-shaped}
-use Rattle.lines.specs.Text.{rowsIn, joiningRows, fixedOf, countedOf, stageRows, stageText}
-use Rattle.lines.specs.Writing.{wrote-same}
-use Rattle.lines.specs.Exact.{rows-back, Printed, prints}
-use Rattle.lines.specs.Room.{row-eleven, refusal-short}
-use Rattle.lines.specs.StageBytes.{rowBytes, read-bytes, pair-bytes, merge-bytes, vertex-loop-bytes, walk-bytes, loop-bytes, fan-bytes, edge-bytes, joining-bytes, shell-bytes, lump-bytes}
-use Rattle.lines.specs.StageBytes.{laid-back}
+use Rattle.theorems.proofs.Shapes.{read_shaped, pair_shaped, merge_shaped, vertex_loops_shaped, walk_shaped}
+use Rattle.theorems.proofs.Shapes.{loops_shaped, fans_shaped, edges_laid, joining_laid, shells_shaped, lumps_shaped}
+use Rattle.lines.specs.Text.{rows_in, joining_rows, fixed_of, counted_of, stage_rows, stage_text}
+use Rattle.lines.specs.Writing.{wrote_same}
+use Rattle.lines.specs.Exact.{rows_back, Printed, prints}
+use Rattle.lines.specs.Room.{row_eleven, refusal_short}
+use Rattle.lines.specs.StageBytes.{row_bytes, read_bytes, pair_bytes, merge_bytes, vertex_loop_bytes, walk_bytes, loop_bytes, fan_bytes_lem, edge_bytes, joining_bytes, shell_bytes_lem, lump_bytes}
+use Rattle.lines.specs.StageBytes.{laid_back}
 
 -- ROWS THAT FIT AND ARE READ BACK
 
 -- the rows of a stage in so many bytes: they are read back, none is empty, each field has four bytes, and their bytes fit
 pub record Held (stage room : ℕ) (rows : List (List ℕ)) : Type 0 where
-  pub back : stageRows stage (flat_map fieldBytes rows) ≡ rows
+  pub back : stage_rows stage (flat_map field_bytes rows) ≡ rows
   pub some : (row : List ℕ) → row ∈ rows → 0 < length row
   pub low : (row : List ℕ) → row ∈ rows → Below 4294967296 row
-  pub within : length (flat_map fieldBytes rows) ≤ room
+  pub within : length (flat_map field_bytes rows) ≤ room
 
 -- an outcome of such rows
 abbrev pub AllHeld : ℕ → ℕ → Outcome (List (List ℕ)) → Type 0
@@ -44,20 +44,20 @@ AllHeld stage room (ok rows) = Held stage room rows
 AllHeld stage room (refuse number place) = Unit {0}
 
 -- rows of one shape
-shaped-held : (stage room fixed counted : ℕ) (rows : List (List ℕ)) → 0 < fixed → rowsIn fixed counted (flat_map fieldBytes rows) ≡ stageRows stage (flat_map fieldBytes rows)
-    → length (flat_map fieldBytes rows) ≤ room → AllShaped fixed counted rows → Held stage room rows
-shaped-held stage room fixed counted rows h e le each = record {
-  back = sym e ∙ rows-back fixed counted rows h each;
+shaped_held : (stage room fixed counted : ℕ) (rows : List (List ℕ)) → 0 < fixed → rows_in fixed counted (flat_map field_bytes rows) ≡ stage_rows stage (flat_map field_bytes rows)
+    → length (flat_map field_bytes rows) ≤ room → AllShaped fixed counted rows → Held stage room rows
+shaped_held stage room fixed counted rows h e le each = record {
+  back = sym e ∙ rows_back fixed counted rows h each;
   some = λ row m. omega (arith, (each row m).shape, h);
   low = λ row m. (each row m).fields;
   within = le;
 }
 
 -- the rows of edges and joining
-laid-held : (stage room : ℕ) (rows : List (List ℕ)) → joiningRows (flat_map fieldBytes rows) ≡ stageRows stage (flat_map fieldBytes rows)
-    → length (flat_map fieldBytes rows) ≤ room → Laid rows → Held stage room rows
-laid-held stage room rows e le L = record {
-  back = sym e ∙ laid-back rows L;
+laid_held : (stage room : ℕ) (rows : List (List ℕ)) → joining_rows (flat_map field_bytes rows) ≡ stage_rows stage (flat_map field_bytes rows)
+    → length (flat_map field_bytes rows) ≤ room → Laid rows → Held stage room rows
+laid_held stage room rows e le L = record {
+  back = sym e ∙ laid_back rows L;
   some = λ row m. each (λ r. 0 < length r) (λ f c r h S. omega (arith, S.shape, h)) row m;
   low = λ row m. each (Below 4294967296) (λ f c r h S. S.fields) row m;
   within = le;
@@ -71,152 +71,152 @@ laid-held stage room rows e le L = record {
         (Memᴰ.cases_cons (subst (λ l. row ∈ l) L.laid m))
 
 -- what holds of the rows of every loaded job whose bytes fit holds of the outcome
-held-by : (stage : ℕ) (rows_of : Rules → Job → Outcome (List (List ℕ))) (job : List ℕ) (room : ℕ)
-    → ((j : Job) (rows : List (List ℕ)) → loaded job ≡ ok j → rows_of ordinary j ≡ ok rows → length (flat_map fieldBytes rows) ≤ room → Held stage room rows)
-    → AllHeld stage room (stagedRows rows_of ordinary job room)
-unfolding stagedRows
-held-by stage rows_of job room each = go (stagedRows rows_of ordinary job room) refl
+held_by : (stage : ℕ) (rows_of : Rules → Job → Outcome (List (List ℕ))) (job : List ℕ) (room : ℕ)
+    → ((j : Job) (rows : List (List ℕ)) → loaded job ≡ ok j → rows_of ordinary j ≡ ok rows → length (flat_map field_bytes rows) ≤ room → Held stage room rows)
+    → AllHeld stage room (staged_rows rows_of ordinary job room)
+unfolding staged_rows
+held_by stage rows_of job room each = go (staged_rows rows_of ordinary job room) refl
   where
-    go : (o : Outcome (List (List ℕ))) → stagedRows rows_of ordinary job room ≡ o → AllHeld stage room o
+    go : (o : Outcome (List (List ℕ))) → staged_rows rows_of ordinary job room ≡ o → AllHeld stage room o
     go (refuse n p) e = tt
     go (ok rows) e =
-        let a = bind-ok (loaded job) _ rows e in
-        let b = bind-ok (rows_of ordinary a.0) _ rows a.2 in
-        let bytes : List ℕ = flat_map fieldBytes b.0 in
-        let c = bind-ok (fitting room bytes) (λ _. ok b.0) rows b.2 in
-        let n = need-ok (leb (length bytes) room) 40 (length bytes) (ok bytes) c.0 c.1 in
-        subst (Held stage room) (ok-one c.2) (each a.0 b.0 a.1 b.1 (leb-true (length bytes) room n.0))
+        let a = bind_ok (loaded job) _ rows e in
+        let b = bind_ok (rows_of ordinary a.0) _ rows a.2 in
+        let bytes : List ℕ = flat_map field_bytes b.0 in
+        let c = bind_ok (fitting room bytes) (λ _. ok b.0) rows b.2 in
+        let n = need_ok (leb (length bytes) room) 40 (length bytes) (ok bytes) c.0 c.1 in
+        subst (Held stage room) (ok_one c.2) (each a.0 b.0 a.1 b.1 (leb-true (length bytes) room n.0))
 
 -- THE STAGES BY NUMBER
 
 -- what is known of a stage: its rows or refusal, that these are listed, that it writes their bytes, and that they are read back
 pub record Known (stage : ℕ) (job : List ℕ) (room : ℕ) : Type 0 where
   pub rows : Outcome (List (List ℕ))
-  pub lines : stageListing stage ordinary job room ≡ rowsListing rows
-  pub bytes : operation stage job room ≡ rowBytes rows
+  pub lines : stage_listing stage ordinary job room ≡ rows_listing rows
+  pub bytes : operation stage job room ≡ row_bytes rows
   pub held : AllHeld stage room rows
 
 -- every stage from 1 to 11, of a job of bytes
-pub stage-known : (stage : ℕ) → 0 < stage → stage ≤ 11 → (job : List ℕ) → Below 256 job → (room : ℕ) → Known stage job room
-unfolding stageListing operation stageRows fixedOf countedOf
-stage-known zero h k job b room = absurd (omega arith)
-stage-known (suc zero) h k job b room = record {
-  rows = stagedRows readRows ordinary job room;
+pub stage_known : (stage : ℕ) → 0 < stage → stage ≤ 11 → (job : List ℕ) → Below 256 job → (room : ℕ) → Known stage job room
+unfolding stage_listing operation stage_rows fixed_of counted_of
+stage_known zero h k job b room = absurd (omega arith)
+stage_known (suc zero) h k job b room = record {
+  rows = staged_rows read_rows ordinary job room;
   lines = refl;
-  bytes = read-bytes ordinary job room;
-  held = held-by 1 readRows job room (λ j rows l e le. shaped-held 1 room 4 0 rows (omega arith) refl le (read-shaped fullTable job b j l rows e));
+  bytes = read_bytes ordinary job room;
+  held = held_by 1 read_rows job room (λ j rows l e le. shaped_held 1 room 4 0 rows (omega arith) refl le (read_shaped full_table job b j l rows e));
 }
-stage-known (suc (suc zero)) h k job b room = record {
-  rows = stagedRows pairRows ordinary job room;
+stage_known (suc (suc zero)) h k job b room = record {
+  rows = staged_rows pair_rows ordinary job room;
   lines = refl;
-  bytes = pair-bytes ordinary job room;
-  held = held-by 2 pairRows job room (λ j rows l e le. shaped-held 2 room 1 0 rows (omega arith) refl le (pair-shaped fullTable job b j l rows e));
+  bytes = pair_bytes ordinary job room;
+  held = held_by 2 pair_rows job room (λ j rows l e le. shaped_held 2 room 1 0 rows (omega arith) refl le (pair_shaped full_table job b j l rows e));
 }
-stage-known (suc (suc (suc zero))) h k job b room = record {
-  rows = stagedRows mergeRows ordinary job room;
+stage_known (suc (suc (suc zero))) h k job b room = record {
+  rows = staged_rows merge_rows ordinary job room;
   lines = refl;
-  bytes = merge-bytes ordinary job room;
-  held = held-by 3 mergeRows job room (λ j rows l e le. shaped-held 3 room 2 0 rows (omega arith) refl le (merge-shaped fullTable job b j l rows e));
+  bytes = merge_bytes ordinary job room;
+  held = held_by 3 merge_rows job room (λ j rows l e le. shaped_held 3 room 2 0 rows (omega arith) refl le (merge_shaped full_table job b j l rows e));
 }
-stage-known (suc (suc (suc (suc zero)))) h k job b room = record {
-  rows = stagedRows vertexLoopRows ordinary job room;
+stage_known (suc (suc (suc (suc zero)))) h k job b room = record {
+  rows = staged_rows vertex_loop_rows ordinary job room;
   lines = refl;
-  bytes = vertex-loop-bytes ordinary job room;
-  held = held-by 4 vertexLoopRows job room (λ j rows l e le. shaped-held 4 room 2 0 rows (omega arith) refl le (vertex-loops-shaped fullTable job b j l rows e));
+  bytes = vertex_loop_bytes ordinary job room;
+  held = held_by 4 vertex_loop_rows job room (λ j rows l e le. shaped_held 4 room 2 0 rows (omega arith) refl le (vertex_loops_shaped full_table job b j l rows e));
 }
-stage-known (suc (suc (suc (suc (suc zero))))) h k job b room = record {
-  rows = stagedRows walkRows ordinary job room;
+stage_known (suc (suc (suc (suc (suc zero))))) h k job b room = record {
+  rows = staged_rows walk_rows ordinary job room;
   lines = refl;
-  bytes = walk-bytes ordinary job room;
-  held = held-by 5 walkRows job room (λ j rows l e le. shaped-held 5 room 3 0 rows (omega arith) refl le (walk-shaped fullTable job b j l rows e));
+  bytes = walk_bytes ordinary job room;
+  held = held_by 5 walk_rows job room (λ j rows l e le. shaped_held 5 room 3 0 rows (omega arith) refl le (walk_shaped full_table job b j l rows e));
 }
-stage-known (suc (suc (suc (suc (suc (suc zero)))))) h k job b room = record {
-  rows = stagedRows loopRows ordinary job room;
+stage_known (suc (suc (suc (suc (suc (suc zero)))))) h k job b room = record {
+  rows = staged_rows loop_rows ordinary job room;
   lines = refl;
-  bytes = loop-bytes ordinary job room;
-  held = held-by 6 loopRows job room (λ j rows l e le. shaped-held 6 room 2 1 rows (omega arith) refl le (loops-shaped fullTable job b j l rows e));
+  bytes = loop_bytes ordinary job room;
+  held = held_by 6 loop_rows job room (λ j rows l e le. shaped_held 6 room 2 1 rows (omega arith) refl le (loops_shaped full_table job b j l rows e));
 }
-stage-known (suc (suc (suc (suc (suc (suc (suc zero))))))) h k job b room = record {
-  rows = stagedRows fanRows ordinary job room;
+stage_known (suc (suc (suc (suc (suc (suc (suc zero))))))) h k job b room = record {
+  rows = staged_rows fan_rows ordinary job room;
   lines = refl;
-  bytes = fan-bytes ordinary job room;
-  held = held-by 7 fanRows job room (λ j rows l e le. shaped-held 7 room 3 0 rows (omega arith) refl le (fans-shaped fullTable job b j l rows e));
+  bytes = fan_bytes_lem ordinary job room;
+  held = held_by 7 fan_rows job room (λ j rows l e le. shaped_held 7 room 3 0 rows (omega arith) refl le (fans_shaped full_table job b j l rows e));
 }
-stage-known (suc (suc (suc (suc (suc (suc (suc (suc zero)))))))) h k job b room = record {
-  rows = stagedRows edgeRows ordinary job room;
+stage_known (suc (suc (suc (suc (suc (suc (suc (suc zero)))))))) h k job b room = record {
+  rows = staged_rows edge_rows ordinary job room;
   lines = refl;
-  bytes = edge-bytes ordinary job room;
-  held = held-by 8 edgeRows job room (λ j rows l e le. laid-held 8 room rows refl le (edges-laid fullTable job b j l rows e));
+  bytes = edge_bytes ordinary job room;
+  held = held_by 8 edge_rows job room (λ j rows l e le. laid_held 8 room rows refl le (edges_laid full_table job b j l rows e));
 }
-stage-known (suc (suc (suc (suc (suc (suc (suc (suc (suc zero))))))))) h k job b room = record {
-  rows = stagedRows joinedRows ordinary job room;
+stage_known (suc (suc (suc (suc (suc (suc (suc (suc (suc zero))))))))) h k job b room = record {
+  rows = staged_rows joined_rows ordinary job room;
   lines = refl;
-  bytes = joining-bytes ordinary job room;
-  held = held-by 9 joinedRows job room (λ j rows l e le. laid-held 9 room rows refl le (joining-laid fullTable job b j l rows e));
+  bytes = joining_bytes ordinary job room;
+  held = held_by 9 joined_rows job room (λ j rows l e le. laid_held 9 room rows refl le (joining_laid full_table job b j l rows e));
 }
-stage-known (suc (suc (suc (suc (suc (suc (suc (suc (suc (suc zero)))))))))) h k job b room = record {
-  rows = stagedRows shellRows ordinary job room;
+stage_known (suc (suc (suc (suc (suc (suc (suc (suc (suc (suc zero)))))))))) h k job b room = record {
+  rows = staged_rows shell_rows ordinary job room;
   lines = refl;
-  bytes = shell-bytes ordinary job room;
-  held = held-by 10 shellRows job room (λ j rows l e le. shaped-held 10 room 2 1 rows (omega arith) refl le (shells-shaped fullTable job b j l rows e));
+  bytes = shell_bytes_lem ordinary job room;
+  held = held_by 10 shell_rows job room (λ j rows l e le. shaped_held 10 room 2 1 rows (omega arith) refl le (shells_shaped full_table job b j l rows e));
 }
-stage-known (suc (suc (suc (suc (suc (suc (suc (suc (suc (suc (suc zero))))))))))) h k job b room = record {
-  rows = stagedRows lumpRows ordinary job room;
+stage_known (suc (suc (suc (suc (suc (suc (suc (suc (suc (suc (suc zero))))))))))) h k job b room = record {
+  rows = staged_rows lump_rows ordinary job room;
   lines = refl;
-  bytes = lump-bytes ordinary job room;
-  held = held-by 11 lumpRows job room (λ j rows l e le. shaped-held 11 room 2 1 rows (omega arith) refl le (lumps-shaped fullTable job b j l rows e));
+  bytes = lump_bytes ordinary job room;
+  held = held_by 11 lump_rows job room (λ j rows l e le. shaped_held 11 room 2 1 rows (omega arith) refl le (lumps_shaped full_table job b j l rows e));
 }
-stage-known (suc (suc (suc (suc (suc (suc (suc (suc (suc (suc (suc (suc s)))))))))))) h k job b room = absurd (omega arith)
+stage_known (suc (suc (suc (suc (suc (suc (suc (suc (suc (suc (suc (suc s)))))))))))) h k job b room = absurd (omega arith)
 
 -- any other number has no lines
-pub no-stage : (stage : ℕ) → (stage ≡ 0) ⊎ (11 < stage) → (rules : Rules) (job : List ℕ) (room : ℕ) → stageListing stage rules job room ≡ []
-unfolding stageListing
-no-stage stage h rules job room =
+pub no_stage : (stage : ℕ) → (stage ≡ 0) ⊎ (11 < stage) → (rules : Rules) (job : List ℕ) (room : ℕ) → stage_listing stage rules job room ≡ []
+unfolding stage_listing
+no_stage stage h rules job room =
     ⊎_elim
-    (λ e. ap (λ k. stageListing k rules job room) e)
-    (λ lt. get_or-eq_default ([] ∷ map (λ rows_of. rowsListing (stagedRows rows_of rules job room)) allRows) [] lt)
+    (λ e. ap (λ k. stage_listing k rules job room) e)
+    (λ lt. get_or-eq_default ([] ∷ map (λ rows_of. rows_listing (staged_rows rows_of rules job room)) all_rows) [] lt)
     h
 
 -- WHAT IS SHOWN
 
 -- the text of an answer whose rows are read back
-held-text : (stage room : ℕ) (o : Outcome (List (List ℕ))) (before after : List ℕ) (e : Ending) → AllHeld stage room o → Ends (rowBytes o) before after e → stageText stage after e ≡ rowsListing o
-held-text stage room (ok rows) before after e H E =
-    let bytes : List ℕ = flat_map fieldBytes rows in
-    ap (stageText stage after) E.0 ∙ ap (λ l. flat_map rowText (stageRows stage (take (length bytes) l))) E.1
-    ∙ ap (λ l. flat_map rowText (stageRows stage l)) (take_at bytes (drop (length bytes) before) (length bytes) refl) ∙ ap (flat_map rowText) H.back
-held-text stage room (refuse n p) before after e H E = ap (stageText stage after) E.0
+held_text : (stage room : ℕ) (o : Outcome (List (List ℕ))) (before after : List ℕ) (e : Ending) → AllHeld stage room o → Ends (row_bytes o) before after e → stage_text stage after e ≡ rows_listing o
+held_text stage room (ok rows) before after e H E =
+    let bytes : List ℕ = flat_map field_bytes rows in
+    ap (stage_text stage after) E.0 ∙ ap (λ l. flat_map row_text (stage_rows stage (take (length bytes) l))) E.1
+    ∙ ap (λ l. flat_map row_text (stage_rows stage l)) (take_at bytes (drop (length bytes) before) (length bytes) refl) ∙ ap (flat_map row_text) H.back
+held_text stage room (refuse n p) before after e H E = ap (stage_text stage after) E.0
 
 -- what an output shows of a stage's answer is the stage's listing
-pub stage-text : (stage : ℕ) (job before after : List ℕ) (e : Ending) → 0 < stage → stage ≤ 11 → Below 256 job → Ends (operation stage job (length before)) before after e
-    → stageText stage after e ≡ stageListing stage ordinary job (length before)
-stage-text stage job before after e h k b E =
-    let K = stage-known stage h k job b (length before) in
-    held-text stage (length before) K.rows before after e K.held (subst (λ o. Ends o before after e) K.bytes E) ∙ sym K.lines
+pub stage_text_lem : (stage : ℕ) (job before after : List ℕ) (e : Ending) → 0 < stage → stage ≤ 11 → Below 256 job → Ends (operation stage job (length before)) before after e
+    → stage_text stage after e ≡ stage_listing stage ordinary job (length before)
+stage_text_lem stage job before after e h k b E =
+    let K = stage_known stage h k job b (length before) in
+    held_text stage (length before) K.rows before after e K.held (subst (λ o. Ends o before after e) K.bytes E) ∙ sym K.lines
 
 -- eleven characters a field
-rows-eleven : (rows : List (List ℕ)) → ((row : List ℕ) → row ∈ rows → 0 < length row) → ((row : List ℕ) → row ∈ rows → Below 4294967296 row)
-    → 4 * length (flat_map rowText rows) ≤ 11 * length (flat_map fieldBytes rows)
+rows_eleven : (rows : List (List ℕ)) → ((row : List ℕ) → row ∈ rows → 0 < length row) → ((row : List ℕ) → row ∈ rows → Below 4294967296 row)
+    → 4 * length (flat_map row_text rows) ≤ 11 * length (flat_map field_bytes rows)
 unfolding flat_map
-rows-eleven [] some low = omega arith
-rows-eleven (row ∷ rows) some low =
+rows_eleven [] some low = omega arith
+rows_eleven (row ∷ rows) some low =
     omega (
       arith,
-      length-append (rowText row) (flat_map rowText rows),
-      length-append (fieldBytes row) (flat_map fieldBytes rows),
-      row-eleven row (low row (Memᴰ.head refl)) (some row (Memᴰ.head refl)),
-      length-field-bytes row,
-      rows-eleven rows (λ r m. some r (Memᴰ.tail m)) (λ r m. low r (Memᴰ.tail m)),
+      length-append (row_text row) (flat_map row_text rows),
+      length-append (field_bytes row) (flat_map field_bytes rows),
+      row_eleven row (low row (Memᴰ.head refl)) (some row (Memᴰ.head refl)),
+      length_field_bytes row,
+      rows_eleven rows (λ r m. some r (Memᴰ.tail m)) (λ r m. low r (Memᴰ.tail m)),
     )
 
 -- rows of 131,072 bytes, or a refusal
-held-small : (stage : ℕ) (o : Outcome (List (List ℕ))) → AllHeld stage 131072 o → length (rowsListing o) ≤ 360448
-held-small stage (ok rows) H = omega (arith, rows-eleven rows H.some H.low, H.within)
-held-small stage (refuse n p) H = omega (arith, refusal-short n p)
+held_small : (stage : ℕ) (o : Outcome (List (List ℕ))) → AllHeld stage 131072 o → length (rows_listing o) ≤ 360448
+held_small stage (ok rows) H = omega (arith, rows_eleven rows H.some H.low, H.within)
+held_small stage (refuse n p) H = omega (arith, refusal_short n p)
 
 -- with 131,072 bytes of output the lines of a stage have at most 360,448 characters
-pub stage-small : (stage : ℕ) (job : List ℕ) → 0 < stage → stage ≤ 11 → Below 256 job → length (stageListing stage ordinary job 131072) ≤ 360448
-stage-small stage job h k b = let K = stage-known stage h k job b 131072 in omega (arith, ap length K.lines, held-small stage K.rows K.held)
+pub stage_small : (stage : ℕ) (job : List ℕ) → 0 < stage → stage ≤ 11 → Below 256 job → length (stage_listing stage ordinary job 131072) ≤ 360448
+stage_small stage job h k b = let K = stage_known stage h k job b 131072 in omega (arith, ap length K.lines, held_small stage K.rows K.held)
 
 -- what a stage makes of an output: that of its number, and nothing for a number that is no stage
 abbrev pub StagedInto : ℕ → List ℕ → List ℕ → List ℕ → Type 0
@@ -225,30 +225,30 @@ StagedInto stage job before after =
     × ((stage ≡ 0) ⊎ (11 < stage) → after ≡ before)
 
 -- no number is that of a stage and not
-not-both : {A : Type 0} (stage : ℕ) → 0 < stage → stage ≤ 11 → (stage ≡ 0) ⊎ (11 < stage) → A
-not-both stage some most none = absurd (⊎_elim (λ zero. omega (arith, some, zero)) (λ past. omega (arith, most, past)) none)
+not_both : {A : Type 0} (stage : ℕ) → 0 < stage → stage ≤ 11 → (stage ≡ 0) ⊎ (11 < stage) → A
+not_both stage some most none = absurd (⊎_elim (λ zero. omega (arith, some, zero)) (λ past. omega (arith, most, past)) none)
 
 pub runs : (stage : ℕ) (job before after : List ℕ) (e : Ending) → 0 < stage → stage ≤ 11 → Ends (operation stage job (length before)) before after e → StagedInto stage job before after
-runs stage job before after e some most E = (λ _ _. (e, E), not-both stage some most)
+runs stage job before after e some most E = (λ _ _. (e, E), not_both stage some most)
 
 pub stays : (stage : ℕ) (job out : List ℕ) → (stage ≡ 0) ⊎ (11 < stage) → StagedInto stage job out out
-stays stage job out none = (λ some most. not-both stage some most none, λ _. refl)
+stays stage job out none = (λ some most. not_both stage some most none, λ _. refl)
 
 -- a page on which a stage's lines were put: the place after the text, which is at most 360,448, and the whole text where the page has room
 abbrev pub StageLists : ℕ → List ℕ → List ℕ → List ℕ → ℕ → Type 0
-StageLists stage job page printed r = Printed (stageListing stage ordinary job 131072) page printed 360448 r
+StageLists stage job page printed r = Printed (stage_listing stage ordinary job 131072) page printed 360448 r
 
 -- the lines of a stage are put as its listing says
-pub lists-stage : (stage : ℕ) (job before after page printed : List ℕ) (q : ℕ) (e : Ending) → 0 < stage → stage ≤ 11 → Below 256 job → length before ≡ 131072
-    → Ends (operation stage job (length before)) before after e → Wrote page 0 (stageText stage after e) printed q → StageLists stage job page printed q
-lists-stage stage job before after page printed q e h k b n E w =
-    let text : List ℕ = stageListing stage ordinary job 131072 in
-    let is : stageText stage after e ≡ text = stage-text stage job before after e h k b E ∙ ap (stageListing stage ordinary job) n in
-    prints text page printed 360448 q (wrote-same page printed (stageText stage after e) text 0 q is w) (stage-small stage job h k b)
+pub lists_stage : (stage : ℕ) (job before after page printed : List ℕ) (q : ℕ) (e : Ending) → 0 < stage → stage ≤ 11 → Below 256 job → length before ≡ 131072
+    → Ends (operation stage job (length before)) before after e → Wrote page 0 (stage_text stage after e) printed q → StageLists stage job page printed q
+lists_stage stage job before after page printed q e h k b n E w =
+    let text : List ℕ = stage_listing stage ordinary job 131072 in
+    let is : stage_text stage after e ≡ text = stage_text_lem stage job before after e h k b E ∙ ap (stage_listing stage ordinary job) n in
+    prints text page printed 360448 q (wrote_same page printed (stage_text stage after e) text 0 q is w) (stage_small stage job h k b)
 
 -- nothing is put for a number that is no stage
-pub lists-none : (stage : ℕ) (job page : List ℕ) → (stage ≡ 0) ⊎ (11 < stage) → StageLists stage job page page 0
-lists-none stage job page h =
-    let text : List ℕ = stageListing stage ordinary job 131072 in
-    let none : [] ≡ text = sym (no-stage stage h ordinary job 131072) in
-    prints text page page 360448 0 (wrote-same page page [] text 0 0 none (wrote-none page 0)) (omega (arith, ap length none))
+pub lists_none : (stage : ℕ) (job page : List ℕ) → (stage ≡ 0) ⊎ (11 < stage) → StageLists stage job page page 0
+lists_none stage job page h =
+    let text : List ℕ = stage_listing stage ordinary job 131072 in
+    let none : [] ≡ text = sym (no_stage stage h ordinary job 131072) in
+    prints text page page 360448 0 (wrote_same page page [] text 0 0 none (wrote_none page 0)) (omega (arith, ap length none))

@@ -5,79 +5,79 @@ use Rattle.lists.specs.Lists.{same}
 use Rattle.rules.specs.declared.Ending.{Ending}
 use Rattle.rules.specs.declared.Ending.TheVariants.{Written, Refused}
 use Rattle.rules.specs.Outcome.{Outcome, ok, refuse}
-use Rattle.rules.specs.Fields.{le16, le32, fieldsIn}
+use Rattle.rules.specs.Fields.{le16, le32, fields_in}
 use Rattle.rules.specs.Frame.{Record}
-use Rattle.rules.specs.Listing.{fieldText, vertexText, listingOf}
-use Rattle.rules.specs.Rows.{rowText}
-use Rattle.lines.specs.Cut.{cutAll}
+use Rattle.rules.specs.Listing.{field_text, vertex_text, listing_of}
+use Rattle.rules.specs.Rows.{row_text}
+use Rattle.lines.specs.Cut.{cut_all}
 
 -- a field after a blank; where it is a vertex, `-` for none
-abbrev pub fieldTextIn : Bool → ℕ → List ℕ
-fieldTextIn vertex v = cond vertex (vertexText v) (fieldText v)
+abbrev pub field_text_in : Bool → ℕ → List ℕ
+field_text_in vertex v = cond vertex (vertex_text v) (field_text v)
 
 -- how many of a record's fields are no vertices: of an edge's the first two
-unfoldable pub plainOf : ℕ → ℕ → ℕ
-plainOf kind n = cond (eqb kind 23) (cond (ltb 2 n) 2 n) n
+unfoldable pub plain_of : ℕ → ℕ → ℕ
+plain_of kind n = cond (eqb kind 23) (cond (ltb 2 n) 2 n) n
 
 -- THE RECORDS OF A BODY
 
 -- the record at the front, and the bytes that it takes
-unfoldable pub recordAt : List ℕ → Record
-recordAt rest = record { kind = le16 rest 4; fields = fieldsIn (le32 rest 0 / 4) (drop 6 rest) }
+unfoldable pub record_at : List ℕ → Record
+record_at rest = record { kind = le16 rest 4; fields = fields_in (le32 rest 0 / 4) (drop 6 rest) }
 
-unfoldable pub recordSize : List ℕ → ℕ
-recordSize rest = 6 + le32 rest 0
+unfoldable pub record_size : List ℕ → ℕ
+record_size rest = 6 + le32 rest 0
 
-abbrev pub recordsIn : List ℕ → List Record
-recordsIn bytes = cutAll recordAt recordSize bytes
+abbrev pub records_in : List ℕ → List Record
+records_in bytes = cut_all record_at record_size bytes
 
 -- the answer of sewing as records, by its ending and the output
 abbrev pub recorded : List ℕ → Ending → Outcome (List Record)
-recorded out (Written n) = ok (recordsIn (take n out))
+recorded out (Written n) = ok (records_in (take n out))
 recorded out (Refused number place) = refuse number place
 
 -- THE ROWS OF A STAGE
 
 -- how many fields the row at the front has: `fixed`, and `counted` more for each that its second field counts
-unfoldable pub rowLength : ℕ → ℕ → List ℕ → ℕ
-rowLength fixed counted rest = fixed + counted * le32 rest 4
+unfoldable pub row_length : ℕ → ℕ → List ℕ → ℕ
+row_length fixed counted rest = fixed + counted * le32 rest 4
 
-abbrev pub rowAt : ℕ → ℕ → List ℕ → List ℕ
-rowAt fixed counted rest = fieldsIn (rowLength fixed counted rest) rest
+abbrev pub row_at : ℕ → ℕ → List ℕ → List ℕ
+row_at fixed counted rest = fields_in (row_length fixed counted rest) rest
 
-abbrev pub rowSize : ℕ → ℕ → List ℕ → ℕ
-rowSize fixed counted rest = 4 * rowLength fixed counted rest
+abbrev pub row_size : ℕ → ℕ → List ℕ → ℕ
+row_size fixed counted rest = 4 * row_length fixed counted rest
 
-abbrev pub rowsIn : ℕ → ℕ → List ℕ → List (List ℕ)
-rowsIn fixed counted bytes = cutAll (rowAt fixed counted) (rowSize fixed counted) bytes
+abbrev pub rows_in : ℕ → ℕ → List ℕ → List (List ℕ)
+rows_in fixed counted bytes = cut_all (row_at fixed counted) (row_size fixed counted) bytes
 
 -- edges and joining: a row of three counts, so many edges of seven fields as the third counts, then the loops
-unfoldable pub joiningRows : List ℕ → List (List ℕ)
-joiningRows bytes =
+unfoldable pub joining_rows : List ℕ → List (List ℕ)
+joining_rows bytes =
     let rest = drop 12 bytes in
     let end = 28 * le32 bytes 8 in
-    rowsIn 3 0 (take 12 bytes) ++ rowsIn 7 0 (take end rest) ++ rowsIn 2 2 (drop end rest)
+    rows_in 3 0 (take 12 bytes) ++ rows_in 7 0 (take end rest) ++ rows_in 2 2 (drop end rest)
 
 -- the fields of a stage's row, by the stage's number from 1 to 11
-unfoldable pub fixedOf : ℕ → ℕ
-fixedOf stage = cond (eqb stage 1) 4 (cond (eqb stage 2) 1 (cond (eqb stage 5) 3 (cond (eqb stage 7) 3 2)))
+unfoldable pub fixed_of : ℕ → ℕ
+fixed_of stage = cond (eqb stage 1) 4 (cond (eqb stage 2) 1 (cond (eqb stage 5) 3 (cond (eqb stage 7) 3 2)))
 
-unfoldable pub countedOf : ℕ → ℕ
-countedOf stage = cond (eqb stage 6) 1 (cond (eqb stage 10) 1 (cond (eqb stage 11) 1 0))
+unfoldable pub counted_of : ℕ → ℕ
+counted_of stage = cond (eqb stage 6) 1 (cond (eqb stage 10) 1 (cond (eqb stage 11) 1 0))
 
-unfoldable pub stageRows : ℕ → List ℕ → List (List ℕ)
-stageRows stage bytes = cond (eqb stage 8) (joiningRows bytes) (cond (eqb stage 9) (joiningRows bytes) (rowsIn (fixedOf stage) (countedOf stage) bytes))
+unfoldable pub stage_rows : ℕ → List ℕ → List (List ℕ)
+stage_rows stage bytes = cond (eqb stage 8) (joining_rows bytes) (cond (eqb stage 9) (joining_rows bytes) (rows_in (fixed_of stage) (counted_of stage) bytes))
 
 -- the answer of a stage as text, by its ending and the output
-abbrev pub stageText : ℕ → List ℕ → Ending → List ℕ
-stageText stage out (Written n) = flat_map rowText (stageRows stage (take n out))
-stageText stage out (Refused number place) = listingOf (refuse number place)
+abbrev pub stage_text : ℕ → List ℕ → Ending → List ℕ
+stage_text stage out (Written n) = flat_map row_text (stage_rows stage (take n out))
+stage_text stage out (Refused number place) = listing_of (refuse number place)
 
 -- THE NAMES OF THE STAGES
 
 -- read, pair, merge, vertex-loops, walk, loops, fans, edges, joining, shells, lumps; 0 for any other name
-unfoldable pub stageNumber : List ℕ → ℕ
-stageNumber name =
+unfoldable pub stage_number : List ℕ → ℕ
+stage_number name =
     cond (same name (114 ∷ 101 ∷ 97 ∷ 100 ∷ [])) 1
     (cond (same name (112 ∷ 97 ∷ 105 ∷ 114 ∷ [])) 2
     (cond (same name (109 ∷ 101 ∷ 114 ∷ 103 ∷ 101 ∷ [])) 3

@@ -7,11 +7,11 @@ ghost use Rattle.std.specs.Prelude.{◌≡◌, ◌+◌, ◌*◌, ◌<◌, ◌≤
 ghost use mathlib.Core.List.{flat_map};
 ghost use Rattle.lists.specs.Lists.{same};
 ghost use Rattle.rules.specs.Outcome.{refuse};
-ghost use Rattle.rules.specs.Fields.{fieldsIn};
-ghost use Rattle.rules.specs.Listing.{decimal, wordOf, lineOf, listingOf};
+ghost use Rattle.rules.specs.Fields.{fields_in};
+ghost use Rattle.rules.specs.Listing.{decimal, word_of, line_of, listing_of};
 ghost use Rattle.fields.specs.Wrote.{Wrote};
-ghost use Rattle.rules.specs.Rows.{rowText};
-ghost use Rattle.lines.specs.Text.{fieldTextIn, plainOf, recordAt, recordsIn, recorded, rowsIn, joiningRows, stageRows, stageText, fixedOf, countedOf, stageNumber};
+ghost use Rattle.rules.specs.Rows.{row_text};
+ghost use Rattle.lines.specs.Text.{field_text_in, plain_of, record_at, records_in, recorded, rows_in, joining_rows, stage_rows, stage_text, fixed_of, counted_of, stage_number};
 
 use fields::{UNSET, half, word};
 use rules::Ending;
@@ -107,7 +107,7 @@ pub fn put_number(page: &mut [u8], at: usize, v: usize) -> usize
 // A field after a blank; where it is a vertex, `-` for none.
 fn put_field(page: &mut [u8], at: usize, v: usize, vertex: bool) -> usize
     requires { at < 2 ^ 58 }
-    ensures { Wrote page.old at (fieldTextIn vertex v) page.new result }
+    ensures { Wrote page.old at (field_text_in vertex v) page.new result }
 {
     if vertex {
         if v == UNSET {
@@ -128,7 +128,7 @@ fn put_fields(
     vertex: bool,
 ) -> usize
     requires { (at < 2 ^ 50) × (from < 2 ^ 50) × (n < 2 ^ 50) }
-    ensures { Wrote page.old at (flat_map (fieldTextIn vertex) (fieldsIn n (drop from bytes.now))) page.new result }
+    ensures { Wrote page.old at (flat_map (field_text_in vertex) (fields_in n (drop from bytes.now))) page.new result }
 {
     let mut p = at;
     let mut i: usize = 0;
@@ -144,7 +144,7 @@ fn put_fields(
 // The name of a record.
 fn put_name(page: &mut [u8], at: usize, kind: usize) -> usize
     requires { at < 2 ^ 58 }
-    ensures { Wrote page.old at (wordOf kind) page.new result }
+    ensures { Wrote page.old at (word_of kind) page.new result }
 {
     if kind <= 21 {
         return put_text(page, at, b"body");
@@ -164,7 +164,7 @@ fn put_name(page: &mut [u8], at: usize, kind: usize) -> usize
 
 // How many of a record's fields are no vertices: of an edge's the first two.
 fn plain_fields(kind: usize, n: usize) -> usize
-    ensures { (result ≡ plainOf kind n) × (result ≤ n) }
+    ensures { (result ≡ plain_of kind n) × (result ≤ n) }
 {
     if kind == 23 {
         if 2 < n {
@@ -177,7 +177,7 @@ fn plain_fields(kind: usize, n: usize) -> usize
 // The line of the record at a byte of the body.
 fn put_line(page: &mut [u8], at: usize, body: &[u8], from: usize) -> usize
     requires { (at < 2 ^ 40) × (from < 4294967296) }
-    ensures { Wrote page.old at (lineOf (recordAt (drop from body.now))) page.new result }
+    ensures { Wrote page.old at (line_of (record_at (drop from body.now))) page.new result }
 {
     let kind = half(body, from + 4);
     let n = word(body, from) / 4;
@@ -191,7 +191,7 @@ fn put_line(page: &mut [u8], at: usize, body: &[u8], from: usize) -> usize
 // A line for each record of a body.
 pub fn put_lines(page: &mut [u8], body: &[u8]) -> usize
     requires { length body.now < 4294967296 }
-    ensures { Wrote page.old 0 (flat_map lineOf (recordsIn body.now)) page.new result }
+    ensures { Wrote page.old 0 (flat_map line_of (records_in body.now)) page.new result }
 {
     let mut p: usize = 0;
     let mut from: usize = 0;
@@ -204,7 +204,7 @@ pub fn put_lines(page: &mut [u8], body: &[u8]) -> usize
 
 // The line of a refusal.
 pub fn put_refusal(page: &mut [u8], number: usize, place: usize) -> usize
-    ensures { Wrote page.old 0 (listingOf (refuse number place)) page.new result }
+    ensures { Wrote page.old 0 (listing_of (refuse number place)) page.new result }
 {
     let p = put_text(page, 0, b"refused");
     let q = put_field(page, p, number, false);
@@ -215,7 +215,7 @@ pub fn put_refusal(page: &mut [u8], number: usize, place: usize) -> usize
 // The listing of sewing's answer, with the body at the start of the output.
 pub fn put_listing(page: &mut [u8], out: &[u8], ending: Ending) -> usize
     requires { length out.now < 4294967296 }
-    ensures { Wrote page.old 0 (listingOf (recorded out.now ending)) page.new result }
+    ensures { Wrote page.old 0 (listing_of (recorded out.now ending)) page.new result }
 {
     match ending {
         Ending::Written(n) => {
@@ -231,7 +231,7 @@ pub fn put_listing(page: &mut [u8], out: &[u8], ending: Ending) -> usize
 // A row of so many fields, at least one, with a blank between two.
 fn put_row(page: &mut [u8], at: usize, bytes: &[u8], from: usize, n: usize) -> usize
     requires { (at < 2 ^ 44) × (from < 4294967296) × (0 < n) × (n < 2 ^ 40) }
-    ensures { Wrote page.old at (rowText (fieldsIn n (drop from bytes.now))) page.new result }
+    ensures { Wrote page.old at (row_text (fields_in n (drop from bytes.now))) page.new result }
 {
     let p = put_number(page, at, word(bytes, from));
     let q = put_fields(page, p, bytes, from + 4, n - 1, false);
@@ -241,7 +241,7 @@ fn put_row(page: &mut [u8], at: usize, bytes: &[u8], from: usize, n: usize) -> u
 // The rows of some bytes: each has `fixed` fields, and `counted` more for each that its second field counts.
 fn put_rows(page: &mut [u8], at: usize, bytes: &[u8], fixed: usize, counted: usize) -> usize
     requires { (at < 2 ^ 43) × (length bytes.now < 4294967296) × (0 < fixed) × (fixed ≤ 7) × (counted ≤ 2) }
-    ensures { Wrote page.old at (flat_map rowText (rowsIn fixed counted bytes.now)) page.new result × (result < at + 2 ^ 40) }
+    ensures { Wrote page.old at (flat_map row_text (rows_in fixed counted bytes.now)) page.new result × (result < at + 2 ^ 40) }
 {
     let mut p = at;
     let mut from: usize = 0;
@@ -256,7 +256,7 @@ fn put_rows(page: &mut [u8], at: usize, bytes: &[u8], fixed: usize, counted: usi
 // Edges and joining: the counts, so many edges, then the loops.
 fn put_joining(page: &mut [u8], bytes: &[u8]) -> usize
     requires { length bytes.now < 4294967296 }
-    ensures { Wrote page.old 0 (flat_map rowText (joiningRows bytes.now)) page.new result }
+    ensures { Wrote page.old 0 (flat_map row_text (joining_rows bytes.now)) page.new result }
 {
     let counts = front(bytes, 12);
     let rest = back(bytes, 12);
@@ -270,7 +270,7 @@ fn put_joining(page: &mut [u8], bytes: &[u8]) -> usize
 
 // How many fields a row of a stage has at least.
 fn fixed_fields(stage: usize) -> usize
-    ensures { (result ≡ fixedOf stage) × (0 < result) × (result ≤ 7) }
+    ensures { (result ≡ fixed_of stage) × (0 < result) × (result ≤ 7) }
 {
     match stage {
         1 => 4,
@@ -283,7 +283,7 @@ fn fixed_fields(stage: usize) -> usize
 
 // Whether the second field of a row counts further ones: 1 if so, else 0.
 fn counted_fields(stage: usize) -> usize
-    ensures { (result ≡ countedOf stage) × (result ≤ 2) }
+    ensures { (result ≡ counted_of stage) × (result ≤ 2) }
 {
     match stage {
         6 => 1,
@@ -296,7 +296,7 @@ fn counted_fields(stage: usize) -> usize
 // A line for each row of a stage, by the stage's number from 1 to 11.
 fn put_stage_rows(page: &mut [u8], stage: usize, bytes: &[u8]) -> usize
     requires { length bytes.now < 4294967296 }
-    ensures { Wrote page.old 0 (flat_map rowText (stageRows stage bytes.now)) page.new result }
+    ensures { Wrote page.old 0 (flat_map row_text (stage_rows stage bytes.now)) page.new result }
 {
     if stage == 8 {
         return put_joining(page, bytes);
@@ -312,7 +312,7 @@ fn put_stage_rows(page: &mut [u8], stage: usize, bytes: &[u8]) -> usize
 // The lines of a stage's answer, with its fields at the start of the output.
 pub fn put_stage(page: &mut [u8], stage: usize, out: &[u8], ending: Ending) -> usize
     requires { length out.now < 4294967296 }
-    ensures { Wrote page.old 0 (stageText stage out.now ending) page.new result }
+    ensures { Wrote page.old 0 (stage_text stage out.now ending) page.new result }
 {
     match ending {
         Ending::Written(n) => {
@@ -325,7 +325,7 @@ pub fn put_stage(page: &mut [u8], stage: usize, out: &[u8], ending: Ending) -> u
 
 // The number of a stage by its name; 0 for any other name.
 pub fn stage_number(name: &[u8]) -> usize
-    ensures { result ≡ stageNumber name.now }
+    ensures { result ≡ stage_number name.now }
 {
     if is_same(name, b"read") {
         return 1;

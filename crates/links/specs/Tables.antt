@@ -3,7 +3,7 @@
 use Rattle.std.specs.Prelude.{ℕ, zero, suc, ◌+◌, ◌*◌, ◌-◌, ◌≤◌, ◌<◌, ◌≡◌, List, [], ◌∷◌, map, cond, length, get_or, set, ltb}
 use Rattle.lists.specs.Lists.{◌∈◌, Nodup}
 use Rattle.rules.specs.declared.Item.{Item}
-use Rattle.edges.specs.Table.{itemIn}
+use Rattle.edges.specs.Table.{item_in}
 
 -- the item list while edges are joined, with what stands in each slot; the slot after it, the slot where each loop starts, the loop of each slot, the slot of each item,
 -- and the start and the end of each loop in the list that the loops were laid out in
@@ -15,8 +15,8 @@ pub record Links : Type 0 where
   pub spots : List ℕ
   pub stretches : List ℕ
 
-abbrev pub linksOf : List ℕ → List ℕ → List ℕ → List ℕ → List ℕ → List ℕ → Links
-linksOf codes nexts heads owners spots stretches = record { codes = codes; nexts = nexts; heads = heads; owners = owners; spots = spots; stretches = stretches }
+abbrev pub links_of : List ℕ → List ℕ → List ℕ → List ℕ → List ℕ → List ℕ → Links
+links_of codes nexts heads owners spots stretches = record { codes = codes; nexts = nexts; heads = heads; owners = owners; spots = spots; stretches = stretches }
 
 -- n slots, each led to by the one before it, from slot x on
 unfoldable pub follow : List ℕ → ℕ → ℕ → List ℕ
@@ -28,28 +28,28 @@ abbrev pub IsLoop : List ℕ → ℕ → Type 0
 IsLoop stretches k = 2 * k + 1 < length stretches
 
 -- how many items loop k has
-abbrev pub sizeAt : List ℕ → ℕ → ℕ
-sizeAt stretches k = get_or stretches (2 * k + 1) 0 - get_or stretches (2 * k) 0
+abbrev pub size_at : List ℕ → ℕ → ℕ
+size_at stretches k = get_or stretches (2 * k + 1) 0 - get_or stretches (2 * k) 0
 
 -- where loop k's own stretch of a list of that size ends: where the next loop starts, or at the list's end
-unfoldable pub ownEnd : List ℕ → ℕ → ℕ → ℕ
-ownEnd stretches size k = cond (ltb (2 * k + 3) (length stretches)) (get_or stretches (2 * k + 2) 0) size
+unfoldable pub own_end : List ℕ → ℕ → ℕ → ℕ
+own_end stretches size k = cond (ltb (2 * k + 3) (length stretches)) (get_or stretches (2 * k + 2) 0) size
 
 -- the slots of loop k
-abbrev pub slotsAt : Links → ℕ → List ℕ
-slotsAt t k = follow t.nexts (get_or t.heads k 0) (sizeAt t.stretches k)
+abbrev pub slots_at : Links → ℕ → List ℕ
+slots_at t k = follow t.nexts (get_or t.heads k 0) (size_at t.stretches k)
 
 -- what stands in some slots
-abbrev pub codesAt : List ℕ → List ℕ → List ℕ
-codesAt codes l = map (λ s. get_or codes s 0) l
+abbrev pub codes_at : List ℕ → List ℕ → List ℕ
+codes_at codes l = map (λ s. get_or codes s 0) l
 
 -- loop k, its items as numbers
-abbrev pub ringAt : Links → ℕ → List ℕ
-ringAt t k = codesAt t.codes (slotsAt t k)
+abbrev pub ring_at : Links → ℕ → List ℕ
+ring_at t k = codes_at t.codes (slots_at t k)
 
 -- loop k
-abbrev pub loopOf : Links → ℕ → List Item
-loopOf t k = map itemIn (ringAt t k)
+abbrev pub loop_of : Links → ℕ → List Item
+loop_of t k = map item_in (ring_at t k)
 
 -- slots that lead from slot x on to slot y
 abbrev pub Chain : List ℕ → ℕ → List ℕ → ℕ → Type 0
@@ -58,20 +58,20 @@ Chain nexts x (s ∷ l) y = (x ≡ s) × Chain nexts (get_or nexts s 0) l y
 
 -- slot s lies in loop k's own stretch
 pub record Own (t : Links) (k s : ℕ) : Type 0 where
-  pub from-start : get_or t.stretches (2 * k) 0 ≤ s
-  pub to-end : s < ownEnd t.stretches (length t.codes) k
+  pub from_start : get_or t.stretches (2 * k) 0 ≤ s
+  pub to_end : s < own_end t.stretches (length t.codes) k
 
 -- loop k's own stretch lies in the item list and in the links
 pub record Held (t : Links) (k : ℕ) : Type 0 where
-  pub codes-hold : ownEnd t.stretches (length t.codes) k ≤ length t.codes
-  pub nexts-hold : ownEnd t.stretches (length t.codes) k ≤ length t.nexts
+  pub codes_hold : own_end t.stretches (length t.codes) k ≤ length t.codes
+  pub nexts_hold : own_end t.stretches (length t.codes) k ≤ length t.nexts
   pub room : k < length t.heads
 
 -- loop k stands in the slots l, which lie in its own stretch: they lead back to the first, no slot is twice there, each knows the loop,
 -- and each item knows its slot
 pub record Stands (t : Links) (k : ℕ) (l : List ℕ) : Type 0 where
   pub closed : Chain t.nexts (get_or t.heads k 0) l (get_or t.heads k 0)
-  pub size : length l ≡ sizeAt t.stretches k
+  pub size : length l ≡ size_at t.stretches k
   pub held : Held t k
   pub apart : Nodup l
   pub owned : (s : ℕ) → s ∈ l → get_or t.owners s 0 ≡ k
@@ -80,7 +80,7 @@ pub record Stands (t : Links) (k : ℕ) (l : List ℕ) : Type 0 where
 
 -- each loop stands in its slots
 abbrev pub Linked : Links → Type 0
-Linked t = (k : ℕ) → IsLoop t.stretches k → Stands t k (slotsAt t k)
+Linked t = (k : ℕ) → IsLoop t.stretches k → Stands t k (slots_at t k)
 
 -- a loop's own stretch of the item list and of the links, which starts at `start`, and its head, after the item in slot p and the next one
 -- turned to the front and the item x took their place
@@ -90,8 +90,8 @@ pub record Turned (codes nexts head : List ℕ) (start p x : ℕ) (codes' nexts'
   pub front : head' ≡ set head 0 p
 
 -- slot p of loop k takes the item x for its own and the next slot's; the loop then starts there, and has one item less
-unfoldable pub fusedIn : Links → ℕ → ℕ → ℕ → Links
-fusedIn t k p x = record {
+unfoldable pub fused_in : Links → ℕ → ℕ → ℕ → Links
+fused_in t k p x = record {
   codes = set t.codes p x;
   nexts = set t.nexts p (get_or t.nexts (get_or t.nexts p 0) 0);
   heads = set t.heads k p;
@@ -101,14 +101,14 @@ fusedIn t k p x = record {
 }
 
 -- the same at the slot of the item y
-abbrev pub fusedAt : Links → ℕ → ℕ → Links
-fusedAt t y x = let p = get_or t.spots y 0 in fusedIn t (get_or t.owners p 0) p x
+abbrev pub fused_at : Links → ℕ → ℕ → Links
+fused_at t y x = let p = get_or t.spots y 0 in fused_in t (get_or t.owners p 0) p x
 
 -- what a join in loop k at slot p needs: the loop's own stretch lies in the tables, slot p and the next one lie in the stretch, and there is an end to move
 pub record FusableIn (t : Links) (k p : ℕ) : Type 0 where
   pub held : Held t k
   pub own : Own t k p
-  pub next-own : Own t k (get_or t.nexts p 0)
+  pub next_own : Own t k (get_or t.nexts p 0)
   pub ending : 1 ≤ get_or t.stretches (2 * k + 1) 0
 
 -- the same at the slot of the item y

@@ -5,11 +5,11 @@
 #![tactic(auto)]
 
 ghost use Rattle.std.specs.Prelude.{◌≡◌, ◌+◌, ◌*◌, ◌-◌, ◌≤◌, ◌<◌, length, get_or};
-ghost use Rattle.edges.specs.Table.{rowsIn, Laid};
-ghost use Rattle.links.specs.Tables.{linksOf, IsLoop, ownEnd, follow, codesAt, Turned, fusedAt, Fusable};
-ghost use Rattle.links.specs.JoinLinks.{inCode, Joinable, Joined};
-ghost use Rattle.links.specs.Lay.{laidOut};
-ghost use Rattle.links.specs.Link.{nextSlot, Linkable, Linking, LinkedLoops};
+ghost use Rattle.edges.specs.Table.{rows_in, Laid};
+ghost use Rattle.links.specs.Tables.{links_of, IsLoop, own_end, follow, codes_at, Turned, fused_at, Fusable};
+ghost use Rattle.links.specs.JoinLinks.{in_code, Joinable, Joined};
+ghost use Rattle.links.specs.Lay.{laid_out};
+ghost use Rattle.links.specs.Link.{next_slot, Linkable, Linking, LinkedLoops};
 
 use edges::edge_start;
 use fields::{get, put};
@@ -19,7 +19,7 @@ use fields::{get, put};
 // The slot after s in the loop from `start` to `end`.
 fn next_slot(start: usize, end: usize, s: usize) -> usize
     requires { (start < 4294967296) × (s < end) × (end < 4294967296) }
-    ensures { (result ≡ nextSlot start end s) × (result < 4294967296) }
+    ensures { (result ≡ next_slot start end s) × (result < 4294967296) }
 {
     if s + 1 == end {
         return start;
@@ -65,7 +65,7 @@ pub fn link_loops(
     spots: &mut [u32],
 )
     requires { Linkable items.now stretches.now list.old nexts.old owners.old spots.old × (length stretches.now ≤ 2 * length heads.old) × (length stretches.now < 4294967296) }
-    ensures { LinkedLoops items.now (linksOf list.new nexts.new heads.new owners.new spots.new stretches.now) }
+    ensures { LinkedLoops items.now (links_of list.new nexts.new heads.new owners.new spots.new stretches.now) }
 {
     let n = stretches.len() / 2;
     let mut k: usize = 0;
@@ -82,7 +82,7 @@ pub fn link_loops(
 // Where loop k's own stretch of a list of that size ends: where the next loop starts, or at the list's end.
 fn own_end(stretches: &[u32], size: usize, k: usize) -> usize
     requires { k < 4294967296 }
-    ensures { result ≡ ownEnd stretches.now size k }
+    ensures { result ≡ own_end stretches.now size k }
 {
     if 2 * k + 3 < stretches.len() {
         return get(stretches, 2 * k + 2);
@@ -121,8 +121,8 @@ fn fuse(
     y: usize,
     x: usize,
 )
-    requires { Fusable (linksOf list.old nexts.old heads.old owners.now spots.old stretches.old) y × (x < 4294967296) }
-    ensures { linksOf list.new nexts.new heads.new owners.now spots.new stretches.new ≡ fusedAt (linksOf list.old nexts.old heads.old owners.now spots.old stretches.old) y x }
+    requires { Fusable (links_of list.old nexts.old heads.old owners.now spots.old stretches.old) y × (x < 4294967296) }
+    ensures { links_of list.new nexts.new heads.new owners.now spots.new stretches.new ≡ fused_at (links_of list.old nexts.old heads.old owners.now spots.old stretches.old) y x }
 {
     let p = get(spots, y);
     let k = get(owners, p);
@@ -144,7 +144,7 @@ fn fuse(
 // The item of edge a that ends at corner v.
 fn in_code(rows: &[u32], v: usize, a: usize) -> usize
     requires { a < 2147483648 }
-    ensures { result ≡ inCode (rowsIn rows.now) v a }
+    ensures { result ≡ in_code (rows_in rows.now) v a }
 {
     if edge_start(rows, a) == v {
         return 2 * a + 1;
@@ -166,8 +166,8 @@ pub fn join_places(
     b: usize,
     new: usize,
 )
-    requires { Joinable (rowsIn rows.now) v a b new (linksOf list.old nexts.old heads.old owners.now spots.old stretches.old) }
-    ensures { Joined (rowsIn rows.now) v a b (linksOf list.old nexts.old heads.old owners.now spots.old stretches.old) (linksOf list.new nexts.new heads.new owners.now spots.new stretches.new) }
+    requires { Joinable (rows_in rows.now) v a b new (links_of list.old nexts.old heads.old owners.now spots.old stretches.old) }
+    ensures { Joined (rows_in rows.now) v a b (links_of list.old nexts.old heads.old owners.now spots.old stretches.old) (links_of list.new nexts.new heads.new owners.now spots.new stretches.new) }
 {
     let x = in_code(rows, v, a);
     let y = in_code(rows, v, b);
@@ -179,7 +179,7 @@ pub fn join_places(
 
 // A loop's own stretch of the item list is rewritten: its items from the head on.
 fn lay_loop(list: &[u32], nexts: &[u32], head: usize, part: &mut [u32])
-    ensures { part.new ≡ codesAt list.now (follow nexts.now head (length part.old)) }
+    ensures { part.new ≡ codes_at list.now (follow nexts.now head (length part.old)) }
 {
     let n = part.len();
     let mut p = head;
@@ -195,7 +195,7 @@ fn lay_loop(list: &[u32], nexts: &[u32], head: usize, part: &mut [u32])
 // Every loop is laid out in its stretch, turned so that its head comes first.
 pub fn lay_loops(list: &[u32], nexts: &[u32], heads: &[u32], stretches: &[u32], items: &mut [u32])
     requires { Laid stretches.now items.old }
-    ensures { items.new ≡ laidOut list.now nexts.now heads.now stretches.now items.old }
+    ensures { items.new ≡ laid_out list.now nexts.now heads.now stretches.now items.old }
 {
     let n = stretches.len() / 2;
     let mut k: usize = 0;

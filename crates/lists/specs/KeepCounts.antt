@@ -2,71 +2,71 @@
 use Rattle.std.specs.Prelude.{◌≡◌, refl, Bool, true, false, cond, List, [], ◌∷◌, ℕ, suc, ◌+◌, ◌≤◌, length}
 use Rattle.std.proofs.Common.{sym, ap, ◌∙◌, ⊎_elim, arith}
 use mathlib.Core.List.Memᴰ
-use Rattle.lists.specs.Lists.{◌∈◌, Nodup, keep, position, sumOf}
-use Rattle.lists.specs.Membership.{in-getD}
-use Rattle.lists.specs.Members.{keep-yes, keep-no, keep-same, in-keep, keep-in, position-before}
+use Rattle.lists.specs.Lists.{◌∈◌, Nodup, keep, position, sum_of}
+use Rattle.lists.specs.Membership.{in_get_or}
+use Rattle.lists.specs.Members.{keep_yes, keep_no, keep_same, in_keep, keep_in, position_before}
 
 -- COUNTS
 
-pub keep-none : {A : Type 0} (p : A → Bool) → length (keep p []) ≡ 0
+pub keep_none : {A : Type 0} (p : A → Bool) → length (keep p []) ≡ 0
 unfolding keep
-keep-none p = refl
+keep_none p = refl
 
-pub keep-cons : {A : Type 0} (p : A → Bool) (x : A) (l : List A) → length (keep p (x ∷ l)) ≡ cond (p x) 1 0 + length (keep p l)
+pub keep_cons : {A : Type 0} (p : A → Bool) (x : A) (l : List A) → length (keep p (x ∷ l)) ≡ cond (p x) 1 0 + length (keep p l)
 unfolding keep
-keep-cons p x l = go (p x)
+keep_cons p x l = go (p x)
   where
     go : (t : Bool) → length (cond t (x ∷ keep p l) (keep p l)) ≡ cond t 1 0 + length (keep p l)
     go true = omega arith
     go false = omega arith
 
 -- a member that passes is counted
-pub keep-counts : {A : Type 0} (p : A → Bool) {x : A} {l : List A} → x ∈ l → p x ≡ true → 1 ≤ length (keep p l)
-keep-counts {A} p {x} {l} m t = member (in-keep p m t)
+pub keep_counts : {A : Type 0} (p : A → Bool) {x : A} {l : List A} → x ∈ l → p x ≡ true → 1 ≤ length (keep p l)
+keep_counts {A} p {x} {l} m t = member (in_keep p m t)
   where
     member : {k : List A} → x ∈ k → 1 ≤ length k
     member (Memᴰ.head e) = omega arith
     member (Memᴰ.tail q) = omega arith
 
 -- where some are counted, there is one
-pub counted-one : {A : Type 0} (p : A → Bool) (l : List A) → 1 ≤ length (keep p l) → (x : A) × (x ∈ l) × (p x ≡ true)
-counted-one {A} p l h = let r = first (keep p l) h in let k = keep-in p l r.0 r.1 in (r.0, k.0, k.1)
+pub counted_one : {A : Type 0} (p : A → Bool) (l : List A) → 1 ≤ length (keep p l) → (x : A) × (x ∈ l) × (p x ≡ true)
+counted_one {A} p l h = let r = first (keep p l) h in let k = keep_in p l r.0 r.1 in (r.0, k.0, k.1)
   where
     first : (k : List A) → 1 ≤ length k → (x : A) × (x ∈ k)
     first [] g = absurd (omega arith)
     first (x ∷ k) g = (x, Memᴰ.head refl)
 
 -- two tests that differ at one number of a list without duplicates only: one more passes the test that it passes
-pub keep-fall : (p q : ℕ → Bool) (v : ℕ) (l : List ℕ) → Nodup l → v ∈ l → p v ≡ true → q v ≡ false
+pub keep_fall : (p q : ℕ → Bool) (v : ℕ) (l : List ℕ) → Nodup l → v ∈ l → p v ≡ true → q v ≡ false
     → ((x : ℕ) → x ∈ l → (x ≡ v → ⊥) → p x ≡ q x) → length (keep p l) ≡ suc (length (keep q l))
-keep-fall p q v [] nd m at_p at-q other = absurd (Memᴰ.not-nil m)
-keep-fall p q v (x ∷ l) nd m at_p at-q other =
+keep_fall p q v [] nd m at_p at-q other = absurd (Memᴰ.not-nil m)
+keep_fall p q v (x ∷ l) nd m at_p at-q other =
     ⊎_elim
     (λ e.
-    let rest : keep p l ≡ keep q l = keep-same p q l (λ y i. other y (Memᴰ.tail i) (λ z. nd.0 (Memᴰ.cast (sym (z ∙ e)) i))) in
-    ap length (keep-yes p x l (ap p (sym e) ∙ at_p)) ∙ ap (λ k. suc (length k)) (rest ∙ sym (keep-no q x l (ap q (sym e) ∙ at-q))))
+    let rest : keep p l ≡ keep q l = keep_same p q l (λ y i. other y (Memᴰ.tail i) (λ z. nd.0 (Memᴰ.cast (sym (z ∙ e)) i))) in
+    ap length (keep_yes p x l (ap p (sym e) ∙ at_p)) ∙ ap (λ k. suc (length k)) (rest ∙ sym (keep_no q x l (ap q (sym e) ∙ at-q))))
     (λ i.
     let same : p x ≡ q x = other x (Memᴰ.head refl) (λ z. nd.0 (Memᴰ.cast z i)) in
-    let r = keep-fall p q v l nd.1 i at_p at-q (λ y k. other y (Memᴰ.tail k)) in
+    let r = keep_fall p q v l nd.1 i at_p at-q (λ y k. other y (Memᴰ.tail k)) in
     let c = ap (λ t. cond {A = ℕ} t 1 0) same in
-    omega (arith, keep-cons p x l, keep-cons q x l))
+    omega (arith, keep_cons p x l, keep_cons q x l))
     (Memᴰ.cases_cons m)
 
 -- where the position is the length, no member passes
-pub position-fails : {A : Type 0} (p : A → Bool) (l : List A) → position p l ≡ length l → (x : A) → x ∈ l → p x ≡ false
-position-fails p l e x m = let r = in-getD x m in ap p (sym r.2) ∙ position-before p l x r.0 (omega (arith, r.1))
+pub position_fails : {A : Type 0} (p : A → Bool) (l : List A) → position p l ≡ length l → (x : A) → x ∈ l → p x ≡ false
+position_fails p l e x m = let r = in_get_or x m in ap p (sym r.2) ∙ position_before p l x r.0 (omega (arith, r.1))
 
 -- SUMS
 
 -- what a member counts is at most the sum
-pub sum-member : {A : Type 0} (f : A → ℕ) {x : A} {l : List A} → x ∈ l → f x ≤ sumOf f l
-unfolding sumOf
-sum-member f (Memᴰ.head {xs = l} e) = let z = ap f e in omega arith
-sum-member f (Memᴰ.tail m) = let r = sum-member f m in omega arith
+pub sum_member : {A : Type 0} (f : A → ℕ) {x : A} {l : List A} → x ∈ l → f x ≤ sum_of f l
+unfolding sum_of
+sum_member f (Memᴰ.head {xs = l} e) = let z = ap f e in omega arith
+sum_member f (Memᴰ.tail m) = let r = sum_member f m in omega arith
 
 -- a sum that is made or not
-pub sum-cond : {A : Type 0} (t : Bool) (f : A → ℕ) (l : List A) → sumOf (λ x. cond t (f x) 0) l ≡ cond t (sumOf f l) 0
-unfolding sumOf
-sum-cond true f l = refl
-sum-cond false f [] = refl
-sum-cond false f (x ∷ l) = omega (arith, sum-cond false f l)
+pub sum_cond : {A : Type 0} (t : Bool) (f : A → ℕ) (l : List A) → sum_of (λ x. cond t (f x) 0) l ≡ cond t (sum_of f l) 0
+unfolding sum_of
+sum_cond true f l = refl
+sum_cond false f [] = refl
+sum_cond false f (x ∷ l) = omega (arith, sum_cond false f l)

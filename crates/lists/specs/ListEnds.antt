@@ -4,63 +4,63 @@ use Rattle.std.proofs.Common.{arith, sym, ap, ◌∙◌, eq-eqb, ne_eqb}
 use mathlib.Core.List.{List, [], ◌∷◌, ◌++◌, reverse_aux, reverse}
 use Rattle.lists.specs.Lists.{has, all, positions}
 
-pub positions-append : {A : Type 0} (p : A → Bool) (i : ℕ) (l m : List A) → positions p i (l ++ m) ≡ positions p i l ++ positions p (i + length l) m
+pub positions_append : {A : Type 0} (p : A → Bool) (i : ℕ) (l m : List A) → positions p i (l ++ m) ≡ positions p i l ++ positions p (i + length l) m
 unfolding positions
-positions-append p i [] m = let e : i ≡ i + 0 = omega arith in ap (λ k. positions p k m) e
-positions-append p i (x ∷ l) m =
+positions_append p i [] m = let e : i ≡ i + 0 = omega arith in ap (λ k. positions p k m) e
+positions_append p i (x ∷ l) m =
     let e : suc i + length l ≡ i + suc (length l) = omega arith in
-    go (p x) (positions p (suc i) l) (positions p (i + suc (length l)) m) (positions-append p (suc i) l m ∙ ap (λ k. positions p (suc i) l ++ positions p k m) e)
+    go (p x) (positions p (suc i) l) (positions p (i + suc (length l)) m) (positions_append p (suc i) l m ∙ ap (λ k. positions p (suc i) l ++ positions p k m) e)
   where
     go : (b : Bool) {r : List ℕ} (s t : List ℕ) → r ≡ s ++ t → cond b (i ∷ r) r ≡ cond b (i ∷ s) s ++ t
     go true s t e = ap (λ r. i ∷ r) e
     go false s t e = e
 
 -- a first member that is looked for, and one that is not
-pub has-hit : (x y : ℕ) (l : List ℕ) → y ≡ x → has x (y ∷ l) ≡ true
+pub has_hit : (x y : ℕ) (l : List ℕ) → y ≡ x → has x (y ∷ l) ≡ true
 unfolding has
-has-hit x y l e = rw (eq-eqb x y (sym e))
+has_hit x y l e = rw (eq-eqb x y (sym e))
 
-pub has-miss : (x y : ℕ) (l : List ℕ) → (y ≡ x → ⊥) → has x (y ∷ l) ≡ has x l
+pub has_miss : (x y : ℕ) (l : List ℕ) → (y ≡ x → ⊥) → has x (y ∷ l) ≡ has x l
 unfolding has
-has-miss x y l n = rw (ne_eqb x y (λ e. n (sym e)))
+has_miss x y l n = rw (ne_eqb x y (λ e. n (sym e)))
 
-pub has-none : (x : ℕ) → has x [] ≡ false
+pub has_none : (x : ℕ) → has x [] ≡ false
 unfolding has
-has-none x = refl
+has_none x = refl
 
 -- a first member that passes the test, and one that does not
-pub all-on : {A : Type 0} (p : A → Bool) (x : A) (l : List A) → p x ≡ true → all p (x ∷ l) ≡ all p l
+pub all_on : {A : Type 0} (p : A → Bool) (x : A) (l : List A) → p x ≡ true → all p (x ∷ l) ≡ all p l
 unfolding all
-all-on p x l e = rw e
+all_on p x l e = rw e
 
-pub all-stop : {A : Type 0} (p : A → Bool) (x : A) (l : List A) → p x ≡ false → all p (x ∷ l) ≡ false
+pub all_stop : {A : Type 0} (p : A → Bool) (x : A) (l : List A) → p x ≡ false → all p (x ∷ l) ≡ false
 unfolding all
-all-stop p x l e = rw e
+all_stop p x l e = rw e
 
-pub all-none : {A : Type 0} (p : A → Bool) → all p [] ≡ true
+pub all_none : {A : Type 0} (p : A → Bool) → all p [] ≡ true
 unfolding all
-all-none p = refl
+all_none p = refl
 
-and-swap : (a b c : Bool) → (a && (b && c)) ≡ (b && (a && c))
-and-swap true true c = refl
-and-swap true false c = refl
-and-swap false true c = refl
-and-swap false false c = refl
+and_swap : (a b c : Bool) → (a && (b && c)) ≡ (b && (a && c))
+and_swap true true c = refl
+and_swap true false c = refl
+and_swap false true c = refl
+and_swap false false c = refl
 
-all-onto : {A : Type 0} (p : A → Bool) (l m : List A) → all p (reverse_aux l m) ≡ (all p l && all p m)
+all_onto : {A : Type 0} (p : A → Bool) (l m : List A) → all p (reverse_aux l m) ≡ (all p l && all p m)
 unfolding all
-all-onto p [] m = refl
-all-onto p (x ∷ l) m = all-onto p l (x ∷ m) ∙ and-swap (all p l) (p x) (all p m) ∙ sym (and-three (p x) (all p l) (all p m))
+all_onto p [] m = refl
+all_onto p (x ∷ l) m = all_onto p l (x ∷ m) ∙ and_swap (all p l) (p x) (all p m) ∙ sym (and_three (p x) (all p l) (all p m))
   where
-    and-three : (a b c : Bool) → ((a && b) && c) ≡ (a && (b && c))
-    and-three true b c = refl
-    and-three false b c = refl
+    and_three : (a b c : Bool) → ((a && b) && c) ≡ (a && (b && c))
+    and_three true b c = refl
+    and_three false b c = refl
 
 -- members from the other end pass a test as they do
-pub all-reverse : {A : Type 0} (p : A → Bool) (l : List A) → all p (reverse l) ≡ all p l
+pub all_reverse : {A : Type 0} (p : A → Bool) (l : List A) → all p (reverse l) ≡ all p l
 unfolding all
-all-reverse p l = all-onto p l [] ∙ and-true (all p l)
+all_reverse p l = all_onto p l [] ∙ and_true (all p l)
   where
-    and-true : (b : Bool) → (b && true) ≡ b
-    and-true true = refl
-    and-true false = refl
+    and_true : (b : Bool) → (b && true) ≡ b
+    and_true true = refl
+    and_true false = refl

@@ -74,27 +74,27 @@ position p [] = 0
 position p (x ∷ xs) = let later = suc (position p xs) in cond (p x) 0 later
 
 -- the position of a number, or the length
-abbrev pub indexOf : ℕ → List ℕ → ℕ
-indexOf x l = position (eqb x) l
+abbrev pub index_of : ℕ → List ℕ → ℕ
+index_of x l = position (eqb x) l
 
 -- the sum of a number for each member
-unfoldable pub sumOf : {A : Type 0} → (A → ℕ) → List A → ℕ
-sumOf f [] = 0
-sumOf f (x ∷ xs) = f x + sumOf f xs
+unfoldable pub sum_of : {A : Type 0} → (A → ℕ) → List A → ℕ
+sum_of f [] = 0
+sum_of f (x ∷ xs) = f x + sum_of f xs
 
 -- a member with the one after it
 pub record Neighbours (A : Type 0) : Type 0 where
   pub here : A
   pub next : A
 
-unfoldable pub neighboursFrom : {A : Type 0} → A → A → List A → List (Neighbours A)
-neighboursFrom first x [] = record { here = x; next = first } ∷ []
-neighboursFrom first x (y ∷ ys) = record { here = x; next = y } ∷ neighboursFrom first y ys
+unfoldable pub neighbours_from : {A : Type 0} → A → A → List A → List (Neighbours A)
+neighbours_from first x [] = record { here = x; next = first } ∷ []
+neighbours_from first x (y ∷ ys) = record { here = x; next = y } ∷ neighbours_from first y ys
 
 -- each member with the one after it, cyclically: after the last comes the first
 unfoldable pub neighbours : {A : Type 0} → List A → List (Neighbours A)
 neighbours [] = []
-neighbours (x ∷ xs) = neighboursFrom x x xs
+neighbours (x ∷ xs) = neighbours_from x x xs
 
 -- f applied k times
 unfoldable pub iterate : (ℕ → ℕ) → ℕ → ℕ → ℕ

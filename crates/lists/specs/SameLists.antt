@@ -3,19 +3,19 @@ use Rattle.std.specs.Prelude.{◌≡◌, refl, true, List, [], ◌∷◌, ℕ, e
 use Rattle.std.proofs.lemmas.Bool.{false≢true}
 use Rattle.std.proofs.Common.{eq-eqb, eqb-true}
 use Rattle.lists.specs.Lists.{same}
-use Rattle.lists.specs.Tests.{and-both, both-and}
+use Rattle.lists.specs.Tests.{and_both, both_and}
 
-pub same-self : (l : List ℕ) → same l l ≡ true
+pub same_self : (l : List ℕ) → same l l ≡ true
 unfolding same
-same-self [] = refl
-same-self (x ∷ l) = both-and (eqb x x) (same l l) (eq-eqb x x refl) (same-self l)
+same_self [] = refl
+same_self (x ∷ l) = both_and (eqb x x) (same l l) (eq-eqb x x refl) (same_self l)
 
-pub same-is : (l m : List ℕ) → same l m ≡ true → l ≡ m
+pub same_is : (l m : List ℕ) → same l m ≡ true → l ≡ m
 unfolding same
-same-is [] [] e = refl
-same-is [] (y ∷ m) e = absurd (false≢true e)
-same-is (x ∷ l) [] e = absurd (false≢true e)
-same-is (x ∷ l) (y ∷ m) e =
-    let w = and-both (eqb x y) (same l m) e in
+same_is [] [] e = refl
+same_is [] (y ∷ m) e = absurd (false≢true e)
+same_is (x ∷ l) [] e = absurd (false≢true e)
+same_is (x ∷ l) (y ∷ m) e =
+    let w = and_both (eqb x y) (same l m) e in
     let p : x ≡ y = eqb-true x y w.0 in
-    λ i. p i ∷ same-is l m w.1 i
+    λ i. p i ∷ same_is l m w.1 i

@@ -10,77 +10,77 @@ abbrev pub stretch : {A : Type 0} → List A → ℕ → ℕ → List A
 stretch l a e = take (e - a) (drop a l)
 
 -- within a list it does not matter what stands past its end
-pub getD-within : {A : Type 0} (l : List A) (i : ℕ) (d e : A) → i < length l → get_or l i d ≡ get_or l i e
-getD-within [] i d e h = absurd (not-suc-le-zero h)
-getD-within (x ∷ l) zero d e h = refl
-getD-within (x ∷ l) (suc i) d e h = getD-within l i d e (omega arith)
+pub get_or_within : {A : Type 0} (l : List A) (i : ℕ) (d e : A) → i < length l → get_or l i d ≡ get_or l i e
+get_or_within [] i d e h = absurd (not-suc-le-zero h)
+get_or_within (x ∷ l) zero d e h = refl
+get_or_within (x ∷ l) (suc i) d e h = get_or_within l i d e (omega arith)
 
-pub length-stretch : {A : Type 0} (l : List A) (a e : ℕ) → e ≤ length l → length (stretch l a e) ≡ e - a
-length-stretch l a e h = length-take (e - a) (drop a l) ∙ simp length-drop (omega arith)
+pub length_stretch : {A : Type 0} (l : List A) (a e : ℕ) → e ≤ length l → length (stretch l a e) ≡ e - a
+length_stretch l a e h = length-take (e - a) (drop a l) ∙ simp length-drop (omega arith)
 
-pub getD-stretch : {A : Type 0} (l : List A) (a e i : ℕ) (d : A) → i < e - a → get_or (stretch l a e) i d ≡ get_or l (a + i) d
-getD-stretch l a e i d h = get_or-take (e - a) (drop a l) i d h ∙ get_or-drop a l i d
+pub get_or_stretch : {A : Type 0} (l : List A) (a e i : ℕ) (d : A) → i < e - a → get_or (stretch l a e) i d ≡ get_or l (a + i) d
+get_or_stretch l a e i d h = get_or-take (e - a) (drop a l) i d h ∙ get_or-drop a l i d
 
-pub take-map : {A B : Type 0} (f : A → B) (n : ℕ) (l : List A) → take n (map f l) ≡ map f (take n l)
-take-map f zero l = refl
-take-map f (suc n) [] = refl
-take-map f (suc n) (x ∷ l) = ap (λ r. f x ∷ r) (take-map f n l)
+pub take_map : {A B : Type 0} (f : A → B) (n : ℕ) (l : List A) → take n (map f l) ≡ map f (take n l)
+take_map f zero l = refl
+take_map f (suc n) [] = refl
+take_map f (suc n) (x ∷ l) = ap (λ r. f x ∷ r) (take_map f n l)
 
-pub drop-map : {A B : Type 0} (f : A → B) (n : ℕ) (l : List A) → drop n (map f l) ≡ map f (drop n l)
-drop-map f zero l = refl
-drop-map f (suc n) [] = refl
-drop-map f (suc n) (x ∷ l) = drop-map f n l
+pub drop_map : {A B : Type 0} (f : A → B) (n : ℕ) (l : List A) → drop n (map f l) ≡ map f (drop n l)
+drop_map f zero l = refl
+drop_map f (suc n) [] = refl
+drop_map f (suc n) (x ∷ l) = drop_map f n l
 
 -- a stretch of the images
-pub stretch-map : {A B : Type 0} (f : A → B) (l : List A) (a e : ℕ) → stretch (map f l) a e ≡ map f (stretch l a e)
-stretch-map f l a e = ap (take (e - a)) (drop-map f a l) ∙ take-map f (e - a) (drop a l)
+pub stretch_map : {A B : Type 0} (f : A → B) (l : List A) (a e : ℕ) → stretch (map f l) a e ≡ map f (stretch l a e)
+stretch_map f l a e = ap (take (e - a)) (drop_map f a l) ∙ take_map f (e - a) (drop a l)
 
 -- what is read in a stretch, by its place in the list
-pub part-get : {A : Type 0} (l : List A) (a e p : ℕ) (d : A) → a ≤ p → p < e → get_or (stretch l a e) (p - a) d ≡ get_or l p d
-part-get l a e p d low high = let z : a + (p - a) ≡ p = omega arith in getD-stretch l a e (p - a) d (omega arith) ∙ ap (λ i. get_or l i d) z
+pub part_get : {A : Type 0} (l : List A) (a e p : ℕ) (d : A) → a ≤ p → p < e → get_or (stretch l a e) (p - a) d ≡ get_or l p d
+part_get l a e p d low high = let z : a + (p - a) ≡ p = omega arith in get_or_stretch l a e (p - a) d (omega arith) ∙ ap (λ i. get_or l i d) z
 
 -- ONE STRETCH REWRITTEN
 
 -- a store in a lent stretch is a store in the list
-pub part-set : {A : Type 0} (l part : List A) (a e p : ℕ) (x : A) → a ≤ p → p < e → e ≤ length l → part ≡ set (stretch l a e) (p - a) x → put_mid a (e - a) l part ≡ set l p x
-part-set l part a e p x low high inside h =
+pub part_set : {A : Type 0} (l part : List A) (a e p : ℕ) (x : A) → a ≤ p → p < e → e ≤ length l → part ≡ set (stretch l a e) (p - a) x → put_mid a (e - a) l part ≡ set l p x
+part_set l part a e p x low high inside h =
     let z : a + (p - a) ≡ p = omega arith in
-    ap (put_mid a (e - a) l) h ∙ set_mid_at a (e - a) (p - a) l x (omega (arith, length-stretch l a e inside)) ∙ ap (λ i. set l i x) z
+    ap (put_mid a (e - a) l) h ∙ set_mid_at a (e - a) (p - a) l x (omega (arith, length_stretch l a e inside)) ∙ ap (λ i. set l i x) z
 
 -- a stretch within the first part of a list
-stretch-front : {A : Type 0} (f r : List A) (b g : ℕ) → b ≤ g → g ≤ length f → stretch (f ++ r) b g ≡ stretch f b g
-stretch-front f r b g o h = ap (take (g - b)) (drop-append-le b f r (omega arith)) ∙ take-append-le (g - b) (drop b f) r (simp length-drop (omega arith))
+stretch_front : {A : Type 0} (f r : List A) (b g : ℕ) → b ≤ g → g ≤ length f → stretch (f ++ r) b g ≡ stretch f b g
+stretch_front f r b g o h = ap (take (g - b)) (drop-append-le b f r (omega arith)) ∙ take-append-le (g - b) (drop b f) r (simp length-drop (omega arith))
 
 module _ {A : Type 0} (a e : ℕ) (l r : List A) (order : a ≤ e) (inside : e ≤ length l) (size : length r ≡ e - a) where
   -- a part that came back is there to be lent again
-  pub own-part : stretch (put_mid a (e - a) l r) a e ≡ r
-  own-part = ap (take (e - a)) (drop_at (take a l) (r ++ post_of a (e - a) l) a (length-take-le a l (omega arith))) ∙ take_at r (post_of a (e - a) l) (e - a) size
+  pub own_part : stretch (put_mid a (e - a) l r) a e ≡ r
+  own_part = ap (take (e - a)) (drop_at (take a l) (r ++ post_of a (e - a) l) a (length-take-le a l (omega arith))) ∙ take_at r (post_of a (e - a) l) (e - a) size
 
   -- a second loan of the same part covers the first
-  pub put-again : (s : List A) → put_mid a (e - a) (put_mid a (e - a) l r) s ≡ put_mid a (e - a) l s
-  put-again s =
+  pub put_again : (s : List A) → put_mid a (e - a) (put_mid a (e - a) l r) s ≡ put_mid a (e - a) l s
+  put_again s =
       let post : post_of a (e - a) (put_mid a (e - a) l r) ≡ post_of a (e - a) l =
       ap (drop (e - a)) (drop_at (take a l) (r ++ post_of a (e - a) l) a (length-take-le a l (omega arith))) ∙ drop_at r (post_of a (e - a) l) (e - a) size in
       ap (λ z. take a (put_mid a (e - a) l r) ++ (s ++ z)) post ∙ ap (λ z. z ++ (s ++ post_of a (e - a) l)) (take_put a (e - a) l r (omega arith))
 
-  pub length-put : length (put_mid a (e - a) l r) ≡ length l
-  length-put =
+  pub length_put : length (put_mid a (e - a) l r) ≡ length l
+  length_put =
       omega
       (arith, length-append (take a l) (r ++ post_of a (e - a) l), length-append r (post_of a (e - a) l), length-take-le a l (omega arith), length-drop (e - a) (drop a l), length-drop a l)
 
   -- the first members of the part
-  pub own-first : (g : ℕ) → a ≤ g → g ≤ e → stretch (put_mid a (e - a) l r) a g ≡ take (g - a) r
-  own-first g o h = sym (take-take (g - a) (e - a) (drop a (put_mid a (e - a) l r)) (omega arith)) ∙ ap (take (g - a)) own-part
+  pub own_first : (g : ℕ) → a ≤ g → g ≤ e → stretch (put_mid a (e - a) l r) a g ≡ take (g - a) r
+  own_first g o h = sym (take-take (g - a) (e - a) (drop a (put_mid a (e - a) l r)) (omega arith)) ∙ ap (take (g - a)) own_part
 
   -- what lies before the part, and what lies after it
-  pub before-part : (b g : ℕ) → b ≤ g → g ≤ a → stretch (put_mid a (e - a) l r) b g ≡ stretch l b g
-  before-part b g o h =
+  pub before_part : (b g : ℕ) → b ≤ g → g ≤ a → stretch (put_mid a (e - a) l r) b g ≡ stretch l b g
+  before_part b g o h =
       let n : length (take a l) ≡ a = length-take-le a l (omega arith) in
-      stretch-front (take a l) (r ++ post_of a (e - a) l) b g o (omega arith)
-      ∙ sym (ap (λ z. stretch z b g) (sym (take-append-drop a l)) ∙ stretch-front (take a l) (drop a l) b g o (omega arith))
+      stretch_front (take a l) (r ++ post_of a (e - a) l) b g o (omega arith)
+      ∙ sym (ap (λ z. stretch z b g) (sym (take-append-drop a l)) ∙ stretch_front (take a l) (drop a l) b g o (omega arith))
 
-  pub after-part : (b g : ℕ) → e ≤ b → stretch (put_mid a (e - a) l r) b g ≡ stretch l b g
-  after-part b g h =
+  pub after_part : (b g : ℕ) → e ≤ b → stretch (put_mid a (e - a) l r) b g ≡ stretch l b g
+  after_part b g h =
       let n : length (take a l ++ r) ≡ e = omega (arith, length-append (take a l) r, length-take-le a l (omega arith)) in
       let off : b ≡ length (take a l ++ r) + (b - e) = omega arith in
       let back : e + (b - e) ≡ b = omega arith in

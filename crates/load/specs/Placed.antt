@@ -7,9 +7,9 @@ use borrow.Author.Tests.{eqb-true}
 use Rattle.rules.specs.declared.Kind.{Kind}
 use Rattle.rules.specs.declared.Kind.TheVariants.{Unknown, Head, Vertex, EdgeRecord, FaceRecord, LoopRecord, VertexLoop, Radial, Surface, Points, Curves, Singular, Orientation, Inside}
 use Rattle.rules.specs.declared.Counts.{Counts}
-use Rattle.rules.specs.Kinds.{numberOf, partOf, rightLength, rightPosition}
-use Rattle.rules.specs.Load.{counted, noCounts}
-use Rattle.theorems.proofs.Permitted.{in-turn}
+use Rattle.rules.specs.Kinds.{number_of, part_of, right_length, right_position}
+use Rattle.rules.specs.Load.{counted, no_counts}
+use Rattle.theorems.proofs.Permitted.{in_turn_lem}
 
 -- what the counts say of the byte where the next record begins, and of each other
 pub record Placed (c : Counts) (at : ℕ) : Type 0 where
@@ -19,8 +19,8 @@ pub record Placed (c : Counts) (at : ℕ) : Type 0 where
   pub here : 0 < c.part → c.part < 4 → at ≡ 10 + 10 * c.vertices + 22 * c.edges
   pub faced : c.part ≡ 4 → 0 < c.faces
 
-pub placed-none : Placed noCounts 0
-placed-none = record {
+pub placed_none : Placed no_counts 0
+placed_none = record {
   first = λ e. refl;
   bare = λ h. refl;
   plain = λ h. refl;
@@ -40,8 +40,8 @@ late d next h faced = record {
 
 -- a record in its place, of n fields, keeps the places
 module _ (n : ℕ) (c : Counts) (at : ℕ) (P : Placed c at) where
-  head : rightLength Head (4 * n) ≡ true → rightPosition Head c.part ≡ true → Placed (counted Head n c) (at + 6 + 4 * n)
-  unfolding counted numberOf partOf rightLength rightPosition
+  head : right_length Head (4 * n) ≡ true → right_position Head c.part ≡ true → Placed (counted Head n c) (at + 6 + 4 * n)
+  unfolding counted number_of part_of right_length right_position
   head l p =
       let q = eqb-true (4 * n) 4 l in
       let none : c.part ≡ 0 = eqb-true c.part 0 p in
@@ -56,11 +56,11 @@ module _ (n : ℕ) (c : Counts) (at : ℕ) (P : Placed c at) where
         faced = λ (z : ◌≡◌ {A = ℕ} 1 4). absurd (omega arith);
       }
 
-  vertex : rightLength Vertex (4 * n) ≡ true → rightPosition Vertex c.part ≡ true → Placed (counted Vertex n c) (at + 6 + 4 * n)
-  unfolding counted numberOf partOf rightLength rightPosition
+  vertex : right_length Vertex (4 * n) ≡ true → right_position Vertex c.part ≡ true → Placed (counted Vertex n c) (at + 6 + 4 * n)
+  unfolding counted number_of part_of right_length right_position
   vertex l p =
       let q = eqb-true (4 * n) 4 l in
-      let t = in-turn c.part 2 p in
+      let t = in_turn_lem c.part 2 p in
       let e = P.plain (omega (arith, t.1)) in
       let start = P.here t.0 (omega (arith, t.1)) in
       record {
@@ -71,11 +71,11 @@ module _ (n : ℕ) (c : Counts) (at : ℕ) (P : Placed c at) where
         faced = λ (z : ◌≡◌ {A = ℕ} 2 4). absurd (omega arith);
       }
 
-  edge : rightLength EdgeRecord (4 * n) ≡ true → rightPosition EdgeRecord c.part ≡ true → Placed (counted EdgeRecord n c) (at + 6 + 4 * n)
-  unfolding counted numberOf partOf rightLength rightPosition
+  edge : right_length EdgeRecord (4 * n) ≡ true → right_position EdgeRecord c.part ≡ true → Placed (counted EdgeRecord n c) (at + 6 + 4 * n)
+  unfolding counted number_of part_of right_length right_position
   edge l p =
       let q = eqb-true (4 * n) 16 l in
-      let t = in-turn c.part 3 p in
+      let t = in_turn_lem c.part 3 p in
       let start = P.here t.0 (omega (arith, t.1)) in
       record {
         first = λ (z : ◌≡◌ {A = ℕ} 3 0). absurd (omega arith);
@@ -85,19 +85,19 @@ module _ (n : ℕ) (c : Counts) (at : ℕ) (P : Placed c at) where
         faced = λ (z : ◌≡◌ {A = ℕ} 3 4). absurd (omega arith);
       }
 
-  pub placed-kept : (k : Kind) → rightLength k (4 * n) ≡ true → rightPosition k c.part ≡ true → Placed (counted k n c) (at + 6 + 4 * n)
-  unfolding counted numberOf partOf rightPosition
-  placed-kept Unknown l p = absurd (false≢true p)
-  placed-kept Head l p = head l p
-  placed-kept Vertex l p = vertex l p
-  placed-kept EdgeRecord l p = edge l p
-  placed-kept FaceRecord l p = late (counted FaceRecord n c) (at + 6 + 4 * n) (omega arith) (λ e. omega arith)
-  placed-kept LoopRecord l p = late (counted LoopRecord n c) (at + 6 + 4 * n) (omega arith) (λ e. P.faced (eqb-true c.part 4 p))
-  placed-kept VertexLoop l p = late (counted VertexLoop n c) (at + 6 + 4 * n) (omega arith) (λ e. P.faced (eqb-true c.part 4 p))
-  placed-kept Radial l p = late (counted Radial n c) (at + 6 + 4 * n) (omega arith) (λ (e : ◌≡◌ {A = ℕ} 5 4). absurd (omega arith))
-  placed-kept Surface l p = late (counted Surface n c) (at + 6 + 4 * n) (omega arith) (λ (e : ◌≡◌ {A = ℕ} 5 4). absurd (omega arith))
-  placed-kept Points l p = late (counted Points n c) (at + 6 + 4 * n) (omega arith) (λ (e : ◌≡◌ {A = ℕ} 5 4). absurd (omega arith))
-  placed-kept Curves l p = late (counted Curves n c) (at + 6 + 4 * n) (omega arith) (λ (e : ◌≡◌ {A = ℕ} 5 4). absurd (omega arith))
-  placed-kept Singular l p = late (counted Singular n c) (at + 6 + 4 * n) (omega arith) (λ (e : ◌≡◌ {A = ℕ} 5 4). absurd (omega arith))
-  placed-kept Orientation l p = late (counted Orientation n c) (at + 6 + 4 * n) (omega arith) (λ (e : ◌≡◌ {A = ℕ} 5 4). absurd (omega arith))
-  placed-kept Inside l p = late (counted Inside n c) (at + 6 + 4 * n) (omega arith) (λ (e : ◌≡◌ {A = ℕ} 5 4). absurd (omega arith))
+  pub placed_kept : (k : Kind) → right_length k (4 * n) ≡ true → right_position k c.part ≡ true → Placed (counted k n c) (at + 6 + 4 * n)
+  unfolding counted number_of part_of right_position
+  placed_kept Unknown l p = absurd (false≢true p)
+  placed_kept Head l p = head l p
+  placed_kept Vertex l p = vertex l p
+  placed_kept EdgeRecord l p = edge l p
+  placed_kept FaceRecord l p = late (counted FaceRecord n c) (at + 6 + 4 * n) (omega arith) (λ e. omega arith)
+  placed_kept LoopRecord l p = late (counted LoopRecord n c) (at + 6 + 4 * n) (omega arith) (λ e. P.faced (eqb-true c.part 4 p))
+  placed_kept VertexLoop l p = late (counted VertexLoop n c) (at + 6 + 4 * n) (omega arith) (λ e. P.faced (eqb-true c.part 4 p))
+  placed_kept Radial l p = late (counted Radial n c) (at + 6 + 4 * n) (omega arith) (λ (e : ◌≡◌ {A = ℕ} 5 4). absurd (omega arith))
+  placed_kept Surface l p = late (counted Surface n c) (at + 6 + 4 * n) (omega arith) (λ (e : ◌≡◌ {A = ℕ} 5 4). absurd (omega arith))
+  placed_kept Points l p = late (counted Points n c) (at + 6 + 4 * n) (omega arith) (λ (e : ◌≡◌ {A = ℕ} 5 4). absurd (omega arith))
+  placed_kept Curves l p = late (counted Curves n c) (at + 6 + 4 * n) (omega arith) (λ (e : ◌≡◌ {A = ℕ} 5 4). absurd (omega arith))
+  placed_kept Singular l p = late (counted Singular n c) (at + 6 + 4 * n) (omega arith) (λ (e : ◌≡◌ {A = ℕ} 5 4). absurd (omega arith))
+  placed_kept Orientation l p = late (counted Orientation n c) (at + 6 + 4 * n) (omega arith) (λ (e : ◌≡◌ {A = ℕ} 5 4). absurd (omega arith))
+  placed_kept Inside l p = late (counted Inside n c) (at + 6 + 4 * n) (omega arith) (λ (e : ◌≡◌ {A = ℕ} 5 4). absurd (omega arith))

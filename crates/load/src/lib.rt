@@ -5,17 +5,17 @@
 
 ghost use Rattle.std.specs.Prelude.{◌≡◌, true, ◌&&◌, not, ◌<◌, length, drop, replicate};
 ghost use Rattle.rules.specs.declared.Kind.TheVariants.{FaceRecord};
-ghost use Rattle.rules.specs.Frame.{wholeRecord};
-ghost use Rattle.rules.specs.Kinds.{isLoop, isAnswer, rightLength, rightPosition};
-ghost use Rattle.rules.specs.Load.{noCounts, selectedBefore, answeredBefore, requested, shown};
+ghost use Rattle.rules.specs.Frame.{whole_record};
+ghost use Rattle.rules.specs.Kinds.{is_loop, is_answer, right_length, right_position};
+ghost use Rattle.rules.specs.Load.{no_counts, selected_before, answered_before, requested, shown};
 ghost use Rattle.theorems.specs.Sound.{Limited};
-ghost use Rattle.job.specs.Lists.{fieldsAt, facesIn, answersIn};
+ghost use Rattle.job.specs.Lists.{fields_at, faces_in, answers_in};
 ghost use Rattle.selected.specs.Sources.{Sourced};
-ghost use Rattle.load.specs.Kept.{loopKept, keptIndex};
-ghost use Rattle.load.specs.SourcesKept.{keptSources};
+ghost use Rattle.load.specs.Kept.{loop_kept, kept_index};
+ghost use Rattle.load.specs.SourcesKept.{kept_sources};
 ghost use Rattle.load.specs.Judged.{Here, Judged};
 ghost use Rattle.load.specs.Going.{Going, SteppedAs, LoadedAs};
-ghost use Rattle.load.specs.Stretches.{stretchOf, Within, Placed};
+ghost use Rattle.load.specs.Stretches.{stretch_of, Within, Placed};
 
 use fields::{half, put, word};
 use job::{FACES, INDEX, LOOPS, OWNERS};
@@ -45,7 +45,7 @@ pub enum Stretched {
 // 2: header and payload of the record at a byte are not cut short.
 fn is_whole(job: &[u8], at: usize) -> bool
     requires { at < 4294967296 }
-    ensures { result ≡ wholeRecord (drop at job.now) }
+    ensures { result ≡ whole_record (drop at job.now) }
 {
     let body = at + 6;
     if job.len() < body {
@@ -60,7 +60,7 @@ fn is_whole(job: &[u8], at: usize) -> bool
 
 // 3: a record has another length than its kind, or stands in another part.
 fn is_misplaced(kind: Kind, size: usize, part: usize) -> bool
-    ensures { result ≡ not (rightLength kind size && rightPosition kind part) }
+    ensures { result ≡ not (right_length kind size && right_position kind part) }
 {
     if records::right_length(kind, size) {
         if records::right_position(kind, part) {
@@ -81,8 +81,8 @@ fn is_selected(
     kind: Kind,
     size: usize,
 ) -> bool
-    requires { Here job.now index.now c at kind size × Sourced job.now index.now sources.now c × (rightLength kind size ≡ true) × (kind ≡ FaceRecord → c.faces < 256) }
-    ensures { result ≡ selectedBefore kind (facesIn job.now index.now c) (fieldsAt job.now at) }
+    requires { Here job.now index.now c at kind size × Sourced job.now index.now sources.now c × (right_length kind size ≡ true) × (kind ≡ FaceRecord → c.faces < 256) }
+    ensures { result ≡ selected_before kind (faces_in job.now index.now c) (fields_at job.now at) }
 {
     match kind {
         Kind::FaceRecord => selected::selected_before(job, index, sources, c, at),
@@ -92,8 +92,8 @@ fn is_selected(
 
 // 7: the question of the record at a byte is answered before.
 fn is_answered(job: &[u8], index: &[u32], c: Counts, at: usize, kind: Kind, size: usize) -> bool
-    requires { Here job.now index.now c at kind size × (rightLength kind size ≡ true) }
-    ensures { result ≡ answeredBefore kind (answersIn job.now index.now c) (fieldsAt job.now at) }
+    requires { Here job.now index.now c at kind size × (right_length kind size ≡ true) }
+    ensures { result ≡ answered_before kind (answers_in job.now index.now c) (fields_at job.now at) }
 {
     if records::is_answer(kind) {
         return answers::answered_before(job, index, c, at);
@@ -139,7 +139,7 @@ fn fault(
 // A loop's place and face are entered in the index.
 fn keep_loop(index: &mut [u32], c: Counts, at: usize)
     requires { Limited c × (0 < c.faces) × (at < 4294967296) }
-    ensures { index.new ≡ loopKept index.old c at }
+    ensures { index.new ≡ loop_kept index.old c at }
 {
     put(index, LOOPS + c.loops, at);
     put(index, OWNERS + c.loops, c.faces - 1);
@@ -147,8 +147,8 @@ fn keep_loop(index: &mut [u32], c: Counts, at: usize)
 
 // The place of a face, a loop or an answer is entered in the index.
 fn keep(job: &[u8], index: &mut [u32], kind: Kind, c: Counts, at: usize)
-    requires { Limited c × (at < 4294967296) × (isLoop kind ≡ true → 0 < c.faces) × (isAnswer kind ≡ true → c.answers < 2048) }
-    ensures { index.new ≡ keptIndex kind job.now index.old c at }
+    requires { Limited c × (at < 4294967296) × (is_loop kind ≡ true → 0 < c.faces) × (is_answer kind ≡ true → c.answers < 2048) }
+    ensures { index.new ≡ kept_index kind job.now index.old c at }
 {
     match kind {
         Kind::Unknown => {}
@@ -171,7 +171,7 @@ fn keep(job: &[u8], index: &mut [u32], kind: Kind, c: Counts, at: usize)
 // A face is entered by its source face number.
 fn keep_source(job: &[u8], sources: &mut [u8], kind: Kind, c: Counts, at: usize)
     requires { (kind ≡ FaceRecord → c.faces < 256) × (at < 4294967296) }
-    ensures { sources.new ≡ keptSources kind job.now sources.old c at }
+    ensures { sources.new ≡ kept_sources kind job.now sources.old c at }
 {
     match kind {
         Kind::FaceRecord => selected::enter(job, sources, c.faces, at),
@@ -200,7 +200,7 @@ fn step(job: &[u8], index: &mut [u32], sources: &mut [u8], c: Counts, at: usize)
 }
 
 fn nothing() -> Counts
-    ensures { result ≡ noCounts }
+    ensures { result ≡ no_counts }
 {
     Counts {
         part: 0,
@@ -247,7 +247,7 @@ pub fn load(job: &[u8], index: &mut [u32]) -> Loaded
 // The payload of loop n among both sorts, from its first byte to the byte after it; after the refusals of load a number
 // too high is refused.
 pub fn loop_stretch(job: &[u8], n: usize) -> Stretched
-    ensures { (stretchOf result ≡ requested job.now n) × Within job.now result }
+    ensures { (stretch_of result ≡ requested job.now n) × Within job.now result }
 {
     let mut index = [0u32; INDEX];
     let r = load(job, &mut index);

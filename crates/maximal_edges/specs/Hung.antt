@@ -4,143 +4,143 @@ use Rattle.std.proofs.Common.{arith, sym, ap, subst, ◌∙◌, length-set, leng
 use Rattle.std.proofs.lemmas.Simd.{map-map}
 use Rattle.std.proofs.lemmas.List.{length-replicate}
 use Rattle.lists.specs.Lists.{below}
-use Rattle.lists.specs.Runs.{below-in}
-use Rattle.lists.specs.Members.{map-same}
+use Rattle.lists.specs.Runs.{below_in}
+use Rattle.lists.specs.Members.{map_same}
 use Rattle.rules.specs.declared.EdgeData.{EdgeData}
-use Rattle.rules.specs.Join.{edgeDataAt, endsAt, activeEdges, joinedEdge, retired, ringOf, joinEdges}
-use Rattle.edges.specs.Table.{itemIn, Laid}
+use Rattle.rules.specs.Join.{edge_data_at, ends_at, active_edges, joined_edge, retired, ring_of, join_edges}
+use Rattle.edges.specs.Table.{item_in, Laid}
 use Rattle.theorems.specs.Linked.{LoopsSound}
-use Rattle.theorems.proofs.Ends.{one-edge, two-edges}
-use Rattle.theorems.proofs.RingLoops.{ring-keeps}
-use Rattle.theorems.specs.JoinLoops.{joinedItems}
-use Rattle.theorems.proofs.LoopRuns.{join-keeps}
-use Rattle.links.specs.Tables.{Links, linksOf, loopOf, Linked}
-use Rattle.links.specs.JoinLinks.{loopsOf, Joined, Joinable}
+use Rattle.theorems.proofs.Ends.{one_edge, two_edges}
+use Rattle.theorems.proofs.RingLoops.{ring_keeps}
+use Rattle.theorems.specs.JoinLoops.{joined_items}
+use Rattle.theorems.proofs.LoopRuns.{join_keeps}
+use Rattle.links.specs.Tables.{Links, links_of, loop_of, Linked}
+use Rattle.links.specs.JoinLinks.{loops_of, Joined, Joinable}
 use Rattle.links.specs.Link.{Linkable, LinkedLoops}
-use Rattle.links.specs.Spread.{laidLoop, laidLoops, sound-linkable}
-use Rattle.links.specs.Lay.{laidOut, laidBy, laid-same}
+use Rattle.links.specs.Spread.{laid_loop, laid_loops, sound_linkable}
+use Rattle.links.specs.Lay.{laid_out, laid_by, laid_same}
 use Rattle.maximal_edges.specs.declared.Change.{Change}
 use Rattle.maximal_edges.specs.declared.Change.TheVariants.{Ring, Join}
-use Rattle.maximal_edges.specs.Joined.{edgesIn, Real, JoinedAt}
-use Rattle.maximal_edges.specs.ChangeLaws.{count-edges, active-few, active-ring, active-join}
+use Rattle.maximal_edges.specs.Joined.{edges_in, Real, JoinedAt}
+use Rattle.maximal_edges.specs.ChangeLaws.{count_edges, active_few, active_ring, active_join}
 
 -- the loops that are laid out are sound, and there are so many edges, items and loops that tables of size s hold them
 pub record SoundIn (rows : List ℕ) (count : ℕ) (items stretches : List ℕ) (s : ℕ) : Type 0 where
-  pub sound : LoopsSound (edgesIn rows count) (laidLoops items stretches)
-  pub edges-few : 2 * count ≤ s
-  pub items-few : length items ≤ s
-  pub stretches-few : length stretches ≤ 2 * s
+  pub sound : LoopsSound (edges_in rows count) (laid_loops items stretches)
+  pub edges_few : 2 * count ≤ s
+  pub items_few : length items ≤ s
+  pub stretches_few : length stretches ≤ 2 * s
 
 -- sound loops fit the tables that are to link them
 pub record LinksFit (rows : List ℕ) (count : ℕ) (items stretches codes nexts heads owners spots : List ℕ) : Type 0 where
-  pub sound : LoopsSound (edgesIn rows count) (laidLoops items stretches)
-  pub codes-fit : length items ≤ length codes
-  pub nexts-fit : length codes ≤ length nexts
-  pub owners-fit : length items ≤ length owners
-  pub heads-fit : length stretches ≤ 2 * length heads
-  pub spots-fit : 4 * count ≤ length spots
+  pub sound : LoopsSound (edges_in rows count) (laid_loops items stretches)
+  pub codes_fit : length items ≤ length codes
+  pub nexts_fit : length codes ≤ length nexts
+  pub owners_fit : length items ≤ length owners
+  pub heads_fit : length stretches ≤ 2 * length heads
+  pub spots_fit : 4 * count ≤ length spots
   pub short : length stretches < 4294967296
 
 -- the join of edges a and b, of n edges, at corner v in linked tables; laid out, the loops are those of the rules
 pub record JoinedIn (n v a b : ℕ) (rows : List ℕ) (t : Links) (ends lows highs rows' : List ℕ) (t' : Links) (ends' lows' highs' : List ℕ) (new : EdgeData) : Type 0 where
-  pub links : Joined (edgesIn rows n) v a b t t'
-  pub edges : edgesIn rows' (n + 1) ≡ joinEdges v a b (edgesIn rows n)
-  pub lists : (items : List ℕ) → Laid t.stretches items → JoinedAt n v a b rows (laidBy t items) t.stretches ends lows highs rows' (laidBy t' items) t'.stretches ends' lows' highs' new
+  pub links : Joined (edges_in rows n) v a b t t'
+  pub edges : edges_in rows' (n + 1) ≡ join_edges v a b (edges_in rows n)
+  pub lists : (items : List ℕ) → Laid t.stretches items → JoinedAt n v a b rows (laid_by t items) t.stretches ends lows highs rows' (laid_by t' items) t'.stretches ends' lows' highs' new
 
 pub record Hung (es : List EdgeData) (t : Links) : Type 0 where
   pub linked : Linked t
-  pub sound : LoopsSound es (loopsOf t)
-  pub room : 2 * (length es + length (activeEdges es)) ≤ length t.spots
+  pub sound : LoopsSound es (loops_of t)
+  pub room : 2 * (length es + length (active_edges es)) ≤ length t.spots
 
 -- loops just linked
-pub hung-start : (es : List EdgeData) (items : List ℕ) (t : Links) → LinkedLoops items t → LoopsSound es (laidLoops items t.stretches) → 4 * length es ≤ length t.spots → Hung es t
-hung-start es items t l sound room = record {
+pub hung_start : (es : List EdgeData) (items : List ℕ) (t : Links) → LinkedLoops items t → LoopsSound es (laid_loops items t.stretches) → 4 * length es ≤ length t.spots → Hung es t
+hung_start es items t l sound room = record {
   linked = l.linked;
-  sound = subst (LoopsSound es) (map-same (laidLoop items t.stretches) (loopOf t) (below (length t.stretches / 2)) (λ k m. let b = below-in (length t.stretches / 2) k m in ap (map itemIn) (sym (l.same k (omega arith))))) sound;
-  room = omega (arith, active-few es);
+  sound = subst (LoopsSound es) (map_same (laid_loop items t.stretches) (loop_of t) (below (length t.stretches / 2)) (λ k m. let b = below_in (length t.stretches / 2) k m in ap (map item_in) (sym (l.same k (omega arith))))) sound;
+  room = omega (arith, active_few es);
 }
 
 -- a ring changes no loop
-pub hung-ring : (es : List EdgeData) (v a : ℕ) (t : Links) → endsAt es v ≡ a ∷ a ∷ [] → Hung es t → Hung (set es a (ringOf (edgeDataAt es a))) t
-hung-ring es v a t e h = record {
+pub hung_ring : (es : List EdgeData) (v a : ℕ) (t : Links) → ends_at es v ≡ a ∷ a ∷ [] → Hung es t → Hung (set es a (ring_of (edge_data_at es a))) t
+hung_ring es v a t e h = record {
   linked = h.linked;
-  sound = ring-keeps es v a (one-edge es v a e) (loopsOf t) h.sound;
-  room = omega (arith, h.room, active-ring es v a e, length-set es a (ringOf (edgeDataAt es a)));
+  sound = ring_keeps es v a (one_edge es v a e) (loops_of t) h.sound;
+  room = omega (arith, h.room, active_ring es v a e, length-set es a (ring_of (edge_data_at es a)));
 }
 
 -- one edge more
-pub length-joined : (es : List EdgeData) (v a b : ℕ) → length (joinEdges v a b es) ≡ suc (length es)
-unfolding joinEdges
-length-joined es v a b =
-    let p : EdgeData = retired (edgeDataAt es a) in
-    let q : EdgeData = retired (edgeDataAt es b) in
-    omega (arith, length-append (set (set es a p) b q) (joinedEdge v (edgeDataAt es a) (edgeDataAt es b) ∷ []), length-set (set es a p) b q, length-set es a p)
+pub length_joined : (es : List EdgeData) (v a b : ℕ) → length (join_edges v a b es) ≡ suc (length es)
+unfolding join_edges
+length_joined es v a b =
+    let p : EdgeData = retired (edge_data_at es a) in
+    let q : EdgeData = retired (edge_data_at es b) in
+    omega (arith, length-append (set (set es a p) b q) (joined_edge v (edge_data_at es a) (edge_data_at es b) ∷ []), length-set (set es a p) b q, length-set es a p)
 
-module _ (es : List EdgeData) (v a b : ℕ) (t : Links) (e : endsAt es v ≡ a ∷ b ∷ []) (lower : a < b) (h : Hung es t) where
+module _ (es : List EdgeData) (v a b : ℕ) (t : Links) (e : ends_at es v ≡ a ∷ b ∷ []) (lower : a < b) (h : Hung es t) where
   -- the two edges can be joined
-  pub hung-joinable : (n : ℕ) → n ≡ length es → n < 2147483647 → Joinable es v a b n t
-  hung-joinable n en few = record {
+  pub hung_joinable : (n : ℕ) → n ≡ length es → n < 2147483647 → Joinable es v a b n t
+  hung_joinable n en few = record {
     linked = h.linked;
     sound = h.sound;
-    two = two-edges es v a b e lower;
+    two = two_edges es v a b e lower;
     number = en;
-    room = omega (arith, h.room, (active-join es v a b e lower).1);
+    room = omega (arith, h.room, (active_join es v a b e lower).1);
     few = few;
   }
 
-  pub hung-join : (t' : Links) → Joined es v a b t t' → Hung (joinEdges v a b es) t'
-  hung-join t' j = record {
+  pub hung_join : (t' : Links) → Joined es v a b t t' → Hung (join_edges v a b es) t'
+  hung_join t' j = record {
     linked = j.linked;
-    sound = subst (LoopsSound (joinEdges v a b es)) (sym loops-now) (join-keeps es v a b (two-edges es v a b e lower) (loopsOf t) h.sound);
-    room = omega (arith, h.room, j.room, length-joined es v a b, (active-join es v a b e lower).0);
+    sound = subst (LoopsSound (join_edges v a b es)) (sym loops_now) (join_keeps es v a b (two_edges es v a b e lower) (loops_of t) h.sound);
+    room = omega (arith, h.room, j.room, length_joined es v a b, (active_join es v a b e lower).0);
   }
     where
-      loops-now : loopsOf t' ≡ map (joinedItems es v a b) (loopsOf t)
-      loops-now =
-          ap (λ n. map (loopOf t') (below (n / 2))) j.count
-          ∙ map-same (loopOf t') (λ k. joinedItems es v a b (loopOf t k)) (below (length t.stretches / 2)) (λ k m. let w = below-in (length t.stretches / 2) k m in j.loops k (omega arith))
-          ∙ sym (map-map (joinedItems es v a b) (loopOf t) (below (length t.stretches / 2)))
+      loops_now : loops_of t' ≡ map (joined_items es v a b) (loops_of t)
+      loops_now =
+          ap (λ n. map (loop_of t') (below (n / 2))) j.count
+          ∙ map_same (loop_of t') (λ k. joined_items es v a b (loop_of t k)) (below (length t.stretches / 2)) (λ k m. let w = below_in (length t.stretches / 2) k m in j.loops k (omega arith))
+          ∙ sym (map-map (joined_items es v a b) (loop_of t) (below (length t.stretches / 2)))
 
 -- WHAT A SWEEP FINDS
 
 module _ (names : List ℕ) (es : List EdgeData) (t : Links) (h : Hung es t) (r : Change) (real : Real es names r) where
   -- the loops after a ring
-  pub hung-ringed : (v a : ℕ) → r ≡ Ring v a → (es' : List EdgeData) → es' ≡ set es a (ringOf (edgeDataAt es a)) → Hung es' t
-  hung-ringed v a e es' edges = subst (λ l. Hung l t) (sym edges) (hung-ring es v a t (subst (Real es names) e real).1 h)
+  pub hung_ringed : (v a : ℕ) → r ≡ Ring v a → (es' : List EdgeData) → es' ≡ set es a (ring_of (edge_data_at es a)) → Hung es' t
+  hung_ringed v a e es' edges = subst (λ l. Hung l t) (sym edges) (hung_ring es v a t (subst (Real es names) e real).1 h)
 
   -- two edges that it joins can be joined
-  pub may-join : (v a b : ℕ) → r ≡ Join v a b → (n : ℕ) → n ≡ length es → n < 2048 → Joinable es v a b n t
-  may-join v a b e n en few = let q : Real es names (Join v a b) = subst (Real es names) e real in hung-joinable es v a b t q.1 q.2 h n en (omega arith)
+  pub may_join_lem : (v a b : ℕ) → r ≡ Join v a b → (n : ℕ) → n ≡ length es → n < 2048 → Joinable es v a b n t
+  may_join_lem v a b e n en few = let q : Real es names (Join v a b) = subst (Real es names) e real in hung_joinable es v a b t q.1 q.2 h n en (omega arith)
 
   -- the loops after a join
-  pub hung-joined : (v a b : ℕ) → r ≡ Join v a b → (t' : Links) (es' : List EdgeData) → Joined es v a b t t' → es' ≡ joinEdges v a b es → Hung es' t'
-  hung-joined v a b e t' es' j edges = let q : Real es names (Join v a b) = subst (Real es names) e real in subst (λ l. Hung l t') (sym edges) (hung-join es v a b t q.1 q.2 h t' j)
+  pub hung_joined : (v a b : ℕ) → r ≡ Join v a b → (t' : Links) (es' : List EdgeData) → Joined es v a b t t' → es' ≡ join_edges v a b es → Hung es' t'
+  hung_joined v a b e t' es' j edges = let q : Real es names (Join v a b) = subst (Real es names) e real in subst (λ l. Hung l t') (sym edges) (hung_join es v a b t q.1 q.2 h t' j)
 
 -- THE TABLES
 
 -- tables of zeros of that size
-pub blank-fit : (rows : List ℕ) (count : ℕ) (items stretches : List ℕ) (s : ℕ) → s ≤ 2048 → SoundIn rows count items stretches s
+pub blank_fit : (rows : List ℕ) (count : ℕ) (items stretches : List ℕ) (s : ℕ) → s ≤ 2048 → SoundIn rows count items stretches s
     → LinksFit rows count items stretches (replicate s 0) (replicate s 0) (replicate s 0) (replicate s 0) (replicate (2 * s) 0)
-blank-fit rows count items stretches s h k = record {
+blank_fit rows count items stretches s h k = record {
   sound = k.sound;
-  codes-fit = omega (arith, k.items-few, length-replicate {A = ℕ} s 0);
-  nexts-fit = omega (arith, k.items-few, length-replicate {A = ℕ} s 0);
-  owners-fit = omega (arith, k.items-few, length-replicate {A = ℕ} s 0);
-  heads-fit = omega (arith, k.stretches-few, length-replicate {A = ℕ} s 0);
-  spots-fit = omega (arith, k.edges-few, length-replicate {A = ℕ} (2 * s) 0);
-  short = omega (arith, k.stretches-few);
+  codes_fit = omega (arith, k.items_few, length-replicate {A = ℕ} s 0);
+  nexts_fit = omega (arith, k.items_few, length-replicate {A = ℕ} s 0);
+  owners_fit = omega (arith, k.items_few, length-replicate {A = ℕ} s 0);
+  heads_fit = omega (arith, k.stretches_few, length-replicate {A = ℕ} s 0);
+  spots_fit = omega (arith, k.edges_few, length-replicate {A = ℕ} (2 * s) 0);
+  short = omega (arith, k.stretches_few);
 }
 
 module _ (rows : List ℕ) (count : ℕ) (items stretches codes nexts heads owners spots : List ℕ) (fits : 7 * count ≤ length rows) (laid : Laid stretches items)
     (k : LinksFit rows count items stretches codes nexts heads owners spots) where
-  pub can-link : Linkable items stretches codes nexts owners spots
-  can-link =
-      sound-linkable (edgesIn rows count) items stretches laid k.sound codes nexts owners spots k.codes-fit k.nexts-fit k.owners-fit (omega (arith, k.spots-fit, count-edges rows count fits))
+  pub can_link : Linkable items stretches codes nexts owners spots
+  can_link =
+      sound_linkable (edges_in rows count) items stretches laid k.sound codes nexts owners spots k.codes_fit k.nexts_fit k.owners_fit (omega (arith, k.spots_fit, count_edges rows count fits))
 
   -- once they are linked, the loops laid out by the tables are those that were linked
-  pub linked-start : (codes' nexts' heads' owners' spots' : List ℕ) → length spots' ≡ length spots → LinkedLoops items (linksOf codes' nexts' heads' owners' spots' stretches)
-      → Hung (edgesIn rows count) (linksOf codes' nexts' heads' owners' spots' stretches) × (laidOut codes' nexts' heads' stretches items ≡ items)
-  linked-start codes' nexts' heads' owners' spots' size l = (
-    hung-start (edgesIn rows count) items (linksOf codes' nexts' heads' owners' spots' stretches) l k.sound (omega (arith, size, k.spots-fit, count-edges rows count fits)),
-    laid-same (linksOf codes' nexts' heads' owners' spots' stretches) items laid l.same,
+  pub linked_start : (codes' nexts' heads' owners' spots' : List ℕ) → length spots' ≡ length spots → LinkedLoops items (links_of codes' nexts' heads' owners' spots' stretches)
+      → Hung (edges_in rows count) (links_of codes' nexts' heads' owners' spots' stretches) × (laid_out codes' nexts' heads' stretches items ≡ items)
+  linked_start codes' nexts' heads' owners' spots' size l = (
+    hung_start (edges_in rows count) items (links_of codes' nexts' heads' owners' spots' stretches) l k.sound (omega (arith, size, k.spots_fit, count_edges rows count fits)),
+    laid_same (links_of codes' nexts' heads' owners' spots' stretches) items laid l.same,
   )

@@ -5,20 +5,20 @@
 ghost use Rattle.std.specs.Prelude.{◌≡◌, ℕ, ◌+◌, ◌*◌, ◌<◌, ◌≤◌, ◌^◌, List, [], ◌∷◌, ◌++◌, true, cond, length, get_or, set, eqb};
 ghost use Rattle.lists.specs.Lists.{◌∈◌, Nodup, same};
 ghost use Rattle.rules.specs.Sense.{reverse};
-ghost use Rattle.rules.specs.Questions.{askYes};
-ghost use Rattle.rules.specs.Join.{edgeDataAt, notSingular, mayJoin, joinedEdge, retired as retiredEdge, ringOf, maximalEdges};
-ghost use Rattle.job.specs.Lists.{answersIn};
+ghost use Rattle.rules.specs.Questions.{ask_yes};
+ghost use Rattle.rules.specs.Join.{edge_data_at, not_singular, may_join, joined_edge, retired as retiredEdge, ring_of, maximal_edges};
+ghost use Rattle.job.specs.Lists.{answers_in};
 ghost use Rattle.answers.specs.Index.{Indexed};
-ghost use Rattle.ask.specs.Told.{toldOf};
-ghost use Rattle.edges.specs.Table.{rowsIn, Laid};
-ghost use Rattle.links.specs.Tables.{linksOf};
+ghost use Rattle.ask.specs.Told.{told_of};
+ghost use Rattle.edges.specs.Table.{rows_in, Laid};
+ghost use Rattle.links.specs.Tables.{links_of};
 ghost use Rattle.links.specs.JoinLinks.{Joinable};
-ghost use Rattle.links.specs.Lay.{laidOut};
-ghost use Rattle.theorems.specs.Ends.{oneAt, endsOne};
-ghost use Rattle.maximal_edges.specs.Joined.{edgesIn, stateIn, joiningOf, Fitting, Ran, Blank, Tabled, EndCounted, lowsAfter, mayChange, StillBut, nextAfter, Ranked, lowerOf, higherOf, isStill, TriedAt, Swept, doneWith};
+ghost use Rattle.links.specs.Lay.{laid_out};
+ghost use Rattle.theorems.specs.Ends.{one_at, ends_one};
+ghost use Rattle.maximal_edges.specs.Joined.{edges_in, state_in, joining_of, Fitting, Ran, Blank, Tabled, EndCounted, lows_after, may_change, StillBut, next_after, Ranked, lower_of, higher_of, is_still, TriedAt, Swept, done_with};
 ghost use Rattle.maximal_edges.specs.Hung.{SoundIn, LinksFit, JoinedIn, Hung};
 ghost use Rattle.maximal_edges.specs.CountLaws.{Counted};
-ghost use Rattle.maximal_edges.specs.SweepLaws.{changeAt};
+ghost use Rattle.maximal_edges.specs.SweepLaws.{change_at};
 
 use ask::Told;
 use edges::{edge_active, edge_at, edge_end, edge_start, put_edge};
@@ -52,7 +52,7 @@ pub enum Joining {
 
 // 1 where two numbers are equal.
 fn one_at(a: usize, x: usize) -> usize
-    ensures { (result ≡ oneAt a x) × (result ≤ 1) }
+    ensures { (result ≡ one_at a x) × (result ≤ 1) }
 {
     if a == x {
         return 1;
@@ -62,7 +62,7 @@ fn one_at(a: usize, x: usize) -> usize
 
 // The active ends of edge e at corner v: 0, 1 or 2.
 fn ends_of(rows: &[u32], e: usize, v: usize) -> usize
-    ensures { (result ≡ endsOne v (edgeDataAt (rowsIn rows.now) e)) × (result ≤ 2) }
+    ensures { (result ≡ ends_one v (edge_data_at (rows_in rows.now) e)) × (result ≤ 2) }
 {
     if edge_active(rows, e) {
         return one_at(edge_start(rows, e), v) + one_at(edge_end(rows, e), v);
@@ -93,8 +93,8 @@ fn count_end(ends: &mut [u32], lows: &mut [u32], highs: &mut [u32], v: usize, e:
 
 // The ends of edge e.
 fn count_edge(rows: &[u32], ends: &mut [u32], lows: &mut [u32], highs: &mut [u32], e: usize)
-    requires { Counted (rowsIn rows.now) ends.old lows.old highs.old e × (e < length (rowsIn rows.now)) × (e < 2048) }
-    ensures { Counted (rowsIn rows.now) ends.new lows.new highs.new (e + 1) }
+    requires { Counted (rows_in rows.now) ends.old lows.old highs.old e × (e < length (rows_in rows.now)) × (e < 2048) }
+    ensures { Counted (rows_in rows.now) ends.new lows.new highs.new (e + 1) }
 {
     if edge_active(rows, e) {
         count_end(ends, lows, highs, edge_start(rows, e), e);
@@ -105,7 +105,7 @@ fn count_edge(rows: &[u32], ends: &mut [u32], lows: &mut [u32], highs: &mut [u32
 // The number of active edge ends at each fan, and the lowest and the highest edge there; the tables are all 0 at first.
 fn count_ends(rows: &[u32], ends: &mut [u32], lows: &mut [u32], highs: &mut [u32])
     requires { (length rows.now ≤ 14336) × Blank ends.old lows.old highs.old }
-    ensures { Tabled (rowsIn rows.now) ends.new lows.new highs.new }
+    ensures { Tabled (rows_in rows.now) ends.new lows.new highs.new }
 {
     let n = rows.len() / 7;
     let mut e: usize = 0;
@@ -137,7 +137,7 @@ fn wide(v: u32) -> usize
 // Kind 11 for a curve between two faces, at a point.
 fn singular(job: &[u8], index: &[u32], c: Counts, curve: u32, faces: [u32; 2], point: usize) -> Told
     requires { Indexed job.now index.now c × (point < 4294967296) }
-    ensures { toldOf result ≡ askYes (answersIn job.now index.now c) 11 (curve ∷ (faces ++ (point ∷ []))) }
+    ensures { told_of result ≡ ask_yes (answers_in job.now index.now c) 11 (curve ∷ (faces ++ (point ∷ []))) }
 {
     let low = wide(faces[0]);
     let high = wide(faces[1]);
@@ -147,7 +147,7 @@ fn singular(job: &[u8], index: &[u32], c: Counts, curve: u32, faces: [u32; 2], p
 // An edge is not singular at a point.
 fn not_singular(job: &[u8], index: &[u32], c: Counts, e: EdgeData, point: usize) -> Told
     requires { Indexed job.now index.now c × (point < 4294967296) }
-    ensures { toldOf result ≡ notSingular (answersIn job.now index.now c) e point }
+    ensures { told_of result ≡ not_singular (answers_in job.now index.now c) e point }
 {
     let faces = e.faces;
     let t = singular(job, index, c, e.curve, faces, point);
@@ -161,7 +161,7 @@ fn not_singular(job: &[u8], index: &[u32], c: Counts, e: EdgeData, point: usize)
 // Two edges need equal face pairs, then same curve, then not singular for the first.
 fn may_join(job: &[u8], index: &[u32], c: Counts, a: EdgeData, b: EdgeData, point: usize) -> Told
     requires { Indexed job.now index.now c × (point < 4294967296) }
-    ensures { toldOf result ≡ mayJoin (answersIn job.now index.now c) a b point }
+    ensures { told_of result ≡ may_join (answers_in job.now index.now c) a b point }
 {
     let x = a.faces;
     let y = b.faces;
@@ -179,7 +179,7 @@ fn may_join(job: &[u8], index: &[u32], c: Counts, a: EdgeData, b: EdgeData, poin
 
 // The ring of edge a at corner v, or the join of edges a and b.
 fn change_at(v: usize, a: usize, b: usize) -> Change
-    ensures { result ≡ changeAt v a b }
+    ensures { result ≡ change_at v a b }
 {
     if a == b {
         return Change::Ring(v, a);
@@ -198,7 +198,7 @@ fn may_change(
     point: usize,
 ) -> Told
     requires { Indexed job.now index.now c × (point < 4294967296) }
-    ensures { toldOf result ≡ mayChange (answersIn job.now index.now c) (rowsIn rows.now) a b point }
+    ensures { told_of result ≡ may_change (answers_in job.now index.now c) (rows_in rows.now) a b point }
 {
     if a == b {
         return not_singular(job, index, c, edge_at(rows, a), point);
@@ -218,7 +218,7 @@ fn try_corner(
     b: usize,
 ) -> Change
     requires { Indexed job.now index.now c }
-    ensures { TriedAt (answersIn job.now index.now c) starts.now (rowsIn rows.now) v a b result }
+    ensures { TriedAt (answers_in job.now index.now c) starts.now (rows_in rows.now) v a b result }
 {
     let t = may_change(job, index, c, rows, a, b, get(starts, v));
     match t {
@@ -232,7 +232,7 @@ fn try_corner(
 
 // Nothing has changed.
 fn stays(change: Change) -> bool
-    ensures { result ≡ isStill change }
+    ensures { result ≡ is_still change }
 {
     match change {
         Change::Unchanged => true,
@@ -245,7 +245,7 @@ fn stays(change: Change) -> bool
 // Where a sweep goes on after position i: at `high` and at `top`, while they are to come, then one by one.
 fn next_after(i: usize, high: usize, top: usize) -> usize
     requires { i + 1 < 2 ^ 64 }
-    ensures { result ≡ nextAfter high top i }
+    ensures { result ≡ next_after high top i }
 {
     if i < high {
         return high;
@@ -273,8 +273,8 @@ fn sweep(
     high: usize,
     top: usize,
 ) -> Change
-    requires { Indexed job.now index.now c × Tabled (rowsIn rows.now) ends.now lows.now highs.now × ((v : ℕ) → v ∈ names.now → v < length ends.now) × StillBut (answersIn job.now index.now c) starts.now names.now (rowsIn rows.now) low high top }
-    ensures { Swept (answersIn job.now index.now c) starts.now names.now (rowsIn rows.now) high top result }
+    requires { Indexed job.now index.now c × Tabled (rows_in rows.now) ends.now lows.now highs.now × ((v : ℕ) → v ∈ names.now → v < length ends.now) × StillBut (answers_in job.now index.now c) starts.now names.now (rows_in rows.now) low high top }
+    ensures { Swept (answers_in job.now index.now c) starts.now names.now (rows_in rows.now) high top result }
 {
     let mut change = Change::Unchanged;
     let mut i = low;
@@ -316,7 +316,7 @@ fn rank(names: &[u32], ranks: &mut [u32])
 
 // The lower of two numbers.
 fn lower(a: usize, b: usize) -> usize
-    ensures { result ≡ lowerOf a b }
+    ensures { result ≡ lower_of a b }
 {
     if a < b {
         return a;
@@ -326,7 +326,7 @@ fn lower(a: usize, b: usize) -> usize
 
 // The higher of two numbers.
 fn higher(a: usize, b: usize) -> usize
-    ensures { result ≡ higherOf a b }
+    ensures { result ≡ higher_of a b }
 {
     if a < b {
         return b;
@@ -358,7 +358,7 @@ fn joined_sense(sense: Sense, end: u32, v: usize) -> Sense
 
 // The edge that two edges meeting at corner v become.
 fn joined_edge(v: usize, a: EdgeData, b: EdgeData) -> EdgeData
-    ensures { result ≡ joinedEdge v a b }
+    ensures { result ≡ joined_edge v a b }
 {
     let faces = a.faces;
     let old = a.sense;
@@ -393,7 +393,7 @@ fn retired(e: EdgeData) -> EdgeData
 
 // An edge turned into a ring.
 fn ring_of(e: EdgeData) -> EdgeData
-    ensures { result ≡ ringOf e }
+    ensures { result ≡ ring_of e }
 {
     let sense = e.sense;
     let faces = e.faces;
@@ -410,7 +410,7 @@ fn ring_of(e: EdgeData) -> EdgeData
 // Edge a, of n edges, with both ends at corner v becomes a ring.
 fn ring_at(rows: &mut [u32], n: usize, ends: &mut [u32], v: usize, a: usize)
     requires { (7 * n ≤ length rows.old) × (n < 2048) × (a < n) }
-    ensures { (edgesIn rows.new n ≡ set (edgesIn rows.old n) a (ringOf (edgeDataAt (edgesIn rows.old n) a))) × (ends.new ≡ set ends.old v 0) }
+    ensures { (edges_in rows.new n ≡ set (edges_in rows.old n) a (ring_of (edge_data_at (edges_in rows.old n) a))) × (ends.new ≡ set ends.old v 0) }
 {
     let x = edge_at(&rows[..7 * n], a);
     put_edge(rows, a, ring_of(x));
@@ -430,7 +430,7 @@ fn replace_low(lows: &mut [u32], v: usize, a: usize, h: usize)
 // Of the two edges at fan v, edge a gives way to edge n, which is the higher one then.
 fn replace_end(lows: &mut [u32], highs: &mut [u32], v: usize, a: usize, n: usize)
     requires { n < 4294967296 }
-    ensures { (lows.new ≡ lowsAfter lows.old highs.old v a) × (highs.new ≡ set highs.old v n) }
+    ensures { (lows.new ≡ lows_after lows.old highs.old v a) × (highs.new ≡ set highs.old v n) }
 {
     replace_low(lows, v, a, get(highs, v));
     put(highs, v, n);
@@ -453,8 +453,8 @@ fn join_at(
     a: usize,
     b: usize,
 ) -> EdgeData
-    requires { (7 * n + 7 ≤ length rows.old) × (n < 2048) × (a < b) × (b < n) × Joinable (edgesIn rows.old n) v a b n (linksOf list.old nexts.old heads.old owners.now spots.old stretches.old) }
-    ensures { JoinedIn n v a b rows.old (linksOf list.old nexts.old heads.old owners.now spots.old stretches.old) ends.old lows.old highs.old rows.new (linksOf list.new nexts.new heads.new owners.now spots.new stretches.new) ends.new lows.new highs.new result }
+    requires { (7 * n + 7 ≤ length rows.old) × (n < 2048) × (a < b) × (b < n) × Joinable (edges_in rows.old n) v a b n (links_of list.old nexts.old heads.old owners.now spots.old stretches.old) }
+    ensures { JoinedIn n v a b rows.old (links_of list.old nexts.old heads.old owners.now spots.old stretches.old) ends.old lows.old highs.old rows.new (links_of list.new nexts.new heads.new owners.now spots.new stretches.new) ends.new lows.new highs.new result }
 {
     let x = edge_at(&rows[..7 * n], a);
     let y = edge_at(&rows[..7 * n], b);
@@ -474,7 +474,7 @@ fn join_at(
 
 // The answer of a run that is not refused.
 fn done(edges: usize, joins: usize, rings: usize) -> Joining
-    ensures { result ≡ doneWith edges joins rings }
+    ensures { result ≡ done_with edges joins rings }
 {
     Joining::Done(Joins {
         edges,
@@ -505,8 +505,8 @@ fn join_all(
     items: &mut [u32],
     stretches: &mut [u32],
 ) -> Joining
-    requires { Indexed job.now index.now c × (14 * count ≤ length rows.old) × (count ≤ 1024) × Laid stretches.old items.old × Tabled (edgesIn rows.old count) ends.old lows.old highs.old × Nodup names.now × ((v : ℕ) → v ∈ names.now → v < length ends.old) × Ranked names.now ranks.now × Hung (edgesIn rows.old count) (linksOf list.old nexts.old heads.old owners.now spots.old stretches.old) × (laidOut list.old nexts.old heads.old stretches.old items.old ≡ items.old) }
-    ensures { Ran (answersIn job.now index.now c) starts.now names.now rows.old count items.old stretches.old rows.new items.new stretches.new result }
+    requires { Indexed job.now index.now c × (14 * count ≤ length rows.old) × (count ≤ 1024) × Laid stretches.old items.old × Tabled (edges_in rows.old count) ends.old lows.old highs.old × Nodup names.now × ((v : ℕ) → v ∈ names.now → v < length ends.old) × Ranked names.now ranks.now × Hung (edges_in rows.old count) (links_of list.old nexts.old heads.old owners.now spots.old stretches.old) × (laid_out list.old nexts.old heads.old stretches.old items.old ≡ items.old) }
+    ensures { Ran (answers_in job.now index.now c) starts.now names.now rows.old count items.old stretches.old rows.new items.new stretches.new result }
 {
     let mut n = count;
     let mut joins: usize = 0;
@@ -573,7 +573,7 @@ fn join_with(
     stretches: &mut [u32],
 ) -> Joining
     requires { Indexed job.now index.now c × (14 * count ≤ length rows.old) × (count ≤ 1024) × Laid stretches.old items.old × Nodup names.now × ((v : ℕ) → v ∈ names.now → v < length ends.old) × Blank ends.old lows.old highs.old × (length ranks.old ≡ length ends.old) × LinksFit rows.old count items.old stretches.old list.old nexts.old heads.old owners.old spots.old }
-    ensures { Ran (answersIn job.now index.now c) starts.now names.now rows.old count items.old stretches.old rows.new items.new stretches.new result }
+    ensures { Ran (answers_in job.now index.now c) starts.now names.now rows.old count items.old stretches.old rows.new items.new stretches.new result }
 {
     count_ends(&rows[..7 * count], ends, lows, highs);
     rank(names, ranks);
@@ -597,7 +597,7 @@ fn join_small(
     stretches: &mut [u32],
 ) -> Joining
     requires { Indexed job.now index.now c × (14 * count ≤ length rows.old) × (count ≤ 1024) × Laid stretches.old items.old × Nodup names.now × ((v : ℕ) → v ∈ names.now → v < 64) × SoundIn rows.old count items.old stretches.old 64 }
-    ensures { Ran (answersIn job.now index.now c) starts.now names.now rows.old count items.old stretches.old rows.new items.new stretches.new result }
+    ensures { Ran (answers_in job.now index.now c) starts.now names.now rows.old count items.old stretches.old rows.new items.new stretches.new result }
 {
     let mut ranks = [0u32; 64];
     let mut ends = [0u32; 64];
@@ -643,7 +643,7 @@ fn join_large(
     stretches: &mut [u32],
 ) -> Joining
     requires { Indexed job.now index.now c × (14 * count ≤ length rows.old) × (count ≤ 1024) × Laid stretches.old items.old × Nodup names.now × ((v : ℕ) → v ∈ names.now → v < 2048) × SoundIn rows.old count items.old stretches.old 2048 }
-    ensures { Ran (answersIn job.now index.now c) starts.now names.now rows.old count items.old stretches.old rows.new items.new stretches.new result }
+    ensures { Ran (answers_in job.now index.now c) starts.now names.now rows.old count items.old stretches.old rows.new items.new stretches.new result }
 {
     let mut ranks = [0u32; 2048];
     let mut ends = [0u32; 2048];
@@ -719,7 +719,7 @@ pub fn maximal_edges(
     stretches: &mut [u32],
 ) -> Joining
     requires { Indexed job.now index.now c × (14 * count ≤ length rows.old) × (count ≤ 1024) × Laid stretches.old items.old × Nodup names.now × ((v : ℕ) → v ∈ names.now → v < 2048) × SoundIn rows.old count items.old stretches.old 2048 }
-    ensures { ((faces : List ℕ) → 2 * length faces ≤ length stretches.old → joiningOf rows.new items.new stretches.new faces result ≡ maximalEdges (answersIn job.now index.now c) starts.now names.now (length names.now) (stateIn rows.old count items.old stretches.old faces 0 0)) × Fitting names.now rows.new items.new stretches.new result }
+    ensures { ((faces : List ℕ) → 2 * length faces ≤ length stretches.old → joining_of rows.new items.new stretches.new faces result ≡ maximal_edges (answers_in job.now index.now c) starts.now names.now (length names.now) (state_in rows.old count items.old stretches.old faces 0 0)) × Fitting names.now rows.new items.new stretches.new result }
 {
     if is_small(names, count, items.len(), stretches.len()) {
         return join_small(job, index, c, starts, names, rows, count, items, stretches);

@@ -2,78 +2,78 @@
 use Rattle.std.specs.Prelude.{◌≡◌, Bool, List, [], ◌∷◌, ◌++◌, map, ℕ, zero, suc, ◌+◌, ◌-◌, ◌≤◌, ◌<◌, eqb, length, get_or, false}
 use Rattle.std.proofs.Common.{arith, sym, ap, ◌∙◌, subst, length-append, eq-eqb, ne_eqb}
 use Rattle.lists.specs.Lists.{◌∈◌, below, keep}
-use Rattle.lists.specs.Membership.{getD-in}
-use Rattle.lists.specs.Runs.{below-in, getD-table}
-use Rattle.lists.specs.Counts.{keep-nothing}
-use Rattle.lists.specs.Prefixes.{keep-below-yes, keep-below-no, keep-below-le}
-use Rattle.rules.specs.Groups.{labelOf, membersOf, lowestMembers, Lowest}
-use Rattle.rules.proofs.GroupLaws.{lowestMembers-in}
-use Rattle.members.specs.Chain.{nextMember, next-after, next-within, next-own, next-between}
+use Rattle.lists.specs.Membership.{get_or_in}
+use Rattle.lists.specs.Runs.{below_in, get_or_table}
+use Rattle.lists.specs.Counts.{keep_nothing}
+use Rattle.lists.specs.Prefixes.{keep_below_yes, keep_below_no, keep_below_le}
+use Rattle.rules.specs.Groups.{label_of, members_of, lowest_members, Lowest}
+use Rattle.rules.proofs.GroupLaws.{lowest_members_in}
+use Rattle.members.specs.Chain.{next_member, next_after_lem, next_within, next_own, next_between}
 
 -- groups by lowest member, and each number's next of its group
 pub record Chained (groups next : List ℕ) : Type 0 where
   pub few : length groups ≤ 256
   pub lowest : Lowest groups
-  pub nexts : next ≡ map (nextMember groups) (below (length groups))
+  pub nexts : next ≡ map (next_member groups) (below (length groups))
 
 -- the lowest member of a group
 pub record Leading (groups : List ℕ) (m : ℕ) : Type 0 where
   pub inside : m < length groups
-  pub own : labelOf groups m ≡ m
+  pub own : label_of groups m ≡ m
 
 -- a merged face's label leads its group
-pub leading-at : (groups members : List ℕ) (f m : ℕ) → members ≡ lowestMembers groups → f < length members → m ≡ get_or members f 0 → Leading groups m
-leading-at groups members f m own h e =
-    let r = lowestMembers-in groups m (subst (λ l. m ∈ l) own (subst (λ x. x ∈ members) (sym e) (getD-in members f 0 h))) in
+pub leading_at : (groups members : List ℕ) (f m : ℕ) → members ≡ lowest_members groups → f < length members → m ≡ get_or members f 0 → Leading groups m
+leading_at groups members f m own h e =
+    let r = lowest_members_in groups m (subst (λ l. m ∈ l) own (subst (λ x. x ∈ members) (sym e) (get_or_in members f 0 h))) in
     record { inside = r.0; own = r.1 }
 
 module _ (groups next : List ℕ) (m : ℕ) (C : Chained groups next) (L : Leading groups m) where
   -- what stands in the chain at i
-  pub chain-at : (i j : ℕ) → i < length groups → j ≡ get_or next i 0 → j ≡ nextMember groups i
-  chain-at i j h e = e ∙ ap (λ t. get_or t i 0) C.nexts ∙ getD-table (nextMember groups) (length groups) i 0 h
+  pub chain_at : (i j : ℕ) → i < length groups → j ≡ get_or next i 0 → j ≡ next_member groups i
+  chain_at i j h e = e ∙ ap (λ t. get_or t i 0) C.nexts ∙ get_or_table (next_member groups) (length groups) i 0 h
 
   -- the next of a number of the group is one too, or past the last number
-  pub group-next : (i j : ℕ) → i < length groups → labelOf groups i ≡ m → j ≡ nextMember groups i → (i < j) × (j ≤ length groups) × (j < length groups → labelOf groups j ≡ m)
-  group-next i j h own e = (
-    omega (arith, e, next-after groups i),
-    omega (arith, e, next-within groups i h),
-    λ few. ap (labelOf groups) e ∙ next-own groups i h (omega (arith, e, few)) ∙ own,
+  pub group_next : (i j : ℕ) → i < length groups → label_of groups i ≡ m → j ≡ next_member groups i → (i < j) × (j ≤ length groups) × (j < length groups → label_of groups j ≡ m)
+  group_next i j h own e = (
+    omega (arith, e, next_after_lem groups i),
+    omega (arith, e, next_within groups i h),
+    λ few. ap (label_of groups) e ∙ next_own groups i h (omega (arith, e, few)) ∙ own,
   )
 
   -- none before the lowest is of the group, none between a number of it and the next
-  pub none-before : (k : ℕ) → k < m → labelOf groups k ≡ m → ⊥
-  none-before k high e = absurd (omega (arith, high, e, C.lowest.low k (omega (arith, high, L.inside))))
+  pub none_before : (k : ℕ) → k < m → label_of groups k ≡ m → ⊥
+  none_before k high e = absurd (omega (arith, high, e, C.lowest.low k (omega (arith, high, L.inside))))
 
-  pub none-between : (i j k : ℕ) → labelOf groups i ≡ m → j ≡ nextMember groups i → i < k → k < j → labelOf groups k ≡ m → ⊥
-  none-between i j k own e low high o = next-between groups i k low (omega (arith, high, e)) (o ∙ sym own)
+  pub none_between : (i j k : ℕ) → label_of groups i ≡ m → j ≡ next_member groups i → i < k → k < j → label_of groups k ≡ m → ⊥
+  none_between i j k own e low high o = next_between groups i k low (omega (arith, high, e)) (o ∙ sym own)
 
   -- the numbers of the group below i
-  abbrev pub ofGroup : ℕ → Bool
-  ofGroup k = eqb (labelOf groups k) m
+  abbrev pub of_group : ℕ → Bool
+  of_group k = eqb (label_of groups k) m
 
-  pub size-start : 0 ≡ length (keep ofGroup (below m))
-  size-start = sym (ap length (keep-nothing ofGroup (below m) (λ k i. ne_eqb (labelOf groups k) m (none-before k (below-in m k i)))))
+  pub size_start : 0 ≡ length (keep of_group (below m))
+  size_start = sym (ap length (keep_nothing of_group (below m) (λ k i. ne_eqb (label_of groups k) m (none_before k (below_in m k i)))))
 
-  skipped : (i d : ℕ) → ((k : ℕ) → i ≤ k → k < i + d → ofGroup k ≡ false) → keep ofGroup (below (i + d)) ≡ keep ofGroup (below i)
-  skipped i zero none = let z : i + zero ≡ i = omega arith in ap (λ n. keep ofGroup (below n)) z
+  skipped : (i d : ℕ) → ((k : ℕ) → i ≤ k → k < i + d → of_group k ≡ false) → keep of_group (below (i + d)) ≡ keep of_group (below i)
+  skipped i zero none = let z : i + zero ≡ i = omega arith in ap (λ n. keep of_group (below n)) z
   skipped i (suc d) none =
       let z : i + suc d ≡ (i + d) + 1 = omega arith in
-      ap (λ n. keep ofGroup (below n)) z ∙ keep-below-no ofGroup (i + d) (none (i + d) (omega arith) (omega arith))
+      ap (λ n. keep of_group (below n)) z ∙ keep_below_no of_group (i + d) (none (i + d) (omega arith) (omega arith))
       ∙ skipped i d (λ k low high. none k low (omega (arith, high)))
 
-  pub size-step : (n i j : ℕ) → n ≡ length (keep ofGroup (below i)) → labelOf groups i ≡ m → j ≡ nextMember groups i → i < j → n + 1 ≡ length (keep ofGroup (below j))
-  size-step n i j e own q h =
+  pub size_step : (n i j : ℕ) → n ≡ length (keep of_group (below i)) → label_of groups i ≡ m → j ≡ next_member groups i → i < j → n + 1 ≡ length (keep of_group (below j))
+  size_step n i j e own q h =
       let z : (i + 1) + (j - (i + 1)) ≡ j = omega (arith, h) in
-      let one : keep ofGroup (below (i + 1)) ≡ keep ofGroup (below i) ++ (i ∷ []) = keep-below-yes ofGroup i (eq-eqb (labelOf groups i) m own) in
-      let rest : keep ofGroup (below j) ≡ keep ofGroup (below (i + 1)) =
-      ap (λ k. keep ofGroup (below k)) (sym z)
-      ∙ skipped (i + 1) (j - (i + 1)) (λ k low high. ne_eqb (labelOf groups k) m (none-between i j k own q (omega (arith, low)) (omega (arith, high, z)))) in
-      omega (arith, e, ap length rest, ap length one, length-append (keep ofGroup (below i)) (i ∷ []))
+      let one : keep of_group (below (i + 1)) ≡ keep of_group (below i) ++ (i ∷ []) = keep_below_yes of_group i (eq-eqb (label_of groups i) m own) in
+      let rest : keep of_group (below j) ≡ keep of_group (below (i + 1)) =
+      ap (λ k. keep of_group (below k)) (sym z)
+      ∙ skipped (i + 1) (j - (i + 1)) (λ k low high. ne_eqb (label_of groups k) m (none_between i j k own q (omega (arith, low)) (omega (arith, high, z)))) in
+      omega (arith, e, ap length rest, ap length one, length-append (keep of_group (below i)) (i ∷ []))
 
   -- no more than the numbers
-  pub size-few : (n i : ℕ) → n ≡ length (keep ofGroup (below i)) → n ≤ i
-  size-few n i e = omega (arith, e, keep-below-le ofGroup i)
+  pub size_few : (n i : ℕ) → n ≡ length (keep of_group (below i)) → n ≤ i
+  size_few n i e = omega (arith, e, keep_below_le of_group i)
 
   -- past the last number all are counted
-  pub size-end : (n i : ℕ) → n ≡ length (keep ofGroup (below i)) → i ≡ length groups → n ≡ length (membersOf groups m)
-  size-end n i e all = e ∙ ap (λ k. length (keep ofGroup (below k))) all
+  pub size_end : (n i : ℕ) → n ≡ length (keep of_group (below i)) → i ≡ length groups → n ≡ length (members_of groups m)
+  size_end n i e all = e ∙ ap (λ k. length (keep of_group (below k))) all

@@ -4,8 +4,8 @@
 
 ghost use Rattle.std.specs.Prelude.{◌≡◌, List, map, ℕ, ◌+◌, ◌<◌, ◌≤◌, length, get_or};
 ghost use Rattle.lists.specs.Lists.{below};
-ghost use Rattle.rules.specs.Groups.{Lowest, membersOf};
-ghost use Rattle.members.specs.Chain.{nextMember, Chaining};
+ghost use Rattle.rules.specs.Groups.{Lowest, members_of};
+ghost use Rattle.members.specs.Chain.{next_member, Chaining};
 ghost use Rattle.members.specs.Group.{Chained, Leading};
 
 use fields::{get, put};
@@ -36,7 +36,7 @@ fn chain_one(groups: &[u32], first: &mut [u32], next: &mut [u32], i: usize)
 // For each number the next of its group; for the last of a group how many numbers there are.
 pub fn chain(groups: &[u32], next: &mut [u32])
     requires { (length groups.now ≤ 256) × (length next.old ≡ length groups.now) × Lowest groups.now }
-    ensures { next.new ≡ map (nextMember groups.now) (below (length groups.now)) }
+    ensures { next.new ≡ map (next_member groups.now) (below (length groups.now)) }
 {
     let mut first = [0u32; 256];
     let mut i = groups.len();
@@ -50,7 +50,7 @@ pub fn chain(groups: &[u32], next: &mut [u32])
 // How many members the group with label m has.
 pub fn group_size(groups: &[u32], next: &[u32], m: usize) -> usize
     requires { Chained groups.now next.now × Leading groups.now m }
-    ensures { (result ≡ length (membersOf groups.now m)) × (result ≤ 256) }
+    ensures { (result ≡ length (members_of groups.now m)) × (result ≤ 256) }
 {
     let mut n: usize = 0;
     let mut i = m;

@@ -6,12 +6,12 @@ use Rattle.rules.specs.declared.Face.{Face}
 use Rattle.rules.specs.declared.Use.{Use}
 use Rattle.rules.specs.declared.SurfaceAnswer.{SurfaceAnswer}
 use Rattle.rules.specs.Outcome.{Outcome, ok, refuse, ◌>>=◌}
-use Rattle.rules.specs.Sense.{sameSense}
-use Rattle.rules.specs.Job.{faceAt}
-use Rattle.rules.specs.Read.{storedSense}
-use Rattle.rules.specs.Groups.{Grouping, joinGroups}
-use Rattle.rules.specs.Rules.{fullTable}
-use Rattle.rules.specs.Merge.{joinsFaces, boundaryStep}
+use Rattle.rules.specs.Sense.{same_sense}
+use Rattle.rules.specs.Job.{face_at}
+use Rattle.rules.specs.Read.{stored_sense}
+use Rattle.rules.specs.Groups.{Grouping, join_groups}
+use Rattle.rules.specs.Rules.{full_table}
+use Rattle.rules.specs.Merge.{joins_faces, boundary_step}
 use Rattle.groups.specs.Parents.{Ordered, Stands}
 use Rattle.merge_faces.specs.declared.Merging.{Merging}
 use Rattle.merge_faces.specs.declared.Merging.TheVariants.{Done, Refused}
@@ -19,12 +19,12 @@ use Rattle.merge_faces.specs.declared.Merging.TheVariants.{Done, Refused}
 -- parents after the faces of the first n twin pairs joined
 pub record JoinedPairs (us : List Use) (ts : List ℕ) (n : ℕ) (before after : List ℕ) : Type 0 where
   pub ordered : Ordered after
-  pub stands : (g : List ℕ) → Stands before g → Stands after (foldl (boundaryStep us ts) g (below n))
+  pub stands : (g : List ℕ) → Stands before g → Stands after (foldl (boundary_step us ts) g (below n))
 
 -- the labels and the number of joins, or the refusal
-abbrev pub mergedOf : Merging → List ℕ → Outcome Grouping
-mergedOf (Done k) labels = ok (record { groups = labels; joins = k })
-mergedOf (Refused n p) labels = refuse n p
+abbrev pub merged_of : Merging → List ℕ → Outcome Grouping
+merged_of (Done k) labels = ok (record { groups = labels; joins = k })
+merged_of (Refused n p) labels = refuse n p
 
 -- an outcome that was reached from s by at most one join: its groups as a table of parents, or the refusal
 abbrev pub MergedTo : Merging → List ℕ → Grouping → Outcome Grouping → Type 0
@@ -32,7 +32,7 @@ MergedTo (Done k) parents s o = (g : List ℕ) × (o ≡ ok (record { groups = g
 MergedTo (Refused n p) parents s o = o ≡ refuse n p
 
 -- the groups after the surface answer v about faces a and b
-unfoldable pub answeredStep : List Face → ℕ → ℕ → SurfaceAnswer → Grouping → Outcome Grouping
-answeredStep fs a b v g =
-    joinsFaces fullTable (sameSense (storedSense (faceAt fs a)) (storedSense (faceAt fs b))) v >>= λ yes.
-    ok (cond yes (joinGroups g a b) g)
+unfoldable pub answered_step : List Face → ℕ → ℕ → SurfaceAnswer → Grouping → Outcome Grouping
+answered_step fs a b v g =
+    joins_faces full_table (same_sense (stored_sense (face_at fs a)) (stored_sense (face_at fs b))) v >>= λ yes.
+    ok (cond yes (join_groups g a b) g)

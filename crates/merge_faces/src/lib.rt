@@ -5,16 +5,16 @@
 ghost use Rattle.std.specs.Prelude.{◌≡◌, cond, not, ◌+◌, ◌≤◌, ◌<◌, ◌^◌, length, take};
 ghost use Rattle.lists.specs.Lists.{keep};
 ghost use Rattle.rules.specs.Outcome.{ok};
-ghost use Rattle.rules.specs.Read.{faceOfUse};
-ghost use Rattle.rules.specs.Groups.{Grouping, lowestMembers, groupNumbers, Lowest};
-ghost use Rattle.rules.specs.Rules.{fullTable};
-ghost use Rattle.rules.specs.Merge.{boundaries as boundariesOf, otherFace, joinsFaces, mergeStep, mergedGroups, removes, removedUses};
-ghost use Rattle.job.specs.Lists.{facesIn, answersIn};
-ghost use Rattle.uses.specs.Table.{usesIn};
+ghost use Rattle.rules.specs.Read.{face_of_use};
+ghost use Rattle.rules.specs.Groups.{Grouping, lowest_members, group_numbers, Lowest};
+ghost use Rattle.rules.specs.Rules.{full_table};
+ghost use Rattle.rules.specs.Merge.{boundaries as boundariesOf, other_face, joins_faces, merge_step, merged_groups, removes, removed_uses};
+ghost use Rattle.job.specs.Lists.{faces_in, answers_in};
+ghost use Rattle.uses.specs.Table.{uses_in};
 ghost use Rattle.groups.specs.Parents.{Ordered, Stands};
 ghost use Rattle.answers.specs.Index.{Indexed};
-ghost use Rattle.ask.specs.Told.{toldOf};
-ghost use Rattle.merge_faces.specs.Merging.{mergedOf, MergedTo, answeredStep, JoinedPairs};
+ghost use Rattle.ask.specs.Told.{told_of};
+ghost use Rattle.merge_faces.specs.Merging.{merged_of, MergedTo, answered_step, JoinedPairs};
 ghost use Rattle.merge_faces.specs.Numbering.{Numbering};
 
 use ask::{Surface, Told};
@@ -41,7 +41,7 @@ struct TwoFaces {
 
 // The face of use h, and that of its twin.
 fn sides(uses: &[u32], twins: &[u32], h: usize) -> TwoFaces
-    ensures { (result.face ≡ faceOfUse (usesIn uses.now) h) × (result.other ≡ otherFace (usesIn uses.now) twins.now h) }
+    ensures { (result.face ≡ face_of_use (uses_in uses.now) h) × (result.other ≡ other_face (uses_in uses.now) twins.now h) }
 {
     let t = get(twins, h);
     TwoFaces {
@@ -53,7 +53,7 @@ fn sides(uses: &[u32], twins: &[u32], h: usize) -> TwoFaces
 // The faces of the first n twin pairs join.
 pub fn join_pairs(g: Groups, uses: &[u32], twins: &[u32], n: usize) -> Groups
     requires { Ordered g.parents }
-    ensures { JoinedPairs (usesIn uses.now) twins.now n g.parents result.parents }
+    ensures { JoinedPairs (uses_in uses.now) twins.now n g.parents result.parents }
 {
     let mut groups = g;
     let mut h: usize = 0;
@@ -69,7 +69,7 @@ pub fn join_pairs(g: Groups, uses: &[u32], twins: &[u32], n: usize) -> Groups
 // The faces of every twin pair join. Each face's label in the end.
 pub fn boundaries(uses: &[u32], twins: &[u32], labels: &mut [u32])
     requires { length labels.old ≤ 256 }
-    ensures { labels.new ≡ boundariesOf (usesIn uses.now) twins.now (length labels.old) }
+    ensures { labels.new ≡ boundariesOf (uses_in uses.now) twins.now (length labels.old) }
 {
     let alone = groups::new(labels.len());
     let joined = join_pairs(alone, uses, twins, uses::count(uses));
@@ -81,7 +81,7 @@ pub fn boundaries(uses: &[u32], twins: &[u32], labels: &mut [u32])
 // Whether a surface answer joins: agreeing where stored senses are equal, opposed where they differ; 22 where normals
 // vanish, 21 where it is undecided.
 fn joins_faces(v: SurfaceAnswer, equal: bool) -> Told
-    ensures { toldOf result ≡ joinsFaces fullTable equal v }
+    ensures { told_of result ≡ joins_faces full_table equal v }
 {
     match v {
         SurfaceAnswer::Different => Told::No,
@@ -93,7 +93,7 @@ fn joins_faces(v: SurfaceAnswer, equal: bool) -> Told
 }
 
 fn yes_if(test: bool) -> Told
-    ensures { toldOf result ≡ ok test }
+    ensures { told_of result ≡ ok test }
 {
     if test {
         return Told::Yes;
@@ -102,7 +102,7 @@ fn yes_if(test: bool) -> Told
 }
 
 fn no_if(test: bool) -> Told
-    ensures { toldOf result ≡ ok (not test) }
+    ensures { told_of result ≡ ok (not test) }
 {
     if test {
         return Told::No;
@@ -121,7 +121,7 @@ fn join_by(
     v: SurfaceAnswer,
 ) -> Merging
     requires { (c.faces ≤ 256) × Ordered labels.old }
-    ensures { (g : Grouping) → Stands labels.old g.groups → MergedTo result labels.new g (answeredStep (facesIn job.now index.now c) a b v g) }
+    ensures { (g : Grouping) → Stands labels.old g.groups → MergedTo result labels.new g (answered_step (faces_in job.now index.now c) a b v g) }
 {
     let sense = job::stored_sense(job, index, c, a);
     let other = job::stored_sense(job, index, c, b);
@@ -148,7 +148,7 @@ fn merge_use(
     h: usize,
 ) -> Merging
     requires { Indexed job.now index.now c × (c.faces ≤ 256) × (h < 4294967296) × Ordered labels.old }
-    ensures { (g : Grouping) → Stands labels.old g.groups → MergedTo result labels.new g (mergeStep fullTable (answersIn job.now index.now c) (facesIn job.now index.now c) (usesIn uses.now) twins.now h g) }
+    ensures { (g : Grouping) → Stands labels.old g.groups → MergedTo result labels.new g (merge_step full_table (answers_in job.now index.now c) (faces_in job.now index.now c) (uses_in uses.now) twins.now h g) }
 {
     let t = get(twins, h);
     if t <= h {
@@ -174,8 +174,8 @@ pub fn merge_faces(
     twins: &[u32],
     labels: &mut [u32],
 ) -> Merging
-    requires { Indexed job.now index.now c × (c.faces ≤ 256) × (length labels.old ≡ c.faces) × (length (usesIn uses.now) ≤ 2048) }
-    ensures { mergedOf result labels.new ≡ mergedGroups fullTable (answersIn job.now index.now c) (facesIn job.now index.now c) (usesIn uses.now) twins.now }
+    requires { Indexed job.now index.now c × (c.faces ≤ 256) × (length labels.old ≡ c.faces) × (length (uses_in uses.now) ≤ 2048) }
+    ensures { merged_of result labels.new ≡ merged_groups full_table (answers_in job.now index.now c) (faces_in job.now index.now c) (uses_in uses.now) twins.now }
 {
     groups::alone(labels);
     let n = uses::count(uses);
@@ -201,7 +201,7 @@ pub fn merge_faces(
 
 // Use h is removed: its face and its twin's have one group.
 fn is_removed(uses: &[u32], twins: &[u32], groups: &[u32], h: usize) -> bool
-    ensures { result ≡ removes (usesIn uses.now) twins.now groups.now h }
+    ensures { result ≡ removes (uses_in uses.now) twins.now groups.now h }
 {
     let t = get(twins, h);
     let a = get(groups, use_face(uses, h));
@@ -225,8 +225,8 @@ fn counted(n: usize, yes: bool) -> usize
 
 // Each use: whether it is removed. Gives how many are.
 pub fn remove(uses: &[u32], twins: &[u32], groups: &[u32], removed: &mut [bool]) -> usize
-    requires { length removed.old ≡ length (usesIn uses.now) }
-    ensures { (removed.new ≡ removedUses (usesIn uses.now) twins.now groups.now) × (result ≡ length (keep (λ gone. gone) removed.new)) }
+    requires { length removed.old ≡ length (uses_in uses.now) }
+    ensures { (removed.new ≡ removed_uses (uses_in uses.now) twins.now groups.now) × (result ≡ length (keep (λ gone. gone) removed.new)) }
 {
     let mut gone: usize = 0;
     let mut h: usize = 0;
@@ -266,7 +266,7 @@ fn number_face(
 // The lowest member of each merged face, and each selected face's merged face. Gives how many merged faces there are.
 pub fn number(groups: &[u32], members: &mut [u32], numbers: &mut [u32]) -> usize
     requires { Lowest groups.now × (length members.old ≡ length groups.now) × (length numbers.old ≡ length groups.now) × (length groups.now ≤ 256) }
-    ensures { (take result members.new ≡ lowestMembers groups.now) × (result ≡ length (lowestMembers groups.now)) × (numbers.new ≡ groupNumbers groups.now) }
+    ensures { (take result members.new ≡ lowest_members groups.now) × (result ≡ length (lowest_members groups.now)) × (numbers.new ≡ group_numbers groups.now) }
 {
     let mut count: usize = 0;
     let mut f: usize = 0;

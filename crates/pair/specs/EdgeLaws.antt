@@ -8,138 +8,138 @@ use Rattle.std.proofs.Math.ListN.{length}
 use Rattle.std.proofs.Math.Dec.{eqb}
 use borrow.Author.Tests.{eq-eqb, ne_eqb, ltb-true, ltb-false}
 use Rattle.lists.specs.Lists.{has, all}
-use Rattle.lists.specs.Tests.{both-ways}
-use Rattle.lists.specs.ListEnds.{all-reverse}
+use Rattle.lists.specs.Tests.{both_ways}
+use Rattle.lists.specs.ListEnds.{all_reverse}
 use Rattle.rules.specs.declared.Use.{Use}
 use Rattle.rules.specs.Outcome.{Outcome, ok, refuse, ◌>>=◌, need}
-use Rattle.rules.proofs.OutcomeLaws.{need-on, need-stop}
-use Rattle.rules.specs.Fields.{fieldsIn}
+use Rattle.rules.proofs.OutcomeLaws.{need_on, need_stop}
+use Rattle.rules.specs.Fields.{fields_in}
 use Rattle.rules.specs.Job.{Answer}
-use Rattle.rules.specs.Questions.{askRadial}
-use Rattle.rules.specs.Pair.{usesOfEdge, pairTwo, eachOnce, takePredecessors, lastOf, pairRound, pairUses}
-use Rattle.fields.specs.Chains.{chain, Falling, chain-end, chain-more}
-use Rattle.job.specs.FieldLaws.{length-fields}
-use Rattle.edge_uses.specs.Links.{nextUse, usesOn, Linked}
+use Rattle.rules.specs.Questions.{ask_radial}
+use Rattle.rules.specs.Pair.{uses_of_edge, pair_two, each_once, take_predecessors, last_of, pair_round, pair_uses}
+use Rattle.fields.specs.Chains.{chain, Falling, chain_end, chain_more}
+use Rattle.job.specs.FieldLaws.{length_fields}
+use Rattle.edge_uses.specs.Links.{next_use, uses_on, Linked}
 use Rattle.ask.specs.declared.Order.{Order}
 use Rattle.ask.specs.declared.Order.TheVariants.{Uses, Refused}
-use Rattle.ask.specs.Told.{orderOf}
+use Rattle.ask.specs.Told.{order_of}
 
 -- FOUR OR MORE
 
-module _ (bytes : List ℕ) (answers : List Answer) (us : List Use) (e : ℕ) (ts : List ℕ) (o : Order) (eo : orderOf bytes o ≡ askRadial answers e) where
+module _ (bytes : List ℕ) (answers : List Answer) (us : List Use) (e : ℕ) (ts : List ℕ) (o : Order) (eo : order_of bytes o ≡ ask_radial answers e) where
   -- what is done with an order
-  abbrev go-round : List ℕ → Outcome (List ℕ)
-  go-round order = need (eachOnce (usesOfEdge us e) order) 23 e (takePredecessors us e (lastOf 0 order) order ts)
+  abbrev go_round : List ℕ → Outcome (List ℕ)
+  go_round order = need (each_once (uses_of_edge us e) order) 23 e (take_predecessors us e (last_of 0 order) order ts)
 
-  asked : (orderOf bytes o >>= go-round) ≡ pairRound answers us e (usesOfEdge us e) ts
-  unfolding pairRound
-  asked = ap (λ (x : Outcome (List ℕ)). x >>= go-round) eo
+  asked : (order_of bytes o >>= go_round) ≡ pair_round answers us e (uses_of_edge us e) ts
+  unfolding pair_round
+  asked = ap (λ (x : Outcome (List ℕ)). x >>= go_round) eo
 
-  pub round-refused : (n p : ℕ) → o ≡ Refused n p → refuse n p ≡ pairRound answers us e (usesOfEdge us e) ts
-  round-refused n p q = ap (λ x. orderOf bytes x >>= go-round) (sym q) ∙ asked
+  pub round_refused : (n p : ℕ) → o ≡ Refused n p → refuse n p ≡ pair_round answers us e (uses_of_edge us e) ts
+  round_refused n p q = ap (λ x. order_of bytes x >>= go_round) (sym q) ∙ asked
 
   module _ (from n : ℕ) (q : o ≡ Uses from n) where
     abbrev order : List ℕ
-    order = fieldsIn n (drop from bytes)
+    order = fields_in n (drop from bytes)
 
-    ordered : go-round order ≡ pairRound answers us e (usesOfEdge us e) ts
-    ordered = ap (λ x. orderOf bytes x >>= go-round) (sym q) ∙ asked
+    ordered : go_round order ≡ pair_round answers us e (uses_of_edge us e) ts
+    ordered = ap (λ x. order_of bytes x >>= go_round) (sym q) ∙ asked
 
     -- the order has another number of uses
-    pub round-other : (k : ℕ) → k ≡ length (usesOfEdge us e) → (n ≡ k → ⊥) → refuse 23 e ≡ pairRound answers us e (usesOfEdge us e) ts
-    unfolding eachOnce
-    round-other k ek d =
-        sym (need-stop 23 e (takePredecessors us e (lastOf 0 order) order ts)
-        (ap (λ b. b && all (λ h. has h order) (usesOfEdge us e))
-        (ne_eqb (length order) (length (usesOfEdge us e)) (λ z. d (sym (length-fields n (drop from bytes)) ∙ z ∙ sym ek)))))
+    pub round_other : (k : ℕ) → k ≡ length (uses_of_edge us e) → (n ≡ k → ⊥) → refuse 23 e ≡ pair_round answers us e (uses_of_edge us e) ts
+    unfolding each_once
+    round_other k ek d =
+        sym (need_stop 23 e (take_predecessors us e (last_of 0 order) order ts)
+        (ap (λ b. b && all (λ h. has h order) (uses_of_edge us e))
+        (ne_eqb (length order) (length (uses_of_edge us e)) (λ z. d (sym (length_fields n (drop from bytes)) ∙ z ∙ sym ek)))))
         ∙ ordered
 
-    module _ (firsts nexts : List ℕ) (l : Linked us firsts nexts) (lt : e < length firsts) (t : Bool) (et : t ≡ all (λ h. has h order) (usesOn firsts nexts e)) where
-      each : all (λ h. has h order) (usesOfEdge us e) ≡ t
-      each = sym (et ∙ ap (all (λ h. has h order)) (l.chains e lt) ∙ all-reverse (λ h. has h order) (usesOfEdge us e))
+    module _ (firsts nexts : List ℕ) (l : Linked us firsts nexts) (lt : e < length firsts) (t : Bool) (et : t ≡ all (λ h. has h order) (uses_on firsts nexts e)) where
+      each : all (λ h. has h order) (uses_of_edge us e) ≡ t
+      each = sym (et ∙ ap (all (λ h. has h order)) (l.chains e lt) ∙ all_reverse (λ h. has h order) (uses_of_edge us e))
 
       -- the order lacks a use
-      pub round-lacks : t ≡ false → refuse 23 e ≡ pairRound answers us e (usesOfEdge us e) ts
-      unfolding eachOnce
-      round-lacks z =
-          sym (need-stop 23 e (takePredecessors us e (lastOf 0 order) order ts) (ap (λ b. eqb (length order) (length (usesOfEdge us e)) && b) (each ∙ z) ∙ and-false (eqb (length order) (length (usesOfEdge us e)))))
+      pub round_lacks : t ≡ false → refuse 23 e ≡ pair_round answers us e (uses_of_edge us e) ts
+      unfolding each_once
+      round_lacks z =
+          sym (need_stop 23 e (take_predecessors us e (last_of 0 order) order ts) (ap (λ b. eqb (length order) (length (uses_of_edge us e)) && b) (each ∙ z) ∙ and_false (eqb (length order) (length (uses_of_edge us e)))))
           ∙ ordered
         where
-          and-false : (b : Bool) → (b && false) ≡ false
-          and-false true = refl
-          and-false false = refl
+          and_false : (b : Bool) → (b && false) ≡ false
+          and_false true = refl
+          and_false false = refl
 
       -- the order has each use once
-      pub round-on : t ≡ true → (k : ℕ) → k ≡ length (usesOfEdge us e) → n ≡ k → takePredecessors us e (lastOf 0 order) order ts ≡ pairRound answers us e (usesOfEdge us e) ts
-      unfolding eachOnce
-      round-on z k ek d =
-          sym (need-on 23 e (takePredecessors us e (lastOf 0 order) order ts)
-          (λ i. eq-eqb (length order) (length (usesOfEdge us e)) (length-fields n (drop from bytes) ∙ d ∙ ek) i && (each ∙ z) i))
+      pub round_on : t ≡ true → (k : ℕ) → k ≡ length (uses_of_edge us e) → n ≡ k → take_predecessors us e (last_of 0 order) order ts ≡ pair_round answers us e (uses_of_edge us e) ts
+      unfolding each_once
+      round_on z k ek d =
+          sym (need_on 23 e (take_predecessors us e (last_of 0 order) order ts)
+          (λ i. eq-eqb (length order) (length (uses_of_edge us e)) (length_fields n (drop from bytes) ∙ d ∙ ek) i && (each ∙ z) i))
           ∙ ordered
 
 -- BY THE NUMBER OF USES
 
 module _ (answers : List Answer) (us : List Use) (e : ℕ) (ts : List ℕ) where
-  pub uses-none : (hs : List ℕ) → length hs ≡ 0 → ok ts ≡ pairUses answers us e hs ts
-  unfolding pairUses
-  uses-none [] h = refl
-  uses-none (a ∷ hs) h = absurd (omega arith)
+  pub uses_none : (hs : List ℕ) → length hs ≡ 0 → ok ts ≡ pair_uses answers us e hs ts
+  unfolding pair_uses
+  uses_none [] h = refl
+  uses_none (a ∷ hs) h = absurd (omega arith)
 
-  pub uses-odd : (hs : List ℕ) → length hs % 2 ≡ 1 → refuse 11 e ≡ pairUses answers us e hs ts
-  unfolding pairUses
-  uses-odd [] h = absurd (omega arith)
-  uses-odd (a ∷ []) h = refl
-  uses-odd (a ∷ b ∷ []) h = absurd (omega arith)
-  uses-odd (a ∷ b ∷ c ∷ hs) h =
-      sym (need-stop 11 e (pairRound answers us e (a ∷ b ∷ c ∷ hs) ts) (ne_eqb (length (a ∷ b ∷ c ∷ hs) % 2) 0 (λ (z : length (a ∷ b ∷ c ∷ hs) % 2 ≡ 0). omega arith)))
+  pub uses_odd : (hs : List ℕ) → length hs % 2 ≡ 1 → refuse 11 e ≡ pair_uses answers us e hs ts
+  unfolding pair_uses
+  uses_odd [] h = absurd (omega arith)
+  uses_odd (a ∷ []) h = refl
+  uses_odd (a ∷ b ∷ []) h = absurd (omega arith)
+  uses_odd (a ∷ b ∷ c ∷ hs) h =
+      sym (need_stop 11 e (pair_round answers us e (a ∷ b ∷ c ∷ hs) ts) (ne_eqb (length (a ∷ b ∷ c ∷ hs) % 2) 0 (λ (z : length (a ∷ b ∷ c ∷ hs) % 2 ≡ 0). omega arith)))
 
-  pub uses-even : (hs : List ℕ) → 2 < length hs → (length hs % 2 ≡ 1 → ⊥) → pairRound answers us e hs ts ≡ pairUses answers us e hs ts
-  unfolding pairUses
-  uses-even [] h n = absurd (omega arith)
-  uses-even (a ∷ []) h n = absurd (omega arith)
-  uses-even (a ∷ b ∷ []) h n = absurd (omega arith)
-  uses-even (a ∷ b ∷ c ∷ hs) h n = sym (need-on 11 e (pairRound answers us e (a ∷ b ∷ c ∷ hs) ts) (eq-eqb (length (a ∷ b ∷ c ∷ hs) % 2) 0 (omega (arith, n))))
+  pub uses_even : (hs : List ℕ) → 2 < length hs → (length hs % 2 ≡ 1 → ⊥) → pair_round answers us e hs ts ≡ pair_uses answers us e hs ts
+  unfolding pair_uses
+  uses_even [] h n = absurd (omega arith)
+  uses_even (a ∷ []) h n = absurd (omega arith)
+  uses_even (a ∷ b ∷ []) h n = absurd (omega arith)
+  uses_even (a ∷ b ∷ c ∷ hs) h n = sym (need_on 11 e (pair_round answers us e (a ∷ b ∷ c ∷ hs) ts) (eq-eqb (length (a ∷ b ∷ c ∷ hs) % 2) 0 (omega (arith, n))))
 
-  pub uses-two : (hs : List ℕ) (a b : ℕ) → hs ≡ a ∷ b ∷ [] → pairTwo us e a b ts ≡ pairUses answers us e hs ts
-  unfolding pairUses
-  uses-two hs a b q = sym (ap (λ l. pairUses answers us e l ts) q)
+  pub uses_two : (hs : List ℕ) (a b : ℕ) → hs ≡ a ∷ b ∷ [] → pair_two us e a b ts ≡ pair_uses answers us e hs ts
+  unfolding pair_uses
+  uses_two hs a b q = sym (ap (λ l. pair_uses answers us e l ts) q)
 
 -- TWO USES ON A CHAIN
 
 module _ (next : ℕ → ℕ) (f : Falling next) (i : ℕ) (two : length (chain next i) ≡ 2) where
-  none-on : (j : ℕ) → j ≤ 0 → length (chain next j) ≡ 0
-  none-on j h = let z : j ≡ zero = omega arith in ap (λ k. length (chain next k)) z ∙ ap length (chain-end next)
+  none_on : (j : ℕ) → j ≤ 0 → length (chain next j) ≡ 0
+  none_on j h = let z : j ≡ zero = omega arith in ap (λ k. length (chain next k)) z ∙ ap length (chain_end next)
 
-  pub entry-first : 0 < i
-  entry-first = ⊎_elim (λ t. ltb-true 0 i t) (λ t. absurd (omega (arith, none-on i (ltb-false 0 i t)))) (both-ways (ltb 0 i))
+  pub entry_first : 0 < i
+  entry_first = ⊎_elim (λ t. ltb-true 0 i t) (λ t. absurd (omega (arith, none_on i (ltb-false 0 i t)))) (both_ways (ltb 0 i))
 
-  one-more : length (chain next (next (i - 1))) ≡ 1
-  one-more = omega (arith, ap length (chain-more next f i entry-first))
+  one_more : length (chain next (next (i - 1))) ≡ 1
+  one_more = omega (arith, ap length (chain_more next f i entry_first))
 
-  pub entry-second : 0 < next (i - 1)
-  entry-second =
+  pub entry_second : 0 < next (i - 1)
+  entry_second =
       let j : ℕ = next (i - 1) in
-      ⊎_elim (λ t. ltb-true 0 j t) (λ t. absurd (omega (arith, none-on j (ltb-false 0 j t), one-more))) (both-ways (ltb 0 j))
+      ⊎_elim (λ t. ltb-true 0 j t) (λ t. absurd (omega (arith, none_on j (ltb-false 0 j t), one_more))) (both_ways (ltb 0 j))
 
-  chain-two : chain next i ≡ (i - 1) ∷ (next (i - 1) - 1) ∷ []
-  chain-two =
+  chain_two : chain next i ≡ (i - 1) ∷ (next (i - 1) - 1) ∷ []
+  chain_two =
       let j : ℕ = next (i - 1) in
       let k : ℕ = next (j - 1) in
-      chain-more next f i entry-first
-      ∙ ap {B = List ℕ} (λ l. (i - 1) ∷ l) (chain-more next f j entry-second ∙ ap {B = List ℕ} (λ l. (j - 1) ∷ l) (nil-of (chain next k) (omega (arith, one-more, ap length (chain-more next f j entry-second)))))
+      chain_more next f i entry_first
+      ∙ ap {B = List ℕ} (λ l. (i - 1) ∷ l) (chain_more next f j entry_second ∙ ap {B = List ℕ} (λ l. (j - 1) ∷ l) (nil_of (chain next k) (omega (arith, one_more, ap length (chain_more next f j entry_second)))))
     where
-      nil-of : (l : List ℕ) → length l ≡ 0 → l ≡ []
-      nil-of [] e = refl
-      nil-of (x ∷ l) e = absurd (omega arith)
+      nil_of : (l : List ℕ) → length l ≡ 0 → l ≡ []
+      nil_of [] e = refl
+      nil_of (x ∷ l) e = absurd (omega arith)
 
 -- the two uses of an edge, by its entries
-pub two-uses : (us : List Use) (firsts nexts : List ℕ) (e i j : ℕ) → Linked us firsts nexts → e < length firsts → length (usesOn firsts nexts e) ≡ 2 → i ≡ get_or firsts e 0 → j ≡ get_or nexts (i - 1) 0
-    → (0 < i) × (0 < j) × (usesOfEdge us e ≡ (j - 1) ∷ (i - 1) ∷ [])
-two-uses us firsts nexts e i j l lt two ei ej =
-    let next : ℕ → ℕ = nextUse nexts in
+pub two_uses : (us : List Use) (firsts nexts : List ℕ) (e i j : ℕ) → Linked us firsts nexts → e < length firsts → length (uses_on firsts nexts e) ≡ 2 → i ≡ get_or firsts e 0 → j ≡ get_or nexts (i - 1) 0
+    → (0 < i) × (0 < j) × (uses_of_edge us e ≡ (j - 1) ∷ (i - 1) ∷ [])
+two_uses us firsts nexts e i j l lt two ei ej =
+    let next : ℕ → ℕ = next_use nexts in
     let two' : length (chain next i) ≡ 2 = ap (λ k. length (chain next k)) ei ∙ two in (
-      entry-first next l.falling i two',
-      rw ej (entry-second next l.falling i two'),
-      sym (reverse-reverse (usesOfEdge us e))
-          ∙ ap backwards (sym (l.chains e lt) ∙ ap (chain next) (sym ei) ∙ chain-two next l.falling i two' ∙ ap {B = List ℕ} (λ k. (i - 1) ∷ (k - 1) ∷ []) (sym ej)),
+      entry_first next l.falling i two',
+      rw ej (entry_second next l.falling i two'),
+      sym (reverse-reverse (uses_of_edge us e))
+          ∙ ap backwards (sym (l.chains e lt) ∙ ap (chain next) (sym ei) ∙ chain_two next l.falling i two' ∙ ap {B = List ℕ} (λ k. (i - 1) ∷ (k - 1) ∷ []) (sym ej)),
     )

@@ -3,16 +3,16 @@
 #![tactic(auto)]
 
 ghost use Rattle.std.specs.Prelude.{◌≡◌, ◌+◌, ◌*◌, ◌<◌, ◌≤◌, length, drop, replicate};
-ghost use Rattle.lists.specs.Lists.{has as hasNumber, all, indexOf};
-ghost use Rattle.rules.specs.Fields.{fieldsIn};
+ghost use Rattle.lists.specs.Lists.{has as hasNumber, all, index_of};
+ghost use Rattle.rules.specs.Fields.{fields_in};
 ghost use Rattle.rules.specs.Job.{unset};
-ghost use Rattle.rules.specs.Pair.{usesOfEdge, twinned, sameUse, pairTwo, takePredecessor, takePredecessors, lastOf, pairRound, pairEdge, pair as pairAll};
-ghost use Rattle.job.specs.Lists.{answersIn};
+ghost use Rattle.rules.specs.Pair.{uses_of_edge, twinned, same_use, pair_two, take_predecessor, take_predecessors, last_of, pair_round, pair_edge, pair as pairAll};
+ghost use Rattle.job.specs.Lists.{answers_in};
 ghost use Rattle.answers.specs.Index.{Indexed};
 ghost use Rattle.fields.specs.Chains.{Falling};
-ghost use Rattle.uses.specs.Table.{usesIn};
-ghost use Rattle.edge_uses.specs.Links.{nextUse, usesOn, Linked};
-ghost use Rattle.pair.specs.Twins.{pairsOf, twinsOf};
+ghost use Rattle.uses.specs.Table.{uses_in};
+ghost use Rattle.edge_uses.specs.Links.{next_use, uses_on, Linked};
+ghost use Rattle.pair.specs.Twins.{pairs_of, twins_of};
 
 use ask::Order;
 use fields::{UNSET, get, put, word};
@@ -56,7 +56,7 @@ fn twin(twins: &mut [u32], a: usize, b: usize)
 
 // Use h is Same.
 fn is_same(uses: &[u32], h: usize) -> bool
-    ensures { result ≡ sameUse (usesIn uses.now) h }
+    ensures { result ≡ same_use (uses_in uses.now) h }
 {
     let s = use_sense(uses, h);
     match s {
@@ -68,7 +68,7 @@ fn is_same(uses: &[u32], h: usize) -> bool
 // Two uses: 10 where their senses are equal.
 fn pair_two(uses: &[u32], twins: &mut [u32], e: usize, a: usize, b: usize) -> Pairs
     requires { (a < 4294967296) × (b < 4294967296) }
-    ensures { pairsOf result twins.new ≡ pairTwo (usesIn uses.now) e a b twins.old }
+    ensures { pairs_of result twins.new ≡ pair_two (uses_in uses.now) e a b twins.old }
 {
     if job::same_sense(use_sense(uses, a), use_sense(uses, b)) {
         return Pairs::Refused(10, e);
@@ -80,7 +80,7 @@ fn pair_two(uses: &[u32], twins: &mut [u32], e: usize, a: usize, b: usize) -> Pa
 // Among the n numbers from a byte of the job on is h.
 fn has(job: &[u8], from: usize, n: usize, h: usize) -> bool
     requires { (from < 4294967306) × (n < 1073741824) }
-    ensures { result ≡ hasNumber h (fieldsIn n (drop from job.now)) }
+    ensures { result ≡ hasNumber h (fields_in n (drop from job.now)) }
 {
     let mut i = 0;
     while i < n {
@@ -94,8 +94,8 @@ fn has(job: &[u8], from: usize, n: usize, h: usize) -> bool
 
 // Among the n numbers from a byte of the job on is each use of an edge.
 fn has_all(job: &[u8], from: usize, n: usize, firsts: &[u32], nexts: &[u32], e: usize) -> bool
-    requires { (from < 4294967306) × (n < 1073741824) × Falling (nextUse nexts.now) }
-    ensures { result ≡ all (λ h. hasNumber h (fieldsIn n (drop from job.now))) (usesOn firsts.now nexts.now e) }
+    requires { (from < 4294967306) × (n < 1073741824) × Falling (next_use nexts.now) }
+    ensures { result ≡ all (λ h. hasNumber h (fields_in n (drop from job.now))) (uses_on firsts.now nexts.now e) }
 {
     let mut i = get(firsts, e);
     while 0 < i {
@@ -112,7 +112,7 @@ fn has_all(job: &[u8], from: usize, n: usize, firsts: &[u32], nexts: &[u32], e: 
 // A Same use takes its predecessor p; 12 where that is Same too.
 fn take_predecessor(uses: &[u32], twins: &mut [u32], e: usize, p: usize, h: usize) -> Pairs
     requires { (p < 4294967296) × (h < 4294967296) }
-    ensures { pairsOf result twins.new ≡ takePredecessor (usesIn uses.now) e p h twins.old }
+    ensures { pairs_of result twins.new ≡ take_predecessor (uses_in uses.now) e p h twins.old }
 {
     if is_same(uses, h) {
         if is_same(uses, p) {
@@ -134,7 +134,7 @@ fn take_predecessors(
     e: usize,
 ) -> Pairs
     requires { (from < 4294967306) × (n < 1073741824) × (0 < n) }
-    ensures { pairsOf result twins.new ≡ takePredecessors (usesIn uses.now) e (lastOf 0 (fieldsIn n (drop from job.now))) (fieldsIn n (drop from job.now)) twins.old }
+    ensures { pairs_of result twins.new ≡ take_predecessors (uses_in uses.now) e (last_of 0 (fields_in n (drop from job.now))) (fields_in n (drop from job.now)) twins.old }
 {
     let mut p = word(job, from + 4 * (n - 1));
     let mut i = 0;
@@ -165,8 +165,8 @@ fn pair_round(
     e: usize,
     k: usize,
 ) -> Pairs
-    requires { Indexed job.now index.now c × Linked (usesIn uses.now) firsts.now nexts.now × (e < length firsts.now) × (e < 1024) × (k ≡ length (usesOfEdge (usesIn uses.now) e)) × (2 < k) }
-    ensures { pairsOf result twins.new ≡ pairRound (answersIn job.now index.now c) (usesIn uses.now) e (usesOfEdge (usesIn uses.now) e) twins.old }
+    requires { Indexed job.now index.now c × Linked (uses_in uses.now) firsts.now nexts.now × (e < length firsts.now) × (e < 1024) × (k ≡ length (uses_of_edge (uses_in uses.now) e)) × (2 < k) }
+    ensures { pairs_of result twins.new ≡ pair_round (answers_in job.now index.now c) (uses_in uses.now) e (uses_of_edge (uses_in uses.now) e) twins.old }
 {
     let o = ask::ask_radial(job, index, c, e);
     match o {
@@ -194,8 +194,8 @@ fn pair_edge(
     twins: &mut [u32],
     e: usize,
 ) -> Pairs
-    requires { Indexed job.now index.now c × Linked (usesIn uses.now) firsts.now nexts.now × (e < length firsts.now) × (e < 1024) }
-    ensures { pairsOf result twins.new ≡ pairEdge (answersIn job.now index.now c) (usesIn uses.now) e twins.old }
+    requires { Indexed job.now index.now c × Linked (uses_in uses.now) firsts.now nexts.now × (e < length firsts.now) × (e < 1024) }
+    ensures { pairs_of result twins.new ≡ pair_edge (answers_in job.now index.now c) (uses_in uses.now) e twins.old }
 {
     let n = edge_uses::count_of(firsts, nexts, e);
     if n == 0 {
@@ -214,7 +214,7 @@ fn pair_edge(
 
 // The lowest use without twin, or the number of uses.
 fn lone(twins: &[u32]) -> usize
-    ensures { result ≡ indexOf unset twins.now }
+    ensures { result ≡ index_of unset twins.now }
 {
     let mut h = 0;
     while h < twins.len() {
@@ -236,8 +236,8 @@ fn pair_edges(
     nexts: &[u32],
     twins: &mut [u32],
 ) -> Pairs
-    requires { Indexed job.now index.now c × Linked (usesIn uses.now) firsts.now nexts.now × (length firsts.now ≡ c.edges) × (c.edges ≤ 1024) × (twins.old ≡ replicate (length (usesIn uses.now)) unset) }
-    ensures { pairsOf result twins.new ≡ pairAll (answersIn job.now index.now c) (usesIn uses.now) c.edges }
+    requires { Indexed job.now index.now c × Linked (uses_in uses.now) firsts.now nexts.now × (length firsts.now ≡ c.edges) × (c.edges ≤ 1024) × (twins.old ≡ replicate (length (uses_in uses.now)) unset) }
+    ensures { pairs_of result twins.new ≡ pairAll (answers_in job.now index.now c) (uses_in uses.now) c.edges }
 {
     let mut e = 0;
     while e < c.edges {
@@ -266,8 +266,8 @@ pub fn pair(
     firsts: &[u32],
     nexts: &[u32],
 ) -> Paired
-    requires { Indexed job.now index.now c × Linked (usesIn uses.now) firsts.now nexts.now × (length (usesIn uses.now) ≤ 2048) × (length firsts.now ≡ c.edges) × (c.edges ≤ 1024) }
-    ensures { (twinsOf (length (usesIn uses.now)) result.refusal result.place result.twins ≡ pairAll (answersIn job.now index.now c) (usesIn uses.now) c.edges) × (length result.twins ≡ 2048) }
+    requires { Indexed job.now index.now c × Linked (uses_in uses.now) firsts.now nexts.now × (length (uses_in uses.now) ≤ 2048) × (length firsts.now ≡ c.edges) × (c.edges ≤ 1024) }
+    ensures { (twins_of (length (uses_in uses.now)) result.refusal result.place result.twins ≡ pairAll (answers_in job.now index.now c) (uses_in uses.now) c.edges) × (length result.twins ≡ 2048) }
 {
     let n = uses::count(uses);
     let mut twins = [NONE; 2048];
@@ -295,8 +295,8 @@ pub fn pair_small(
     firsts: &[u32],
     nexts: &[u32],
 ) -> SmallPaired
-    requires { Indexed job.now index.now c × Linked (usesIn uses.now) firsts.now nexts.now × (length (usesIn uses.now) ≤ 64) × (length firsts.now ≡ c.edges) × (c.edges ≤ 1024) }
-    ensures { (twinsOf (length (usesIn uses.now)) result.refusal result.place result.twins ≡ pairAll (answersIn job.now index.now c) (usesIn uses.now) c.edges) × (length result.twins ≡ 64) }
+    requires { Indexed job.now index.now c × Linked (uses_in uses.now) firsts.now nexts.now × (length (uses_in uses.now) ≤ 64) × (length firsts.now ≡ c.edges) × (c.edges ≤ 1024) }
+    ensures { (twins_of (length (uses_in uses.now)) result.refusal result.place result.twins ≡ pairAll (answers_in job.now index.now c) (uses_in uses.now) c.edges) × (length result.twins ≡ 64) }
 {
     let n = uses::count(uses);
     let mut twins = [NONE; 64];

@@ -6,90 +6,90 @@ use mathlib.Core.List.{List, flat_map}
 use Rattle.lists.specs.Lists.{below, keep}
 use Rattle.rules.specs.declared.Use.{Use}
 use Rattle.rules.specs.Outcome.{Outcome, ◌>>=◌}
-use Rattle.rules.specs.Frame.{framedAll}
+use Rattle.rules.specs.Frame.{framed_all}
 use Rattle.rules.specs.Job.{Job}
 use Rattle.rules.specs.Load.{loaded}
-use Rattle.rules.specs.Read.{usesOf}
+use Rattle.rules.specs.Read.{uses_of}
 use Rattle.rules.specs.Pair.{pair}
-use Rattle.rules.specs.Rules.{fullTable}
-use Rattle.rules.specs.Merge.{Merged, mergeFaces, mergedFaces}
-use Rattle.rules.specs.VertexLoops.{vertexLoops}
-use Rattle.rules.specs.Walk.{loopsOf}
-use Rattle.rules.specs.Fans.{keptWithEnds}
-use Rattle.rules.specs.Contact.{edgesClear, pointsClear}
-use Rattle.rules.specs.Join.{maximalEdges}
+use Rattle.rules.specs.Rules.{full_table}
+use Rattle.rules.specs.Merge.{Merged, merge_faces, merged_faces}
+use Rattle.rules.specs.VertexLoops.{vertex_loops}
+use Rattle.rules.specs.Walk.{loops_of}
+use Rattle.rules.specs.Fans.{kept_with_ends}
+use Rattle.rules.specs.Contact.{edges_clear, points_clear}
+use Rattle.rules.specs.Join.{maximal_edges}
 use Rattle.rules.specs.Shells.{Shell, Nested, nested, lumps}
-use Rattle.rules.specs.Body.{emptyBody, bodyRecords}
-use Rattle.rules.specs.Sew.{Walked, walksOf, Fanned, fansOf, Joined, unjoined, shellsOf, lumpsClear, bodyOf, fitting}
-use Rattle.rules.specs.Stage.{groupFields, keptFields, keptUses, walkFields, loopFields, fanFields, joiningFields, shellFields, lumpFields, stageBytes}
+use Rattle.rules.specs.Body.{empty_body, body_records}
+use Rattle.rules.specs.Sew.{Walked, walks_of, Fanned, fans_of, Joined, unjoined, shells_of, lumps_clear, body_of, fitting}
+use Rattle.rules.specs.Stage.{group_fields, kept_fields, kept_uses, walk_fields, loop_fields, fan_fields, joining_fields, shell_fields, lump_fields, stage_bytes}
 
 -- FROM THE WALKS TO THE BODY
 
-unfoldable pub afterLumps : Job → Joined → List Nested → ℕ → Outcome (List ℕ)
-afterLumps j x ns room = lumpsClear j x.fan ns >>= λ _. fitting room (framedAll (bodyRecords (bodyOf j x ns)))
+unfoldable pub after_lumps : Job → Joined → List Nested → ℕ → Outcome (List ℕ)
+after_lumps j x ns room = lumps_clear j x.fan ns >>= λ _. fitting room (framed_all (body_records (body_of j x ns)))
 
-unfoldable pub afterNesting : ℕ → Job → Joined → ℕ → List Nested → Outcome (List ℕ)
-afterNesting stage j x room ns =
-    let later = afterLumps j x ns room in
-    cond (eqb stage 11) (stageBytes room (lumpFields 0 (lumps ns))) later
+unfoldable pub after_nesting : ℕ → Job → Joined → ℕ → List Nested → Outcome (List ℕ)
+after_nesting stage j x room ns =
+    let later = after_lumps j x ns room in
+    cond (eqb stage 11) (stage_bytes room (lump_fields 0 (lumps ns))) later
 
-unfoldable pub afterShells : ℕ → Job → Joined → ℕ → List Shell → Outcome (List ℕ)
-afterShells stage j x room ss =
-    let later = nested j.answers ss >>= afterNesting stage j x room in
-    cond (eqb stage 10) (stageBytes room (flat_map shellFields ss)) later
+unfoldable pub after_shells : ℕ → Job → Joined → ℕ → List Shell → Outcome (List ℕ)
+after_shells stage j x room ss =
+    let later = nested j.answers ss >>= after_nesting stage j x room in
+    cond (eqb stage 10) (stage_bytes room (flat_map shell_fields ss)) later
 
-unfoldable pub afterJoining : ℕ → Job → ℕ → Joined → Outcome (List ℕ)
-afterJoining stage j room x =
-    let later = shellsOf j x.fan.walk >>= afterShells stage j x room in
-    cond (eqb stage 9) (stageBytes room (joiningFields x.joining)) later
+unfoldable pub after_joining : ℕ → Job → ℕ → Joined → Outcome (List ℕ)
+after_joining stage j room x =
+    let later = shells_of j x.fan.walk >>= after_shells stage j x room in
+    cond (eqb stage 9) (stage_bytes room (joining_fields x.joining)) later
 
-unfoldable pub afterEdges : ℕ → Job → ℕ → Joined → Outcome (List ℕ)
-afterEdges stage j room x =
+unfoldable pub after_edges : ℕ → Job → ℕ → Joined → Outcome (List ℕ)
+after_edges stage j room x =
     let f = x.fan in
-    let later = maximalEdges j.answers f.starts f.names (length f.names) x.joining >>= λ s. afterJoining stage j room (record { fan = f; joining = s }) in
-    cond (eqb stage 8) (stageBytes room (joiningFields x.joining)) later
+    let later = maximal_edges j.answers f.starts f.names (length f.names) x.joining >>= λ s. after_joining stage j room (record { fan = f; joining = s }) in
+    cond (eqb stage 8) (stage_bytes room (joining_fields x.joining)) later
 
-unfoldable pub afterFans : ℕ → Job → ℕ → Fanned → Outcome (List ℕ)
-afterFans stage j room f =
+unfoldable pub after_fans : ℕ → Job → ℕ → Fanned → Outcome (List ℕ)
+after_fans stage j room f =
     let w = f.walk in
-    let later = pointsClear 31 w.uses f.starts w.merge.boundaries f.names >>= λ _. afterEdges stage j room (record { fan = f; joining = unjoined j f }) in
-    cond (eqb stage 7) (stageBytes room (flat_map (fanFields f) (keep (keptWithEnds j.edges w.uses w.merge.removed) (below (length w.uses))))) later
+    let later = points_clear 31 w.uses f.starts w.merge.boundaries f.names >>= λ _. after_edges stage j room (record { fan = f; joining = unjoined j f }) in
+    cond (eqb stage 7) (stage_bytes room (flat_map (fan_fields f) (keep (kept_with_ends j.edges w.uses w.merge.removed) (below (length w.uses))))) later
 
-unfoldable pub afterLoops : ℕ → Job → ℕ → Walked → Outcome (List ℕ)
-afterLoops stage j room w = edgesClear 30 w.uses w.twins w.merge.boundaries (length j.edges) >>= λ _. afterFans stage j room (fansOf j w)
+unfoldable pub after_loops : ℕ → Job → ℕ → Walked → Outcome (List ℕ)
+after_loops stage j room w = edges_clear 30 w.uses w.twins w.merge.boundaries (length j.edges) >>= λ _. after_fans stage j room (fans_of j w)
 
 -- FROM THE JOB TO THE WALKS
 
-unfoldable pub afterWalks : ℕ → Job → ℕ → Walked → Outcome (List ℕ)
-afterWalks stage j room w =
-    let later = afterLoops stage j room w in
-    let loops = cond (eqb stage 6) (stageBytes room (flat_map (loopFields w) (loopsOf w.circuits))) later in
-    cond (eqb stage 5) (stageBytes room (flat_map (walkFields w) (keptUses w.merge.removed))) loops
+unfoldable pub after_walks : ℕ → Job → ℕ → Walked → Outcome (List ℕ)
+after_walks stage j room w =
+    let later = after_loops stage j room w in
+    let loops = cond (eqb stage 6) (stage_bytes room (flat_map (loop_fields w) (loops_of w.circuits))) later in
+    cond (eqb stage 5) (stage_bytes room (flat_map (walk_fields w) (kept_uses w.merge.removed))) loops
 
-unfoldable pub afterKeeping : ℕ → Job → ℕ → Walked → Outcome (List ℕ)
-afterKeeping stage j room w =
-    let later = afterWalks stage j room w in
-    cond (eqb stage 4) (stageBytes room (flat_map keptFields w.vertexLoops)) later
+unfoldable pub after_keeping : ℕ → Job → ℕ → Walked → Outcome (List ℕ)
+after_keeping stage j room w =
+    let later = after_walks stage j room w in
+    cond (eqb stage 4) (stage_bytes room (flat_map kept_fields w.vertex_loops)) later
 
-unfoldable pub afterMerging : ℕ → Job → List Use → List ℕ → ℕ → Merged → Outcome (List ℕ)
-afterMerging stage j us ts room m =
-    let later = vertexLoops j.answers j.points (mergedFaces m) j.loops >>= λ ks. afterKeeping stage j room (walksOf us ts m ks) in
-    cond (eqb stage 3) (stageBytes room (flat_map (groupFields m) (below (length j.faces)))) later
+unfoldable pub after_merging : ℕ → Job → List Use → List ℕ → ℕ → Merged → Outcome (List ℕ)
+after_merging stage j us ts room m =
+    let later = vertex_loops j.answers j.points (merged_faces m) j.loops >>= λ ks. after_keeping stage j room (walks_of us ts m ks) in
+    cond (eqb stage 3) (stage_bytes room (flat_map (group_fields m) (below (length j.faces)))) later
 
-unfoldable pub afterPairing : ℕ → Job → List Use → ℕ → List ℕ → Outcome (List ℕ)
-afterPairing stage j us room ts =
-    let later = mergeFaces fullTable j.answers j.faces us ts >>= afterMerging stage j us ts room in
-    cond (eqb stage 2) (stageBytes room ts) later
+unfoldable pub after_pairing : ℕ → Job → List Use → ℕ → List ℕ → Outcome (List ℕ)
+after_pairing stage j us room ts =
+    let later = merge_faces full_table j.answers j.faces us ts >>= after_merging stage j us ts room in
+    cond (eqb stage 2) (stage_bytes room ts) later
 
-unfoldable pub afterReading : ℕ → Job → ℕ → List Use → Outcome (List ℕ)
-afterReading stage j room us = pair j.answers us (length j.edges) >>= afterPairing stage j us room
+unfoldable pub after_reading : ℕ → Job → ℕ → List Use → Outcome (List ℕ)
+after_reading stage j room us = pair j.answers us (length j.edges) >>= after_pairing stage j us room
 
 -- the stage with a number, from a job's bytes on
 unfoldable pub staged : ℕ → List ℕ → ℕ → Outcome (List ℕ)
-staged stage job room = loaded job >>= λ j. afterReading stage j room (usesOf j)
+staged stage job room = loaded job >>= λ j. after_reading stage j room (uses_of j)
 
 -- sewing: the body; one that selects no face is Empty
-unfoldable pub sewnBy : List ℕ → ℕ → Outcome (List ℕ)
-sewnBy job room = loaded job >>= λ j.
-    let full = afterReading 12 j room (usesOf j) in
-    cond (eqb (length j.faces) 0) (fitting room (framedAll (bodyRecords emptyBody))) full
+unfoldable pub sewn_by : List ℕ → ℕ → Outcome (List ℕ)
+sewn_by job room = loaded job >>= λ j.
+    let full = after_reading 12 j room (uses_of j) in
+    cond (eqb (length j.faces) 0) (fitting room (framed_all (body_records empty_body))) full

@@ -4,23 +4,23 @@ use Rattle.lists.specs.Lists.{below}
 use Rattle.rules.specs.declared.Sense.{Sense}
 use Rattle.rules.specs.declared.Sense.TheVariants.{Same, Reversed}
 use Rattle.rules.specs.declared.Item.{Item}
-use Rattle.rules.specs.Sense.{senseOf}
+use Rattle.rules.specs.Sense.{sense_of}
 use Rattle.rules.specs.Fields.{le16, le32}
-use Rattle.job.specs.Lists.{loopByte}
+use Rattle.job.specs.Lists.{loop_byte}
 
 -- item k of those from a byte on
-unfoldable pub itemIn : List ℕ → ℕ → ℕ → Item
-itemIn bytes at k = record { edge = le32 bytes (at + 8 * k); sense = senseOf (le32 bytes (at + 8 * k + 4)) }
+unfoldable pub item_in : List ℕ → ℕ → ℕ → Item
+item_in bytes at k = record { edge = le32 bytes (at + 8 * k); sense = sense_of (le32 bytes (at + 8 * k + 4)) }
 
 -- the n items from a byte on
-unfoldable pub itemsIn : List ℕ → ℕ → ℕ → List Item
-itemsIn bytes at n = map (itemIn bytes at) (below n)
+unfoldable pub items_in : List ℕ → ℕ → ℕ → List Item
+items_in bytes at n = map (item_in bytes at) (below n)
 
 -- how many items loop l has
-unfoldable pub itemCount : List ℕ → List ℕ → ℕ → ℕ
-itemCount bytes ix l = cond (eqb (le16 bytes (loopByte ix l + 4)) 5) (le32 bytes (loopByte ix l) / 8) 0
+unfoldable pub item_count : List ℕ → List ℕ → ℕ → ℕ
+item_count bytes ix l = cond (eqb (le16 bytes (loop_byte ix l + 4)) 5) (le32 bytes (loop_byte ix l) / 8) 0
 
 -- which item, of n, stands at place i of a loop as its face is selected
-abbrev pub placeOf : Sense → ℕ → ℕ → ℕ
-placeOf Same n i = i
-placeOf Reversed n i = n - suc i
+abbrev pub place_of : Sense → ℕ → ℕ → ℕ
+place_of Same n i = i
+place_of Reversed n i = n - suc i

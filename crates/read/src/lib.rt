@@ -3,11 +3,11 @@
 #![tactic(auto)]
 
 ghost use Rattle.std.specs.Prelude.{◌≡◌, ◌++◌, ◌+◌, ◌*◌, ◌<◌, ◌≤◌, length, take};
-ghost use Rattle.lists.specs.Cyclic.{nextPlace};
-ghost use Rattle.rules.specs.Read.{traversed, loopUses, usesOf};
-ghost use Rattle.job.specs.Lists.{jobIn};
-ghost use Rattle.uses.specs.Table.{usesIn};
-ghost use Rattle.read.specs.Items.{placeOf, itemsIn, itemCount};
+ghost use Rattle.lists.specs.Cyclic.{next_place};
+ghost use Rattle.rules.specs.Read.{traversed, loop_uses, uses_of};
+ghost use Rattle.job.specs.Lists.{job_in};
+ghost use Rattle.uses.specs.Table.{uses_in};
+ghost use Rattle.read.specs.Items.{place_of, items_in, item_count};
 
 use fields::word;
 use rules::{Counts, Sense};
@@ -15,7 +15,7 @@ use rules::{Counts, Sense};
 // How many items a loop has; a vertex loop has none.
 fn item_count(job: &[u8], index: &[u32], l: usize) -> usize
     requires { l < 1024 }
-    ensures { result ≡ itemCount job.now index.now l }
+    ensures { result ≡ item_count job.now index.now l }
 {
     if job::loop_kind(job, index, l) == 5 {
         return job::loop_size(job, index, l) / 8;
@@ -26,7 +26,7 @@ fn item_count(job: &[u8], index: &[u32], l: usize) -> usize
 // The item, of n, at place i of a loop as its face is selected.
 fn place(selected: Sense, n: usize, i: usize) -> usize
     requires { i < n }
-    ensures { (result ≡ placeOf selected n i) × (result < n) }
+    ensures { (result ≡ place_of selected n i) × (result < n) }
 {
     match selected {
         Sense::Same => i,
@@ -37,7 +37,7 @@ fn place(selected: Sense, n: usize, i: usize) -> usize
 // The use after the one at place i of a loop of n uses, numbered from `first`.
 fn next_of(first: usize, n: usize, i: usize) -> usize
     requires { (i < n) × (first + n ≤ 2048) }
-    ensures { (result ≡ first + nextPlace i n) × (result < 2048) }
+    ensures { (result ≡ first + next_place i n) × (result < 2048) }
 {
     if i + 1 == n {
         return first;
@@ -55,8 +55,8 @@ fn read_loop(
     face: usize,
     selected: Sense,
 )
-    requires { (first + n ≤ length (usesIn uses.old)) × (first + n ≤ 2048) × (at < 4294967302) × (face < 4294967296) }
-    ensures { take (first + n) (usesIn uses.new) ≡ take first (usesIn uses.old) ++ loopUses face first first (traversed selected (itemsIn job.now at n)) }
+    requires { (first + n ≤ length (uses_in uses.old)) × (first + n ≤ 2048) × (at < 4294967302) × (face < 4294967296) }
+    ensures { take (first + n) (uses_in uses.new) ≡ take first (uses_in uses.old) ++ loop_uses face first first (traversed selected (items_in job.now at n)) }
 {
     let mut i = 0;
     while i < n {
@@ -71,8 +71,8 @@ fn read_loop(
 
 // The uses of all loops.
 pub fn read(job: &[u8], index: &[u32], c: Counts, uses: &mut [u32])
-    requires { (c.loops ≤ 1024) × (c.faces ≤ 256) × (c.uses ≤ 2048) × (length uses.old ≡ 4 * c.uses) × (c.uses ≡ length (usesOf (jobIn job.now index.now c))) }
-    ensures { usesIn uses.new ≡ usesOf (jobIn job.now index.now c) }
+    requires { (c.loops ≤ 1024) × (c.faces ≤ 256) × (c.uses ≤ 2048) × (length uses.old ≡ 4 * c.uses) × (c.uses ≡ length (uses_of (job_in job.now index.now c))) }
+    ensures { uses_in uses.new ≡ uses_of (job_in job.now index.now c) }
 {
     let mut h = 0;
     let mut l = 0;

@@ -4,32 +4,32 @@ use Rattle.std.proofs.Common.{arith, sym, ap, subst, ◌∙◌, length-take-le}
 use Rattle.rules.specs.declared.Counts.{Counts}
 use Rattle.rules.specs.declared.Use.{Use}
 use Rattle.rules.specs.Outcome.{Outcome, ◌>>=◌}
-use Rattle.rules.proofs.OutcomeLaws.{bind-on, bind-stop}
-use Rattle.rules.specs.Groups.{lowestMembers, Lowest}
-use Rattle.rules.specs.Contact.{edgesClear, pointsClear}
-use Rattle.rules.specs.Shells.{lumpLabels}
+use Rattle.rules.proofs.OutcomeLaws.{bind_on, bind_stop}
+use Rattle.rules.specs.Groups.{lowest_members, Lowest}
+use Rattle.rules.specs.Contact.{edges_clear, points_clear}
+use Rattle.rules.specs.Shells.{lump_labels}
 use Rattle.contact.specs.declared.Clear.{Clear}
 use Rattle.contact.specs.declared.Clear.TheVariants.{Done, Refused}
-use Rattle.contact.specs.Clear.{clearOf, LowLabels}
-use Rattle.shells.specs.Table.{nestedIn, Shelled}
+use Rattle.contact.specs.Clear.{clear_of, LowLabels}
+use Rattle.shells.specs.Table.{nested_in, Shelled}
 use Rattle.progress.specs.declared.Faces.{Faces}
 use Rattle.progress.specs.declared.Figures.{Figures}
-use Rattle.progress.specs.Known.{boundariesIn, membersIn}
-use Rattle.progress.specs.Parts.{zeros, lent-part}
-use Rattle.rebuild.specs.Homes.{LowHomes, shelled-count, labels-low}
-use Rattle.rebuild.specs.Sizes.{Sizes, names-few}
+use Rattle.progress.specs.Known.{boundaries_in, members_in}
+use Rattle.progress.specs.Parts.{zeros, lent_part}
+use Rattle.rebuild.specs.Homes.{LowHomes, shelled_count, labels_low}
+use Rattle.rebuild.specs.Sizes.{Sizes, names_few}
 
 -- how many shells there are: one for each boundary
-abbrev pub shellCount : Counts → Faces → ℕ
-shellCount c m = length (lowestMembers (boundariesIn c m))
+abbrev pub shell_count : Counts → Faces → ℕ
+shell_count c m = length (lowest_members (boundaries_in c m))
 
 -- the selected faces by lump, from the table of shells
-abbrev pub lumpsBy : Counts → Faces → List ℕ → List ℕ
-lumpsBy c m t = lumpLabels (boundariesIn c m) (nestedIn (boundariesIn c m) (membersIn m) (shellCount c m) t)
+abbrev pub lumps_by : Counts → Faces → List ℕ → List ℕ
+lumps_by c m t = lump_labels (boundaries_in c m) (nested_in (boundaries_in c m) (members_in m) (shell_count c m) t)
 
 -- 32, then 33
-abbrev pub lumpTests : Counts → Faces → List Use → List ℕ → List ℕ → List ℕ → List ℕ → Outcome (Unit {0})
-lumpTests c m us ts names starts t = pointsClear 32 us starts (lumpsBy c m t) names >>= λ _. edgesClear 33 us ts (lumpsBy c m t) c.edges
+abbrev pub lump_tests : Counts → Faces → List Use → List ℕ → List ℕ → List ℕ → List ℕ → Outcome (Unit {0})
+lump_tests c m us ts names starts t = points_clear 32 us starts (lumps_by c m t) names >>= λ _. edges_clear 33 us ts (lumps_by c m t) c.edges
 
 -- what the tests need: nested shells, named by merged faces
 pub record Lumped (c : Counts) (us : List Use) (m : Faces) (names t : List ℕ) : Type 0 where
@@ -38,48 +38,48 @@ pub record Lumped (c : Counts) (us : List Use) (m : Faces) (names t : List ℕ) 
   pub room : c.faces ≤ length m.boundaries
   pub uses : length us ≤ 2048
   pub fans : length names ≤ 2048
-  pub lowest : Lowest (boundariesIn c m)
-  pub shelled : Shelled (boundariesIn c m) (membersIn m) (shellCount c m) t
-  pub homes : LowHomes (shellCount c m) t
+  pub lowest : Lowest (boundaries_in c m)
+  pub shelled : Shelled (boundaries_in c m) (members_in m) (shell_count c m) t
+  pub homes : LowHomes (shell_count c m) t
 
 pub lumped : (bytes ix : List ℕ) (c : Counts) (us : List Use) (m : Faces) (names : List ℕ) (g : Figures) (n : ℕ) (t : List ℕ) → Sizes bytes ix c us m names g
-    → Shelled (boundariesIn c m) (membersIn m) n t → LowHomes n t → Lumped c us m names t
+    → Shelled (boundaries_in c m) (members_in m) n t → LowHomes n t → Lumped c us m names t
 lumped bytes ix c us m names g n t Z S L =
-    let e : n ≡ shellCount c m = shelled-count (boundariesIn c m) (membersIn m) n t S in
+    let e : n ≡ shell_count c m = shelled_count (boundaries_in c m) (members_in m) n t S in
     record {
       edges = Z.limited.edges;
       faces = Z.limited.faces;
       room = omega (arith, Z.limited.faces, Z.boundaries);
       uses = Z.uses;
-      fans = names-few Z;
+      fans = names_few Z;
       lowest = Z.lowest;
-      shelled = subst (λ k. Shelled (boundariesIn c m) (membersIn m) k t) e S;
+      shelled = subst (λ k. Shelled (boundaries_in c m) (members_in m) k t) e S;
       homes = subst (λ k. LowHomes k t) e L;
     }
 
 module _ {c : Counts} {us : List Use} {m : Faces} {names t : List ℕ} (L : Lumped c us m names t) where
-  pub lumped-cut : c.faces ≡ length (boundariesIn c m)
-  lumped-cut = sym (length-take-le c.faces m.boundaries L.room)
+  pub lumped_cut : c.faces ≡ length (boundaries_in c m)
+  lumped_cut = sym (length-take-le c.faces m.boundaries L.room)
 
-  pub lumped-few : length (boundariesIn c m) ≤ 256
-  lumped-few = omega (arith, lumped-cut, L.faces)
+  pub lumped_few : length (boundaries_in c m) ≤ 256
+  lumped_few = omega (arith, lumped_cut, L.faces)
 
   -- the labels as the code cuts them
   module _ (labels : List ℕ) (size : length labels ≡ length (take c.faces (zeros 256)))
-      (e : (members : List ℕ) (n : ℕ) → Shelled (boundariesIn c m) members n t → labels ≡ lumpLabels (boundariesIn c m) (nestedIn (boundariesIn c m) members n t)) where
-    pub lumped-labels : take c.faces (labels ++ drop c.faces (zeros 256)) ≡ lumpsBy c m t
-    lumped-labels = lent-part 256 c.faces labels size L.faces ∙ e (membersIn m) (shellCount c m) L.shelled
+      (e : (members : List ℕ) (n : ℕ) → Shelled (boundaries_in c m) members n t → labels ≡ lump_labels (boundaries_in c m) (nested_in (boundaries_in c m) members n t)) where
+    pub lumped_labels : take c.faces (labels ++ drop c.faces (zeros 256)) ≡ lumps_by c m t
+    lumped_labels = lent_part 256 c.faces labels size L.faces ∙ e (members_in m) (shell_count c m) L.shelled
 
-    pub lumped-low : LowLabels (take c.faces (labels ++ drop c.faces (zeros 256)))
-    lumped-low = subst LowLabels (sym lumped-labels) (labels-low (boundariesIn c m) (membersIn m) (shellCount c m) t L.homes)
+    pub lumped_low : LowLabels (take c.faces (labels ++ drop c.faces (zeros 256)))
+    lumped_low = subst LowLabels (sym lumped_labels) (labels_low (boundaries_in c m) (members_in m) (shell_count c m) t L.homes)
 
-    pub lumped-refused : (ts starts : List ℕ) (r : Clear) (n p : ℕ) → clearOf r ≡ pointsClear 32 us starts (take c.faces (labels ++ drop c.faces (zeros 256))) names → r ≡ Refused n p
-        → clearOf (Refused n p) ≡ lumpTests c m us ts names starts t
-    lumped-refused ts starts r n p er d =
-        sym (bind-stop (λ _. edgesClear 33 us ts (lumpsBy c m t) c.edges) (sym (er ∙ ap (λ l. pointsClear 32 us starts l names) lumped-labels) ∙ ap clearOf d))
+    pub lumped_refused : (ts starts : List ℕ) (r : Clear) (n p : ℕ) → clear_of r ≡ points_clear 32 us starts (take c.faces (labels ++ drop c.faces (zeros 256))) names → r ≡ Refused n p
+        → clear_of (Refused n p) ≡ lump_tests c m us ts names starts t
+    lumped_refused ts starts r n p er d =
+        sym (bind_stop (λ _. edges_clear 33 us ts (lumps_by c m t) c.edges) (sym (er ∙ ap (λ l. points_clear 32 us starts l names) lumped_labels) ∙ ap clear_of d))
 
-    pub lumped-on : (ts starts : List ℕ) (r z : Clear) → clearOf r ≡ pointsClear 32 us starts (take c.faces (labels ++ drop c.faces (zeros 256))) names → r ≡ Done
-        → clearOf z ≡ edgesClear 33 us ts (take c.faces (labels ++ drop c.faces (zeros 256))) c.edges → clearOf z ≡ lumpTests c m us ts names starts t
-    lumped-on ts starts r z er d ez =
-        ez ∙ ap (λ l. edgesClear 33 us ts l c.edges) lumped-labels
-        ∙ sym (bind-on (λ _. edgesClear 33 us ts (lumpsBy c m t) c.edges) (sym (er ∙ ap (λ l. pointsClear 32 us starts l names) lumped-labels) ∙ ap clearOf d))
+    pub lumped_on : (ts starts : List ℕ) (r z : Clear) → clear_of r ≡ points_clear 32 us starts (take c.faces (labels ++ drop c.faces (zeros 256))) names → r ≡ Done
+        → clear_of z ≡ edges_clear 33 us ts (take c.faces (labels ++ drop c.faces (zeros 256))) c.edges → clear_of z ≡ lump_tests c m us ts names starts t
+    lumped_on ts starts r z er d ez =
+        ez ∙ ap (λ l. edges_clear 33 us ts l c.edges) lumped_labels
+        ∙ sym (bind_on (λ _. edges_clear 33 us ts (lumps_by c m t) c.edges) (sym (er ∙ ap (λ l. points_clear 32 us starts l names) lumped_labels) ∙ ap clear_of d))

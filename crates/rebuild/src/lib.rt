@@ -7,20 +7,20 @@
 #![tactic(auto)]
 
 ghost use Rattle.std.specs.Prelude.{◌≡◌, ◌*◌, ◌≤◌, length, replicate};
-ghost use Rattle.rules.specs.Contact.{edgesClear};
-ghost use Rattle.rules.specs.Sew.{Fanned, fansOf, unjoined, Ends};
-ghost use Rattle.job.specs.Lists.{edgesIn, jobIn};
-ghost use Rattle.uses.specs.Table.{usesIn};
-ghost use Rattle.contact.specs.Clear.{clearOf, LowLabels};
-ghost use Rattle.shells.specs.Table.{shellsIn, nestedIn, Shelled};
+ghost use Rattle.rules.specs.Contact.{edges_clear};
+ghost use Rattle.rules.specs.Sew.{Fanned, fans_of, unjoined, Ends};
+ghost use Rattle.job.specs.Lists.{edges_in, job_in};
+ghost use Rattle.uses.specs.Table.{uses_in};
+ghost use Rattle.contact.specs.Clear.{clear_of, LowLabels};
+ghost use Rattle.shells.specs.Table.{shells_in, nested_in, Shelled};
 ghost use Rattle.maximal_edges.specs.Hung.{SoundIn};
-ghost use Rattle.maximal_edges.specs.Joined.{stateIn};
-ghost use Rattle.progress.specs.Chain.{afterLoops, afterFans, afterEdges, afterJoining, afterShells, afterNesting};
-ghost use Rattle.progress.specs.Known.{boundariesIn, numbersIn, membersIn, walkedIn, Settled};
+ghost use Rattle.maximal_edges.specs.Joined.{state_in};
+ghost use Rattle.progress.specs.Chain.{after_loops, after_fans, after_edges, after_joining, after_shells, after_nesting};
+ghost use Rattle.progress.specs.Known.{boundaries_in, numbers_in, members_in, walked_in, Settled};
 ghost use Rattle.rebuild.specs.Sizes.{Fanning, Sizes, Holds, Tables, Spare, Roomy};
 ghost use Rattle.rebuild.specs.Lined.{Linable, Lined};
 ghost use Rattle.rebuild.specs.Homes.{LowHomes};
-ghost use Rattle.rebuild.specs.Lumped.{Lumped, lumpTests};
+ghost use Rattle.rebuild.specs.Lumped.{Lumped, lump_tests};
 ghost use Rattle.rebuild.specs.ShellExits.{Shellable, Shells};
 
 use body::{Totals, put_body};
@@ -45,8 +45,8 @@ fn clear_linked(
     firsts: &mut [u32],
     nexts: &mut [u32],
 ) -> Clear
-    requires { (firsts.old ≡ replicate (length firsts.old) 0) × (length firsts.old ≤ 1024) × (length nexts.old ≡ length (usesIn uses.now)) × (length nexts.old ≤ 2048) × LowLabels labels.now }
-    ensures { clearOf result ≡ edgesClear number (usesIn uses.now) twins.now labels.now (length firsts.old) }
+    requires { (firsts.old ≡ replicate (length firsts.old) 0) × (length firsts.old ≤ 1024) × (length nexts.old ≡ length (uses_in uses.now)) × (length nexts.old ≤ 2048) × LowLabels labels.now }
+    ensures { clear_of result ≡ edges_clear number (uses_in uses.now) twins.now labels.now (length firsts.old) }
 {
     link(uses, firsts, nexts);
     edges_clear(number, uses, twins, firsts, nexts, labels)
@@ -54,8 +54,8 @@ fn clear_linked(
 
 // In tables for up to 64 edges and uses.
 fn clear_in_small(number: usize, edges: usize, uses: &[u32], twins: &[u32], labels: &[u32]) -> Clear
-    requires { (edges ≤ 64) × (length (usesIn uses.now) ≤ 64) × LowLabels labels.now }
-    ensures { clearOf result ≡ edgesClear number (usesIn uses.now) twins.now labels.now edges }
+    requires { (edges ≤ 64) × (length (uses_in uses.now) ≤ 64) × LowLabels labels.now }
+    ensures { clear_of result ≡ edges_clear number (uses_in uses.now) twins.now labels.now edges }
 {
     let n = count(uses);
     let mut firsts = [0u32; 64];
@@ -72,8 +72,8 @@ fn clear_in_small(number: usize, edges: usize, uses: &[u32], twins: &[u32], labe
 
 // In tables for as many as there may be.
 fn clear_in_large(number: usize, edges: usize, uses: &[u32], twins: &[u32], labels: &[u32]) -> Clear
-    requires { (edges ≤ 1024) × (length (usesIn uses.now) ≤ 2048) × LowLabels labels.now }
-    ensures { clearOf result ≡ edgesClear number (usesIn uses.now) twins.now labels.now edges }
+    requires { (edges ≤ 1024) × (length (uses_in uses.now) ≤ 2048) × LowLabels labels.now }
+    ensures { clear_of result ≡ edges_clear number (uses_in uses.now) twins.now labels.now edges }
 {
     let n = count(uses);
     let mut firsts = [0u32; 1024];
@@ -90,8 +90,8 @@ fn clear_in_large(number: usize, edges: usize, uses: &[u32], twins: &[u32], labe
 
 // In the tables that the part needs.
 fn clear_edges(number: usize, c: Counts, uses: &[u32], twins: &[u32], labels: &[u32]) -> Clear
-    requires { (c.edges ≤ 1024) × (length (usesIn uses.now) ≤ 2048) × LowLabels labels.now }
-    ensures { clearOf result ≡ edgesClear number (usesIn uses.now) twins.now labels.now c.edges }
+    requires { (c.edges ≤ 1024) × (length (uses_in uses.now) ≤ 2048) × LowLabels labels.now }
+    ensures { clear_of result ≡ edges_clear number (uses_in uses.now) twins.now labels.now c.edges }
 {
     if c.edges <= 64 {
         if count(uses) <= 64 {
@@ -113,8 +113,8 @@ fn lumps_clear(
     starts: &[u32],
     table: &[u32],
 ) -> Clear
-    requires { Lumped c (usesIn uses.now) m names.now table.now }
-    ensures { clearOf result ≡ lumpTests c m (usesIn uses.now) twins.now names.now starts.now table.now }
+    requires { Lumped c (uses_in uses.now) m names.now table.now }
+    ensures { clear_of result ≡ lump_tests c m (uses_in uses.now) twins.now names.now starts.now table.now }
 {
     let boundaries = m.boundaries;
     let mut labels = [0u32; 256];
@@ -150,8 +150,8 @@ fn on_nested(
     vertices: &mut [u32],
     out: &mut [u8],
 ) -> Ending
-    requires { Sizes job.now index.now c (usesIn uses.now) m names.now g × Tables names.now rows.now k.edges items.now stretches.now faces.now × Shelled (boundariesIn c m) (membersIn m) n table.now × LowHomes n table.now × Spare (length (usesIn uses.now)) rows.now numbers.old vertices.old }
-    ensures { (f : Fanned) → Holds c (usesIn uses.now) twins.now m kept.now g names.now starts.now f → Ends (afterNesting stage (jobIn job.now index.now c) (record { fan = f; joining = stateIn rows.now k.edges items.now stretches.now faces.now k.joins k.rings }) (length out.old) (nestedIn (boundariesIn c m) (membersIn m) n table.now)) out.old out.new result }
+    requires { Sizes job.now index.now c (uses_in uses.now) m names.now g × Tables names.now rows.now k.edges items.now stretches.now faces.now × Shelled (boundaries_in c m) (members_in m) n table.now × LowHomes n table.now × Spare (length (uses_in uses.now)) rows.now numbers.old vertices.old }
+    ensures { (f : Fanned) → Holds c (uses_in uses.now) twins.now m kept.now g names.now starts.now f → Ends (after_nesting stage (job_in job.now index.now c) (record { fan = f; joining = state_in rows.now k.edges items.now stretches.now faces.now k.joins k.rings }) (length out.old) (nested_in (boundaries_in c m) (members_in m) n table.now)) out.old out.new result }
 {
     let boundaries = m.boundaries;
     let groups = m.groups;
@@ -240,8 +240,8 @@ fn on_shelled(
     vertices: &mut [u32],
     out: &mut [u8],
 ) -> Ending
-    requires { Sizes job.now index.now c (usesIn uses.now) m names.now g × Tables names.now rows.now k.edges items.now stretches.now faces.now × Shelled (boundariesIn c m) (membersIn m) n table.old × Spare (length (usesIn uses.now)) rows.now numbers.old vertices.old }
-    ensures { (f : Fanned) → Holds c (usesIn uses.now) twins.now m kept.now g names.now starts.now f → Ends (afterShells stage (jobIn job.now index.now c) (record { fan = f; joining = stateIn rows.now k.edges items.now stretches.now faces.now k.joins k.rings }) (length out.old) (shellsIn (boundariesIn c m) (membersIn m) n table.old)) out.old out.new result }
+    requires { Sizes job.now index.now c (uses_in uses.now) m names.now g × Tables names.now rows.now k.edges items.now stretches.now faces.now × Shelled (boundaries_in c m) (members_in m) n table.old × Spare (length (uses_in uses.now)) rows.now numbers.old vertices.old }
+    ensures { (f : Fanned) → Holds c (uses_in uses.now) twins.now m kept.now g names.now starts.now f → Ends (after_shells stage (job_in job.now index.now c) (record { fan = f; joining = state_in rows.now k.edges items.now stretches.now faces.now k.joins k.rings }) (length out.old) (shells_in (boundaries_in c m) (members_in m) n table.old)) out.old out.new result }
 {
     if stage == SHELLS {
         let boundaries = m.boundaries;
@@ -280,8 +280,8 @@ fn on_joined(
     vertices: &mut [u32],
     out: &mut [u8],
 ) -> Ending
-    requires { Sizes job.now index.now c (usesIn uses.now) m names.now g × Tables names.now rows.now k.edges items.now stretches.now faces.now × Spare (length (usesIn uses.now)) rows.now numbers.old vertices.old }
-    ensures { (f : Fanned) → Holds c (usesIn uses.now) twins.now m kept.now g names.now starts.now f → Ends (afterJoining stage (jobIn job.now index.now c) (length out.old) (record { fan = f; joining = stateIn rows.now k.edges items.now stretches.now faces.now k.joins k.rings })) out.old out.new result }
+    requires { Sizes job.now index.now c (uses_in uses.now) m names.now g × Tables names.now rows.now k.edges items.now stretches.now faces.now × Spare (length (uses_in uses.now)) rows.now numbers.old vertices.old }
+    ensures { (f : Fanned) → Holds c (uses_in uses.now) twins.now m kept.now g names.now starts.now f → Ends (after_joining stage (job_in job.now index.now c) (length out.old) (record { fan = f; joining = state_in rows.now k.edges items.now stretches.now faces.now k.joins k.rings })) out.old out.new result }
 {
     if stage == JOINING {
         return write_joining(
@@ -323,8 +323,8 @@ fn on_edged(
     vertices: &mut [u32],
     out: &mut [u8],
 ) -> Ending
-    requires { Sizes job.now index.now c (usesIn uses.now) m names.now g × Tables names.now rows.old count items.old stretches.old faces.now × (count ≤ 1024) × (14 * count ≤ length rows.old) × Spare (length (usesIn uses.now)) rows.old numbers.old vertices.old × SoundIn rows.old count items.old stretches.old 2048 }
-    ensures { (f : Fanned) → Holds c (usesIn uses.now) twins.now m kept.now g names.now starts.now f → Ends (afterEdges stage (jobIn job.now index.now c) (length out.old) (record { fan = f; joining = stateIn rows.old count items.old stretches.old faces.now 0 0 })) out.old out.new result }
+    requires { Sizes job.now index.now c (uses_in uses.now) m names.now g × Tables names.now rows.old count items.old stretches.old faces.now × (count ≤ 1024) × (14 * count ≤ length rows.old) × Spare (length (uses_in uses.now)) rows.old numbers.old vertices.old × SoundIn rows.old count items.old stretches.old 2048 }
+    ensures { (f : Fanned) → Holds c (uses_in uses.now) twins.now m kept.now g names.now starts.now f → Ends (after_edges stage (job_in job.now index.now c) (length out.old) (record { fan = f; joining = state_in rows.old count items.old stretches.old faces.now 0 0 })) out.old out.new result }
 {
     if stage == EDGES {
         return write_joining(0, 0, rows, count, items, stretches, faces, out);
@@ -365,7 +365,7 @@ fn make_edges(
     faces: &mut [u32],
 ) -> Lengths
     requires { (c.vertices ≤ 1024) × (c.edges ≤ 1024) × (c.faces ≤ length m.numbers) × Linable twins.now removed.now succ.now rows.old owns.old items.old stretches.old faces.old }
-    ensures { Lined (edgesIn job.now c) (usesIn uses.now) twins.now removed.now (numbersIn c m) succ.now fans.now rows.new items.new stretches.new faces.new result.edges result.loops }
+    ensures { Lined (edges_in job.now c) (uses_in uses.now) twins.now removed.now (numbers_in c m) succ.now fans.now rows.new items.new stretches.new faces.new result.edges result.loops }
 {
     let numbers = m.numbers;
     let loops = walk::loops(removed, succ, items, stretches);
@@ -416,8 +416,8 @@ fn on_apart(
     vertices: &mut [u32],
     out: &mut [u8],
 ) -> Ending
-    requires { Fanning job.now index.now c (usesIn uses.now) twins.now m removed.now succ.now kept.now g fans.now names.now starts.now × Roomy (length twins.now) rows.old owns.old items.old stretches.old faces.old vertices.old }
-    ensures { Ends (afterEdges stage (jobIn job.now index.now c) (length out.old) (record { fan = fansOf (jobIn job.now index.now c) (walkedIn c m (usesIn uses.now) twins.now removed.now g.kept kept.now); joining = unjoined (jobIn job.now index.now c) (fansOf (jobIn job.now index.now c) (walkedIn c m (usesIn uses.now) twins.now removed.now g.kept kept.now)) })) out.old out.new result }
+    requires { Fanning job.now index.now c (uses_in uses.now) twins.now m removed.now succ.now kept.now g fans.now names.now starts.now × Roomy (length twins.now) rows.old owns.old items.old stretches.old faces.old vertices.old }
+    ensures { Ends (after_edges stage (job_in job.now index.now c) (length out.old) (record { fan = fans_of (job_in job.now index.now c) (walked_in c m (uses_in uses.now) twins.now removed.now g.kept kept.now); joining = unjoined (job_in job.now index.now c) (fans_of (job_in job.now index.now c) (walked_in c m (uses_in uses.now) twins.now removed.now g.kept kept.now)) })) out.old out.new result }
 {
     let k = make_edges(
         job, c, m, uses, twins, removed, succ, fans, rows, owns, items, stretches, faces,
@@ -471,8 +471,8 @@ fn on_fanned(
     vertices: &mut [u32],
     out: &mut [u8],
 ) -> Ending
-    requires { Fanning job.now index.now c (usesIn uses.now) twins.now m removed.now succ.now kept.now g fans.now names.now starts.now × Roomy (length twins.now) rows.old owns.old items.old stretches.old faces.old vertices.old }
-    ensures { Ends (afterFans stage (jobIn job.now index.now c) (length out.old) (fansOf (jobIn job.now index.now c) (walkedIn c m (usesIn uses.now) twins.now removed.now g.kept kept.now))) out.old out.new result }
+    requires { Fanning job.now index.now c (uses_in uses.now) twins.now m removed.now succ.now kept.now g fans.now names.now starts.now × Roomy (length twins.now) rows.old owns.old items.old stretches.old faces.old vertices.old }
+    ensures { Ends (after_fans stage (job_in job.now index.now c) (length out.old) (fans_of (job_in job.now index.now c) (walked_in c m (uses_in uses.now) twins.now removed.now g.kept kept.now))) out.old out.new result }
 {
     if stage == FANS {
         return write_fans(job, c, uses, removed, fans, starts, out);
@@ -513,8 +513,8 @@ fn make_fans(
     vertices: &mut [u32],
     out: &mut [u8],
 ) -> Ending
-    requires { Settled job.now index.now c (usesIn uses.now) twins.now m removed.now succ.now kept.now g × (length fans.old ≡ length twins.now) × (length names.old ≡ length twins.now) × (length starts.old ≡ length twins.now) × Roomy (length twins.now) rows.old owns.old items.old stretches.old faces.old vertices.old }
-    ensures { Ends (afterFans stage (jobIn job.now index.now c) (length out.old) (fansOf (jobIn job.now index.now c) (walkedIn c m (usesIn uses.now) twins.now removed.now g.kept kept.now))) out.old out.new result }
+    requires { Settled job.now index.now c (uses_in uses.now) twins.now m removed.now succ.now kept.now g × (length fans.old ≡ length twins.now) × (length names.old ≡ length twins.now) × (length starts.old ≡ length twins.now) × Roomy (length twins.now) rows.old owns.old items.old stretches.old faces.old vertices.old }
+    ensures { Ends (after_fans stage (job_in job.now index.now c) (length out.old) (fans_of (job_in job.now index.now c) (walked_in c m (uses_in uses.now) twins.now removed.now g.kept kept.now))) out.old out.new result }
 {
     fans::fans(job, c, uses, twins, removed, succ, fans);
     let k = fan_names(job, c, uses, removed, fans, names);
@@ -559,8 +559,8 @@ fn in_small_tables(
     g: Figures,
     out: &mut [u8],
 ) -> Ending
-    requires { Settled job.now index.now c (usesIn uses.now) twins.now m removed.now succ.now kept.now g × (length twins.now ≤ 64) }
-    ensures { Ends (afterFans stage (jobIn job.now index.now c) (length out.old) (fansOf (jobIn job.now index.now c) (walkedIn c m (usesIn uses.now) twins.now removed.now g.kept kept.now))) out.old out.new result }
+    requires { Settled job.now index.now c (uses_in uses.now) twins.now m removed.now succ.now kept.now g × (length twins.now ≤ 64) }
+    ensures { Ends (after_fans stage (job_in job.now index.now c) (length out.old) (fans_of (job_in job.now index.now c) (walked_in c m (uses_in uses.now) twins.now removed.now g.kept kept.now))) out.old out.new result }
 {
     let n = twins.len();
     let mut fans = [0u32; 64];
@@ -612,8 +612,8 @@ fn in_large_tables(
     g: Figures,
     out: &mut [u8],
 ) -> Ending
-    requires { Settled job.now index.now c (usesIn uses.now) twins.now m removed.now succ.now kept.now g }
-    ensures { Ends (afterFans stage (jobIn job.now index.now c) (length out.old) (fansOf (jobIn job.now index.now c) (walkedIn c m (usesIn uses.now) twins.now removed.now g.kept kept.now))) out.old out.new result }
+    requires { Settled job.now index.now c (uses_in uses.now) twins.now m removed.now succ.now kept.now g }
+    ensures { Ends (after_fans stage (job_in job.now index.now c) (length out.old) (fans_of (job_in job.now index.now c) (walked_in c m (uses_in uses.now) twins.now removed.now g.kept kept.now))) out.old out.new result }
 {
     let n = twins.len();
     let mut fans = [0u32; 2048];
@@ -665,8 +665,8 @@ pub fn rebuild(
     g: Figures,
     out: &mut [u8],
 ) -> Ending
-    requires { Settled job.now index.now c (usesIn uses.now) twins.now m removed.now succ.now kept.now g }
-    ensures { Ends (afterLoops stage (jobIn job.now index.now c) (length out.old) (walkedIn c m (usesIn uses.now) twins.now removed.now g.kept kept.now)) out.old out.new result }
+    requires { Settled job.now index.now c (uses_in uses.now) twins.now m removed.now succ.now kept.now g }
+    ensures { Ends (after_loops stage (job_in job.now index.now c) (length out.old) (walked_in c m (uses_in uses.now) twins.now removed.now g.kept kept.now)) out.old out.new result }
 {
     let boundaries = m.boundaries;
     let t = clear_edges(30, c, uses, twins, &boundaries[..c.faces]);

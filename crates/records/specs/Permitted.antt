@@ -3,42 +3,42 @@ use Rattle.std.specs.Prelude.{ℕ, zero, suc, ◌+◌, ◌*◌, ◌-◌, ◌/◌
 use Rattle.std.proofs.Common.{not-suc-le-zero, sub-one, arith, sym, ap, ◌∙◌, eqb-true, ltb-true, lt-ltb, le-ltb, le-leb}
 use Rattle.std.proofs.lemmas.Bool.{lt-leb}
 use Rattle.lists.specs.Lists.{all}
-use Rattle.lists.specs.Tests.{and-both}
+use Rattle.lists.specs.Tests.{and_both}
 use Rattle.rules.specs.declared.Kind.{Kind}
 use Rattle.rules.specs.declared.Kind.TheVariants.{Unknown, Head, Vertex, EdgeRecord, FaceRecord, LoopRecord, VertexLoop, Radial, Surface, Points, Curves, Singular, Orientation, Inside}
 use Rattle.rules.specs.declared.Counts.{Counts}
-use Rattle.rules.specs.Fields.{le32, fieldsIn, field}
-use Rattle.rules.proofs.FieldLaws.{field-in, fields-first, pair-more}
-use Rattle.rules.specs.Kinds.{isSense, isBody, exists, endsPermitted, itemsPermitted, fieldsPermitted, rightLength}
+use Rattle.rules.specs.Fields.{le32, fields_in, field}
+use Rattle.rules.proofs.FieldLaws.{field_in, fields_first, pair_more}
+use Rattle.rules.specs.Kinds.{is_sense, is_body, exists, ends_permitted, items_permitted, fields_permitted, right_length}
 
 -- the fields of a record with n fields, whose payload stands at p, are permitted
-unfoldable pub permittedAt : Kind → Counts → List ℕ → ℕ → ℕ → Bool
-permittedAt Unknown c s p n = false
-permittedAt Head c s p n = leb (le32 s p) 1
-permittedAt Vertex c s p n = true
-permittedAt EdgeRecord c s p n = isSense (le32 s (p + 4)) && endsPermitted c.vertices (le32 s (p + 8)) (le32 s (p + 12))
-permittedAt FaceRecord c s p n = isSense (le32 s (p + 4)) && (isSense (le32 s (p + 8)) && isBody (le32 s (p + 12)))
-permittedAt LoopRecord c s p n = itemsPermitted c.edges (fieldsIn (2 * (n / 2)) (drop p s))
-permittedAt VertexLoop c s p n = exists c.vertices (le32 s p)
-permittedAt Radial c s p n = exists c.edges (le32 s p) && all (exists c.uses) (fieldsIn (n - 1) (drop (p + 4) s))
-permittedAt Surface c s p n = exists c.uses (le32 s p) && leb (le32 s (p + 4)) 4
-permittedAt Points c s p n = not (eqb (le32 s p) (le32 s (p + 4))) && leb (le32 s (p + 8)) 2
-permittedAt Curves c s p n = not (eqb (le32 s p) (le32 s (p + 4))) && leb (le32 s (p + 8)) 2
-permittedAt Singular c s p n = ltb (le32 s (p + 4)) (le32 s (p + 8)) && (exists c.faces (le32 s (p + 8)) && leb (le32 s (p + 16)) 2)
-permittedAt Orientation c s p n = exists c.faces (le32 s p) && leb (le32 s (p + 4)) 2
-permittedAt Inside c s p n = exists c.faces (le32 s p) && (exists c.faces (le32 s (p + 4)) && leb (le32 s (p + 8)) 2)
+unfoldable pub permitted_at : Kind → Counts → List ℕ → ℕ → ℕ → Bool
+permitted_at Unknown c s p n = false
+permitted_at Head c s p n = leb (le32 s p) 1
+permitted_at Vertex c s p n = true
+permitted_at EdgeRecord c s p n = is_sense (le32 s (p + 4)) && ends_permitted c.vertices (le32 s (p + 8)) (le32 s (p + 12))
+permitted_at FaceRecord c s p n = is_sense (le32 s (p + 4)) && (is_sense (le32 s (p + 8)) && is_body (le32 s (p + 12)))
+permitted_at LoopRecord c s p n = items_permitted c.edges (fields_in (2 * (n / 2)) (drop p s))
+permitted_at VertexLoop c s p n = exists c.vertices (le32 s p)
+permitted_at Radial c s p n = exists c.edges (le32 s p) && all (exists c.uses) (fields_in (n - 1) (drop (p + 4) s))
+permitted_at Surface c s p n = exists c.uses (le32 s p) && leb (le32 s (p + 4)) 4
+permitted_at Points c s p n = not (eqb (le32 s p) (le32 s (p + 4))) && leb (le32 s (p + 8)) 2
+permitted_at Curves c s p n = not (eqb (le32 s p) (le32 s (p + 4))) && leb (le32 s (p + 8)) 2
+permitted_at Singular c s p n = ltb (le32 s (p + 4)) (le32 s (p + 8)) && (exists c.faces (le32 s (p + 8)) && leb (le32 s (p + 16)) 2)
+permitted_at Orientation c s p n = exists c.faces (le32 s p) && leb (le32 s (p + 4)) 2
+permitted_at Inside c s p n = exists c.faces (le32 s p) && (exists c.faces (le32 s (p + 4)) && leb (le32 s (p + 8)) 2)
 
 module _ (n : ℕ) (s : List ℕ) (p : ℕ) where
   -- the first fields of so many
-  first : 0 < n → field (fieldsIn n (drop p s)) 0 ≡ le32 s p
-  first h = field-in n s p 0 h ∙ ap (le32 s) (omega arith)
+  first : 0 < n → field (fields_in n (drop p s)) 0 ≡ le32 s p
+  first h = field_in n s p 0 h ∙ ap (le32 s) (omega arith)
 
-  later : (i : ℕ) → i < n → field (fieldsIn n (drop p s)) i ≡ le32 s (p + 4 * i)
-  later i h = field-in n s p i h
+  later : (i : ℕ) → i < n → field (fields_in n (drop p s)) i ≡ le32 s (p + 4 * i)
+  later i h = field_in n s p i h
 
-and-false : (t : Bool) → (t && false) ≡ false
-and-false true = refl
-and-false false = refl
+and_false : (t : Bool) → (t && false) ≡ false
+and_false true = refl
+and_false false = refl
 
 even : (n m : ℕ) → n ≡ 2 * m → n ≡ 2 * (n / 2)
 even n m e = omega arith
@@ -47,84 +47,84 @@ long : (n m : ℕ) → eqb (4 * n) (4 * m) ≡ true → n ≡ m
 long n m e = let q = eqb-true (4 * n) (4 * m) e in omega arith
 
 -- they are as the definitions have them
-permitted-at : (k : Kind) (c : Counts) (s : List ℕ) (p n : ℕ) → rightLength k (4 * n) ≡ true → fieldsPermitted k c (fieldsIn n (drop p s)) ≡ permittedAt k c s p n
-unfolding permittedAt fieldsPermitted rightLength
-permitted-at Unknown c s p n e = refl
-permitted-at Head c s p n e = let q = long n 1 e in rw (first n s p (omega arith))
-permitted-at Vertex c s p n e = refl
-permitted-at EdgeRecord c s p n e = let q = long n 4 e in rw (later n s p 1 (omega arith), later n s p 2 (omega arith), later n s p 3 (omega arith))
-permitted-at FaceRecord c s p n e = let q = long n 5 e in rw (later n s p 1 (omega arith), later n s p 2 (omega arith), later n s p 3 (omega arith))
-permitted-at LoopRecord c s p n e =
-    let q = and-both (ltb 0 (4 * n)) (eqb (4 * n % 8) 0) e in
+permitted_at_lem : (k : Kind) (c : Counts) (s : List ℕ) (p n : ℕ) → right_length k (4 * n) ≡ true → fields_permitted k c (fields_in n (drop p s)) ≡ permitted_at k c s p n
+unfolding permitted_at fields_permitted right_length
+permitted_at_lem Unknown c s p n e = refl
+permitted_at_lem Head c s p n e = let q = long n 1 e in rw (first n s p (omega arith))
+permitted_at_lem Vertex c s p n e = refl
+permitted_at_lem EdgeRecord c s p n e = let q = long n 4 e in rw (later n s p 1 (omega arith), later n s p 2 (omega arith), later n s p 3 (omega arith))
+permitted_at_lem FaceRecord c s p n e = let q = long n 5 e in rw (later n s p 1 (omega arith), later n s p 2 (omega arith), later n s p 3 (omega arith))
+permitted_at_lem LoopRecord c s p n e =
+    let q = and_both (ltb 0 (4 * n)) (eqb (4 * n % 8) 0) e in
     let h = eqb-true (4 * n % 8) 0 q.1 in
     let m : n ≡ 2 * (4 * n / 8) = omega arith in
-    ap (λ m. itemsPermitted c.edges (fieldsIn m (drop p s))) (even n (4 * n / 8) m)
-permitted-at VertexLoop c s p n e = let q = long n 1 e in rw (first n s p (omega arith))
-permitted-at Radial c s p n e =
-    let q = and-both (ltb 0 (4 * n)) (eqb (4 * n % 4) 0) e in
+    ap (λ m. items_permitted c.edges (fields_in m (drop p s))) (even n (4 * n / 8) m)
+permitted_at_lem VertexLoop c s p n e = let q = long n 1 e in rw (first n s p (omega arith))
+permitted_at_lem Radial c s p n e =
+    let q = and_both (ltb 0 (4 * n)) (eqb (4 * n % 4) 0) e in
     let h = ltb-true 0 (4 * n) q.0 in
     rw (first n s p (omega arith)) (ap (λ l. exists c.edges (le32 s p) && all (exists c.uses) (drop 1 l)) (more n (omega arith)))
   where
-    more : (n : ℕ) → 0 < n → fieldsIn n (drop p s) ≡ le32 s p ∷ fieldsIn (n - 1) (drop (p + 4) s)
+    more : (n : ℕ) → 0 < n → fields_in n (drop p s) ≡ le32 s p ∷ fields_in (n - 1) (drop (p + 4) s)
     more zero h = absurd (not-suc-le-zero h)
-    more (suc n) h = rw sub-one (fields-first n s p)
-permitted-at Surface c s p n e = let q = long n 2 e in rw (first n s p (omega arith), later n s p 1 (omega arith))
-permitted-at Points c s p n e = let q = long n 3 e in rw (first n s p (omega arith), later n s p 1 (omega arith), later n s p 2 (omega arith))
-permitted-at Curves c s p n e = let q = long n 3 e in rw (first n s p (omega arith), later n s p 1 (omega arith), later n s p 2 (omega arith))
-permitted-at Singular c s p n e = let q = long n 5 e in rw (later n s p 1 (omega arith), later n s p 2 (omega arith), later n s p 4 (omega arith))
-permitted-at Orientation c s p n e = let q = long n 2 e in rw (first n s p (omega arith), later n s p 1 (omega arith))
-permitted-at Inside c s p n e = let q = long n 3 e in rw (first n s p (omega arith), later n s p 1 (omega arith), later n s p 2 (omega arith))
+    more (suc n) h = rw sub-one (fields_first n s p)
+permitted_at_lem Surface c s p n e = let q = long n 2 e in rw (first n s p (omega arith), later n s p 1 (omega arith))
+permitted_at_lem Points c s p n e = let q = long n 3 e in rw (first n s p (omega arith), later n s p 1 (omega arith), later n s p 2 (omega arith))
+permitted_at_lem Curves c s p n e = let q = long n 3 e in rw (first n s p (omega arith), later n s p 1 (omega arith), later n s p 2 (omega arith))
+permitted_at_lem Singular c s p n e = let q = long n 5 e in rw (later n s p 1 (omega arith), later n s p 2 (omega arith), later n s p 4 (omega arith))
+permitted_at_lem Orientation c s p n e = let q = long n 2 e in rw (first n s p (omega arith), later n s p 1 (omega arith))
+permitted_at_lem Inside c s p n e = let q = long n 3 e in rw (first n s p (omega arith), later n s p 1 (omega arith), later n s p 2 (omega arith))
 
 -- the same where the kind is told by an equation, as the code has it
-pub permitted-as : (k l : Kind) (c : Counts) (s : List ℕ) (p n : ℕ) → k ≡ l → rightLength k (4 * n) ≡ true → fieldsPermitted k c (fieldsIn n (drop p s)) ≡ permittedAt l c s p n
-permitted-as k l c s p n q e = permitted-at k c s p n e ∙ ap (λ j. permittedAt j c s p n) q
+pub permitted_as : (k l : Kind) (c : Counts) (s : List ℕ) (p n : ℕ) → k ≡ l → right_length k (4 * n) ≡ true → fields_permitted k c (fields_in n (drop p s)) ≡ permitted_at l c s p n
+permitted_as k l c s p n q e = permitted_at_lem k c s p n e ∙ ap (λ j. permitted_at j c s p n) q
 
 -- a radial answer has a field at least
-pub radial-some : (k : Kind) (n : ℕ) → k ≡ Radial → rightLength k (4 * n) ≡ true → 0 < n
-unfolding rightLength
-radial-some k n q e =
-    let r = and-both (ltb 0 (4 * n)) (eqb (4 * n % 4) 0) (sym (ap (λ j. rightLength j (4 * n)) q) ∙ e) in
+pub radial_some : (k : Kind) (n : ℕ) → k ≡ Radial → right_length k (4 * n) ≡ true → 0 < n
+unfolding right_length
+radial_some k n q e =
+    let r = and_both (ltb 0 (4 * n)) (eqb (4 * n % 4) 0) (sym (ap (λ j. right_length j (4 * n)) q) ∙ e) in
     let h = ltb-true 0 (4 * n) r.0 in
     omega arith
 
 -- ONE TURN OF A LOOP OVER FIELDS
 
-permit-more : (m edges : ℕ) (s : List ℕ) (p : ℕ) → 0 < m
-    → itemsPermitted edges (fieldsIn (2 * m) (drop p s)) ≡ (ltb (le32 s p) edges && (isSense (le32 s (p + 4)) && itemsPermitted edges (fieldsIn (2 * (m - 1)) (drop (p + 8) s))))
-unfolding itemsPermitted
-permit-more m edges s p h = ap (itemsPermitted edges) (pair-more m s p h)
+permit_more : (m edges : ℕ) (s : List ℕ) (p : ℕ) → 0 < m
+    → items_permitted edges (fields_in (2 * m) (drop p s)) ≡ (ltb (le32 s p) edges && (is_sense (le32 s (p + 4)) && items_permitted edges (fields_in (2 * (m - 1)) (drop (p + 8) s))))
+unfolding items_permitted
+permit_more m edges s p h = ap (items_permitted edges) (pair_more m s p h)
 
 -- m items from a place on, the first with an edge e that does not exist, with a sense that is none, and with both in order
-pub permit-edge : (m edges : ℕ) (s : List ℕ) (p e : ℕ) → 0 < m → e ≡ le32 s p → edges ≤ e → itemsPermitted edges (fieldsIn (2 * m) (drop p s)) ≡ false
-permit-edge m edges s p e h q k = permit-more m edges s p h ∙ rw (← q, le-ltb e edges k)
+pub permit_edge : (m edges : ℕ) (s : List ℕ) (p e : ℕ) → 0 < m → e ≡ le32 s p → edges ≤ e → items_permitted edges (fields_in (2 * m) (drop p s)) ≡ false
+permit_edge m edges s p e h q k = permit_more m edges s p h ∙ rw (← q, le-ltb e edges k)
 
-pub permit-sense : (m edges : ℕ) (s : List ℕ) (p t : ℕ) → 0 < m → t ≡ le32 s (p + 4) → 1 < t → itemsPermitted edges (fieldsIn (2 * m) (drop p s)) ≡ false
-permit-sense m edges s p t h q k = permit-more m edges s p h ∙ rw (← q, lt-leb t 1 k) (and-false (ltb (le32 s p) edges))
+pub permit_sense : (m edges : ℕ) (s : List ℕ) (p t : ℕ) → 0 < m → t ≡ le32 s (p + 4) → 1 < t → items_permitted edges (fields_in (2 * m) (drop p s)) ≡ false
+permit_sense m edges s p t h q k = permit_more m edges s p h ∙ rw (← q, lt-leb t 1 k) (and_false (ltb (le32 s p) edges))
 
-pub permit-on : (m edges : ℕ) (s : List ℕ) (p e t : ℕ) → 0 < m → e ≡ le32 s p → e < edges → t ≡ le32 s (p + 4) → t ≤ 1
-    → itemsPermitted edges (fieldsIn (2 * m) (drop p s)) ≡ itemsPermitted edges (fieldsIn (2 * (m - 1)) (drop (p + 8) s))
-permit-on m edges s p e t h q k r l = permit-more m edges s p h ∙ rw (← q, ← r, lt-ltb e edges k, le-leb t 1 l)
+pub permit_on : (m edges : ℕ) (s : List ℕ) (p e t : ℕ) → 0 < m → e ≡ le32 s p → e < edges → t ≡ le32 s (p + 4) → t ≤ 1
+    → items_permitted edges (fields_in (2 * m) (drop p s)) ≡ items_permitted edges (fields_in (2 * (m - 1)) (drop (p + 8) s))
+permit_on m edges s p e t h q k r l = permit_more m edges s p h ∙ rw (← q, ← r, lt-ltb e edges k, le-leb t 1 l)
 
-pub permit-none : (m edges : ℕ) (s : List ℕ) (p : ℕ) → m ≤ 0 → itemsPermitted edges (fieldsIn (2 * m) (drop p s)) ≡ true
-unfolding itemsPermitted fieldsIn
-permit-none zero edges s p h = refl
-permit-none (suc m) edges s p h = absurd (not-suc-le-zero h)
+pub permit_none : (m edges : ℕ) (s : List ℕ) (p : ℕ) → m ≤ 0 → items_permitted edges (fields_in (2 * m) (drop p s)) ≡ true
+unfolding items_permitted fields_in
+permit_none zero edges s p h = refl
+permit_none (suc m) edges s p h = absurd (not-suc-le-zero h)
 
-exist-more : (m count : ℕ) (s : List ℕ) (p : ℕ) → 0 < m
-    → all (exists count) (fieldsIn m (drop p s)) ≡ (ltb (le32 s p) count && all (exists count) (fieldsIn (m - 1) (drop (p + 4) s)))
+exist_more : (m count : ℕ) (s : List ℕ) (p : ℕ) → 0 < m
+    → all (exists count) (fields_in m (drop p s)) ≡ (ltb (le32 s p) count && all (exists count) (fields_in (m - 1) (drop (p + 4) s)))
 unfolding all
-exist-more zero count s p h = absurd (not-suc-le-zero h)
-exist-more (suc m) count s p h = rw sub-one (ap (all (exists count)) (fields-first m s p))
+exist_more zero count s p h = absurd (not-suc-le-zero h)
+exist_more (suc m) count s p h = rw sub-one (ap (all (exists count)) (fields_first m s p))
 
 -- m numbers from a place on, the first x one that does not exist, and one that does
-pub exist-not : (m count : ℕ) (s : List ℕ) (p x : ℕ) → 0 < m → x ≡ le32 s p → count ≤ x → all (exists count) (fieldsIn m (drop p s)) ≡ false
-exist-not m count s p x h q k = exist-more m count s p h ∙ rw (← q, le-ltb x count k)
+pub exist_not : (m count : ℕ) (s : List ℕ) (p x : ℕ) → 0 < m → x ≡ le32 s p → count ≤ x → all (exists count) (fields_in m (drop p s)) ≡ false
+exist_not m count s p x h q k = exist_more m count s p h ∙ rw (← q, le-ltb x count k)
 
-pub exist-on : (m count : ℕ) (s : List ℕ) (p x : ℕ) → 0 < m → x ≡ le32 s p → x < count
-    → all (exists count) (fieldsIn m (drop p s)) ≡ all (exists count) (fieldsIn (m - 1) (drop (p + 4) s))
-exist-on m count s p x h q k = exist-more m count s p h ∙ rw (← q, lt-ltb x count k)
+pub exist_on : (m count : ℕ) (s : List ℕ) (p x : ℕ) → 0 < m → x ≡ le32 s p → x < count
+    → all (exists count) (fields_in m (drop p s)) ≡ all (exists count) (fields_in (m - 1) (drop (p + 4) s))
+exist_on m count s p x h q k = exist_more m count s p h ∙ rw (← q, lt-ltb x count k)
 
-pub exist-none : (m count : ℕ) (s : List ℕ) (p : ℕ) → m ≤ 0 → all (exists count) (fieldsIn m (drop p s)) ≡ true
-unfolding all fieldsIn
-exist-none zero count s p h = refl
-exist-none (suc m) count s p h = absurd (not-suc-le-zero h)
+pub exist_none : (m count : ℕ) (s : List ℕ) (p : ℕ) → m ≤ 0 → all (exists count) (fields_in m (drop p s)) ≡ true
+unfolding all fields_in
+exist_none zero count s p h = refl
+exist_none (suc m) count s p h = absurd (not-suc-le-zero h)

@@ -4,13 +4,13 @@
 
 ghost use Rattle.std.specs.Prelude.{◌≡◌, true, ◌&&◌, ◌||◌, not, ◌+◌, ◌*◌, ◌-◌, ◌%◌, ◌/◌, ◌<◌, ◌^◌, drop, eqb, ltb, leb};
 ghost use Rattle.lists.specs.Lists.{all, neighbours};
-ghost use Rattle.rules.specs.Fields.{le32, fieldsIn};
-ghost use Rattle.rules.specs.Job.{itemAt, itemsFrom, ofRing};
-ghost use Rattle.rules.specs.Kinds.{isAnswer, inTurn, isSense, isBody, exists, endsPermitted, itemsPermitted, fieldsPermitted, rightLength, rightPosition, limitPassed};
-ghost use Rattle.rules.specs.Load.{joint, jointed as jointedOf, rightJoints, counted};
+ghost use Rattle.rules.specs.Fields.{le32, fields_in};
+ghost use Rattle.rules.specs.Job.{item_at, items_from, of_ring};
+ghost use Rattle.rules.specs.Kinds.{is_answer, in_turn, is_sense, is_body, exists, ends_permitted, items_permitted, fields_permitted, right_length, right_position, limit_passed};
+ghost use Rattle.rules.specs.Load.{joint, jointed as jointedOf, right_joints, counted};
 ghost use Rattle.theorems.specs.Sound.{Limited};
-ghost use Rattle.job.specs.Lists.{pointsIn, edgesIn};
-ghost use Rattle.records.specs.Joints.{endsOf};
+ghost use Rattle.job.specs.Lists.{points_in, edges_in};
+ghost use Rattle.records.specs.Joints.{ends_of};
 
 use fields::{UNSET, word};
 use rules::{Counts, Kind};
@@ -30,7 +30,7 @@ fn parts(size: usize, each: usize) -> bool
 
 // 3: the payload's length is right for its kind.
 pub fn right_length(kind: Kind, size: usize) -> bool
-    ensures { result ≡ rightLength kind size }
+    ensures { result ≡ right_length kind size }
 {
     match kind {
         Kind::Unknown => false,
@@ -52,7 +52,7 @@ pub fn right_length(kind: Kind, size: usize) -> bool
 
 // After Head, and not after a later part.
 fn in_turn(reached: usize, part: usize) -> bool
-    ensures { result ≡ inTurn reached part }
+    ensures { result ≡ in_turn reached part }
 {
     if 0 < reached {
         return reached <= part;
@@ -62,7 +62,7 @@ fn in_turn(reached: usize, part: usize) -> bool
 
 // Kinds 7 to 13 are answers.
 pub fn is_answer(kind: Kind) -> bool
-    ensures { result ≡ isAnswer kind }
+    ensures { result ≡ is_answer kind }
 {
     match kind {
         Kind::Unknown => false,
@@ -84,7 +84,7 @@ pub fn is_answer(kind: Kind) -> bool
 
 // 3: the record stands in its part.
 pub fn right_position(kind: Kind, reached: usize) -> bool
-    ensures { result ≡ rightPosition kind reached }
+    ensures { result ≡ right_position kind reached }
 {
     match kind {
         Kind::Unknown => false,
@@ -121,7 +121,7 @@ fn loops_passed(c: Counts, n: usize) -> bool
 // 5: a limit is passed by one more record of n fields.
 pub fn limit_passed(kind: Kind, c: Counts, n: usize) -> bool
     requires { Limited c × (n < 2 ^ 60) }
-    ensures { result ≡ limitPassed kind c n }
+    ensures { result ≡ limit_passed kind c n }
 {
     match kind {
         Kind::Unknown => false,
@@ -240,7 +240,7 @@ pub fn count_record(kind: Kind, n: usize, c: Counts) -> Counts
 
 // Two vertices that exist, or the mark in both.
 fn ends_permitted(vertices: usize, start: usize, end: usize) -> bool
-    ensures { result ≡ endsPermitted vertices start end }
+    ensures { result ≡ ends_permitted vertices start end }
 {
     if start == UNSET {
         return end == UNSET;
@@ -253,7 +253,7 @@ fn ends_permitted(vertices: usize, start: usize, end: usize) -> bool
 
 fn edge_permitted(job: &[u8], vertices: usize, body: usize) -> bool
     requires { body < 2 ^ 59 }
-    ensures { result ≡ (isSense (le32 job.now (body + 4)) && endsPermitted vertices (le32 job.now (body + 8)) (le32 job.now (body + 12))) }
+    ensures { result ≡ (is_sense (le32 job.now (body + 4)) && ends_permitted vertices (le32 job.now (body + 8)) (le32 job.now (body + 12))) }
 {
     if 1 < word(job, body + 4) {
         return false;
@@ -265,7 +265,7 @@ fn edge_permitted(job: &[u8], vertices: usize, body: usize) -> bool
 
 fn face_permitted(job: &[u8], body: usize) -> bool
     requires { body < 2 ^ 59 }
-    ensures { result ≡ (isSense (le32 job.now (body + 4)) && (isSense (le32 job.now (body + 8)) && isBody (le32 job.now (body + 12)))) }
+    ensures { result ≡ (is_sense (le32 job.now (body + 4)) && (is_sense (le32 job.now (body + 8)) && is_body (le32 job.now (body + 12)))) }
 {
     if 1 < word(job, body + 4) {
         return false;
@@ -279,7 +279,7 @@ fn face_permitted(job: &[u8], body: usize) -> bool
 // Each of n items names an edge and has a sense.
 fn items_permitted(job: &[u8], edges: usize, body: usize, n: usize) -> bool
     requires { body + 8 * n < 2 ^ 59 }
-    ensures { result ≡ itemsPermitted edges (fieldsIn (2 * n) (drop body job.now)) }
+    ensures { result ≡ items_permitted edges (fields_in (2 * n) (drop body job.now)) }
 {
     let mut p = body;
     let mut left = n;
@@ -299,7 +299,7 @@ fn items_permitted(job: &[u8], edges: usize, body: usize, n: usize) -> bool
 // Each of n numbers lies below a count.
 fn all_exist(job: &[u8], count: usize, from: usize, n: usize) -> bool
     requires { from + 4 * n < 2 ^ 59 }
-    ensures { result ≡ all (exists count) (fieldsIn n (drop from job.now)) }
+    ensures { result ≡ all (exists count) (fields_in n (drop from job.now)) }
 {
     let mut p = from;
     let mut left = n;
@@ -315,7 +315,7 @@ fn all_exist(job: &[u8], count: usize, from: usize, n: usize) -> bool
 
 fn radial_permitted(job: &[u8], c: Counts, body: usize, n: usize) -> bool
     requires { (0 < n) × (body + 4 * n < 2 ^ 59) }
-    ensures { result ≡ (exists c.edges (le32 job.now body) && all (exists c.uses) (fieldsIn (n - 1) (drop (body + 4) job.now))) }
+    ensures { result ≡ (exists c.edges (le32 job.now body) && all (exists c.uses) (fields_in (n - 1) (drop (body + 4) job.now))) }
 {
     if c.edges <= word(job, body) {
         return false;
@@ -376,8 +376,8 @@ fn inside_permitted(job: &[u8], faces: usize, body: usize) -> bool
 
 // 4: the n fields of a record of the right length are permitted; its payload stands at `body`.
 pub fn fields_permitted(job: &[u8], kind: Kind, c: Counts, body: usize, n: usize) -> bool
-    requires { (rightLength kind (4 * n) ≡ true) × (body + 4 * n < 2 ^ 59) }
-    ensures { result ≡ fieldsPermitted kind c (fieldsIn n (drop body job.now)) }
+    requires { (right_length kind (4 * n) ≡ true) × (body + 4 * n < 2 ^ 59) }
+    ensures { result ≡ fields_permitted kind c (fields_in n (drop body job.now)) }
 {
     match kind {
         Kind::Unknown => false,
@@ -402,7 +402,7 @@ pub fn fields_permitted(job: &[u8], kind: Kind, c: Counts, body: usize, n: usize
 // The edge of the item at a place has no vertices.
 fn is_ring(job: &[u8], c: Counts, p: usize) -> bool
     requires { Limited c × (p < 2 ^ 59) }
-    ensures { result ≡ ofRing (edgesIn job.now c) (itemAt job.now p) }
+    ensures { result ≡ of_ring (edges_in job.now c) (item_at job.now p) }
 {
     let e = word(job, p);
     let start = job::edge_start(job, c, e);
@@ -420,7 +420,7 @@ struct Ends {
 // Those of the item at a place; its edge, vertices and points are read once.
 fn item_ends(job: &[u8], c: Counts, p: usize) -> Ends
     requires { Limited c × (p < 2 ^ 59) }
-    ensures { result ≡ endsOf (pointsIn job.now c) (edgesIn job.now c) (itemAt job.now p) }
+    ensures { result ≡ ends_of (points_in job.now c) (edges_in job.now c) (item_at job.now p) }
 {
     let e = word(job, p);
     let s = job::sense_of(word(job, p + 4));
@@ -438,7 +438,7 @@ fn item_ends(job: &[u8], c: Counts, p: usize) -> Ends
 // point where the one before ends.
 fn joined(job: &[u8], c: Counts, body: usize, n: usize) -> bool
     requires { Limited c × (body + 8 * n < 2 ^ 59) }
-    ensures { result ≡ all (joint (pointsIn job.now c) (edgesIn job.now c)) (neighbours (itemsFrom job.now body n)) }
+    ensures { result ≡ all (joint (points_in job.now c) (edges_in job.now c)) (neighbours (items_from job.now body n)) }
 {
     if n == 0 {
         return true;
@@ -469,7 +469,7 @@ fn joined(job: &[u8], c: Counts, body: usize, n: usize) -> bool
 // A ring's use alone, or joints.
 fn jointed(job: &[u8], c: Counts, body: usize, n: usize) -> bool
     requires { Limited c × (body + 8 * n < 2 ^ 59) }
-    ensures { result ≡ jointedOf (pointsIn job.now c) (edgesIn job.now c) (itemsFrom job.now body n) }
+    ensures { result ≡ jointedOf (points_in job.now c) (edges_in job.now c) (items_from job.now body n) }
 {
     if n != 1 {
         return joined(job, c, body, n);
@@ -483,7 +483,7 @@ fn jointed(job: &[u8], c: Counts, body: usize, n: usize) -> bool
 // 6: a loop's joints hold.
 pub fn right_joints(job: &[u8], kind: Kind, c: Counts, body: usize, n: usize) -> bool
     requires { Limited c × (body + 4 * n < 2 ^ 59) }
-    ensures { result ≡ rightJoints kind (pointsIn job.now c) (edgesIn job.now c) (fieldsIn n (drop body job.now)) }
+    ensures { result ≡ right_joints kind (points_in job.now c) (edges_in job.now c) (fields_in n (drop body job.now)) }
 {
     match kind {
         Kind::LoopRecord => jointed(job, c, body, n / 2),

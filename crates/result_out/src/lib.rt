@@ -6,18 +6,18 @@
 
 ghost use Rattle.std.specs.Prelude.{◌≡◌, ◌*◌, ◌<◌, ◌≤◌, ◌^◌, length};
 ghost use mathlib.Core.List.{flat_map};
-ghost use Rattle.rules.specs.Fields.{fieldBytes};
-ghost use Rattle.rules.specs.Shells.{shellFaces, lumps};
-ghost use Rattle.rules.specs.Body.{bodyKind};
-ghost use Rattle.rules.specs.Stage.{edgeFields, faceLoopFields, joiningFields, shellFields, lumpShellFields, lumpFields};
+ghost use Rattle.rules.specs.Fields.{field_bytes};
+ghost use Rattle.rules.specs.Shells.{shell_faces, lumps};
+ghost use Rattle.rules.specs.Body.{body_kind};
+ghost use Rattle.rules.specs.Stage.{edge_fields, face_loop_fields, joining_fields, shell_fields, lump_shell_fields, lump_fields};
 ghost use Rattle.fields.specs.Wrote.{Wrote};
-ghost use Rattle.job.specs.Lists.{edgesIn};
-ghost use Rattle.uses.specs.Table.{usesIn};
-ghost use Rattle.edges.specs.Table.{rowsIn, faceLoopsIn, Laid};
-ghost use Rattle.maximal_edges.specs.Joined.{stateIn};
-ghost use Rattle.shells.specs.Table.{shellsIn, nestedIn};
+ghost use Rattle.job.specs.Lists.{edges_in};
+ghost use Rattle.uses.specs.Table.{uses_in};
+ghost use Rattle.edges.specs.Table.{rows_in, face_loops_in, Laid};
+ghost use Rattle.maximal_edges.specs.Joined.{state_in};
+ghost use Rattle.shells.specs.Table.{shells_in, nested_in};
 ghost use Rattle.stages_out.specs.Rows.{Staged};
-ghost use Rattle.result_out.specs.Rows.{fanOr, fanRows, edgeRow, loopRow, itemRow, faceOr, isVoid, voidOr, voidRows, lumpOr};
+ghost use Rattle.result_out.specs.Rows.{fan_or, fan_rows, edge_row, loop_row, item_row, face_or, is_void, void_or, void_rows, lump_or};
 
 use edges::edge_at;
 use fans::kept_with_ends;
@@ -29,7 +29,7 @@ use uses::count;
 
 // 1 for true.
 fn flag_number(b: bool) -> usize
-    ensures { (result ≡ bodyKind b) × (result ≤ 1) }
+    ensures { (result ≡ body_kind b) × (result ≤ 1) }
 {
     if b {
         return 1;
@@ -59,7 +59,7 @@ fn put_fan(
     at: usize,
 ) -> usize
     requires { (c.vertices ≤ 1024) × (c.edges ≤ 1024) × (at < 2 ^ 58) }
-    ensures { Wrote out.old at (fieldBytes (fanOr (edgesIn job.now c) (usesIn uses.now) removed.now fans.now starts.now h)) out.new result }
+    ensures { Wrote out.old at (field_bytes (fan_or (edges_in job.now c) (uses_in uses.now) removed.now fans.now starts.now h)) out.new result }
 {
     if kept_with_ends(job, c, uses, removed, h) {
         let fan = get(fans, h);
@@ -80,8 +80,8 @@ fn put_fans(
     starts: &[u32],
     out: &mut [u8],
 ) -> usize
-    requires { (c.vertices ≤ 1024) × (c.edges ≤ 1024) × (length (usesIn uses.now) ≤ 2048) }
-    ensures { Wrote out.old 0 (fieldBytes (fanRows (edgesIn job.now c) (usesIn uses.now) removed.now fans.now starts.now)) out.new result }
+    requires { (c.vertices ≤ 1024) × (c.edges ≤ 1024) × (length (uses_in uses.now) ≤ 2048) }
+    ensures { Wrote out.old 0 (field_bytes (fan_rows (edges_in job.now c) (uses_in uses.now) removed.now fans.now starts.now)) out.new result }
 {
     let n = count(uses);
     let mut p: usize = 0;
@@ -103,8 +103,8 @@ pub fn write_fans(
     starts: &[u32],
     out: &mut [u8],
 ) -> Ending
-    requires { (c.vertices ≤ 1024) × (c.edges ≤ 1024) × (length (usesIn uses.now) ≤ 2048) }
-    ensures { Staged (fanRows (edgesIn job.now c) (usesIn uses.now) removed.now fans.now starts.now) out.old out.new result }
+    requires { (c.vertices ≤ 1024) × (c.edges ≤ 1024) × (length (uses_in uses.now) ≤ 2048) }
+    ensures { Staged (fan_rows (edges_in job.now c) (uses_in uses.now) removed.now fans.now starts.now) out.old out.new result }
 {
     let mut nothing = [0u8; 0];
     let needed = put_fans(job, c, uses, removed, fans, starts, &mut nothing);
@@ -120,7 +120,7 @@ pub fn write_fans(
 // The fields of edge e at a place; gives the place after them.
 fn put_edge(rows: &[u32], e: usize, out: &mut [u8], at: usize) -> usize
     requires { at < 2 ^ 58 }
-    ensures { Wrote out.old at (fieldBytes (edgeRow rows.now e)) out.new result }
+    ensures { Wrote out.old at (field_bytes (edge_row rows.now e)) out.new result }
 {
     let x = edge_at(rows, e);
     let own = x.sense;
@@ -138,7 +138,7 @@ fn put_edge(rows: &[u32], e: usize, out: &mut [u8], at: usize) -> usize
 // The fields of each edge of a table at a place; gives the place after them.
 fn put_edges(rows: &[u32], out: &mut [u8], at: usize) -> usize
     requires { (length rows.now ≤ 14336) × (at < 2 ^ 57) }
-    ensures { Wrote out.old at (fieldBytes (flat_map edgeFields (rowsIn rows.now))) out.new result }
+    ensures { Wrote out.old at (field_bytes (flat_map edge_fields (rows_in rows.now))) out.new result }
 {
     let n = rows.len() / 7;
     let mut p = at;
@@ -153,7 +153,7 @@ fn put_edges(rows: &[u32], out: &mut [u8], at: usize) -> usize
 // Edge and sense of each item at a place; gives the place after them.
 fn put_items(part: &[u32], out: &mut [u8], at: usize) -> usize
     requires { (length part.now ≤ 2048) × (at < 2 ^ 58) }
-    ensures { Wrote out.old at (fieldBytes (flat_map itemRow part.now)) out.new result }
+    ensures { Wrote out.old at (field_bytes (flat_map item_row part.now)) out.new result }
 {
     let mut p = at;
     let mut i: usize = 0;
@@ -168,7 +168,7 @@ fn put_items(part: &[u32], out: &mut [u8], at: usize) -> usize
 // The fields of a loop with its items at a place; gives the place after them.
 fn put_loop(face: usize, part: &[u32], out: &mut [u8], at: usize) -> usize
     requires { (length part.now ≤ 2048) × (at < 2 ^ 57) }
-    ensures { Wrote out.old at (fieldBytes (loopRow face part.now)) out.new result }
+    ensures { Wrote out.old at (field_bytes (loop_row face part.now)) out.new result }
 {
     let p = put_two(out, at, face, part.len());
     put_items(part, out, p)
@@ -177,7 +177,7 @@ fn put_loop(face: usize, part: &[u32], out: &mut [u8], at: usize) -> usize
 // The fields of each loop at a place; gives the place after them.
 fn put_loops(items: &[u32], stretches: &[u32], faces: &[u32], out: &mut [u8], at: usize) -> usize
     requires { Laid stretches.now items.now × (2 * length faces.now ≤ length stretches.now) × (length items.now ≤ 2048) × (length faces.now ≤ 2048) × (at < 2 ^ 56) }
-    ensures { Wrote out.old at (fieldBytes (flat_map faceLoopFields (faceLoopsIn items.now stretches.now faces.now))) out.new result }
+    ensures { Wrote out.old at (field_bytes (flat_map face_loop_fields (face_loops_in items.now stretches.now faces.now))) out.new result }
 {
     let mut p = at;
     let mut k: usize = 0;
@@ -203,7 +203,7 @@ fn put_joining(
     out: &mut [u8],
 ) -> usize
     requires { Laid stretches.now items.now × (2 * length faces.now ≤ length stretches.now) × (n ≤ 2047) × (7 * n ≤ length rows.now) × (length items.now ≤ 2048) × (length faces.now ≤ 2048) }
-    ensures { Wrote out.old 0 (fieldBytes (joiningFields (stateIn rows.now n items.now stretches.now faces.now joins rings))) out.new result }
+    ensures { Wrote out.old 0 (field_bytes (joining_fields (state_in rows.now n items.now stretches.now faces.now joins rings))) out.new result }
 {
     let p = put_two(out, 0, joins, rings);
     let q = put_word(out, p, n);
@@ -223,7 +223,7 @@ pub fn write_joining(
     out: &mut [u8],
 ) -> Ending
     requires { Laid stretches.now items.now × (2 * length faces.now ≤ length stretches.now) × (n ≤ 2047) × (7 * n ≤ length rows.now) × (length items.now ≤ 2048) × (length faces.now ≤ 2048) }
-    ensures { Staged (joiningFields (stateIn rows.now n items.now stretches.now faces.now joins rings)) out.old out.new result }
+    ensures { Staged (joining_fields (state_in rows.now n items.now stretches.now faces.now joins rings)) out.old out.new result }
 {
     let mut nothing = [0u8; 0];
     let needed = put_joining(joins, rings, rows, n, items, stretches, faces, &mut nothing);
@@ -246,7 +246,7 @@ fn put_face(
     at: usize,
 ) -> usize
     requires { at < 2 ^ 59 }
-    ensures { Wrote out.old at (fieldBytes (faceOr boundaries.now members.now b f)) out.new result }
+    ensures { Wrote out.old at (field_bytes (face_or boundaries.now members.now b f)) out.new result }
 {
     let member = get(members, f);
     if get(boundaries, member) == b {
@@ -258,7 +258,7 @@ fn put_face(
 // The merged faces of the boundary with label b at a place; gives the place after them.
 fn put_faces_of(boundaries: &[u32], members: &[u32], b: usize, out: &mut [u8], at: usize) -> usize
     requires { (length members.now ≤ 256) × (at < 2 ^ 58) }
-    ensures { Wrote out.old at (fieldBytes (shellFaces boundaries.now members.now b)) out.new result }
+    ensures { Wrote out.old at (field_bytes (shell_faces boundaries.now members.now b)) out.new result }
 {
     let mut p = at;
     let mut f: usize = 0;
@@ -272,7 +272,7 @@ fn put_faces_of(boundaries: &[u32], members: &[u32], b: usize, out: &mut [u8], a
 // How many merged faces the boundary with label b has: a fourth of the bytes that they take.
 fn count_faces_of(boundaries: &[u32], members: &[u32], b: usize) -> usize
     requires { length members.now ≤ 256 }
-    ensures { result ≡ length (shellFaces boundaries.now members.now b) }
+    ensures { result ≡ length (shell_faces boundaries.now members.now b) }
 {
     let mut nothing = [0u8; 0];
     put_faces_of(boundaries, members, b, &mut nothing, 0) / 4
@@ -289,7 +289,7 @@ fn put_shell(
     at: usize,
 ) -> usize
     requires { (length members.now ≤ 256) × (at < 2 ^ 57) }
-    ensures { Wrote out.old at (fieldBytes (lumpShellFields number (shellFaces boundaries.now members.now b))) out.new result }
+    ensures { Wrote out.old at (field_bytes (lump_shell_fields number (shell_faces boundaries.now members.now b))) out.new result }
 {
     let n = count_faces_of(boundaries, members, b);
     let p = put_two(out, at, number, n);
@@ -299,7 +299,7 @@ fn put_shell(
 // The fields of each shell; gives the place after them.
 fn put_shells(boundaries: &[u32], members: &[u32], table: &[u32], n: usize, out: &mut [u8]) -> usize
     requires { (n ≤ 256) × (length members.now ≤ 256) }
-    ensures { Wrote out.old 0 (fieldBytes (flat_map shellFields (shellsIn boundaries.now members.now n table.now))) out.new result }
+    ensures { Wrote out.old 0 (field_bytes (flat_map shell_fields (shells_in boundaries.now members.now n table.now))) out.new result }
 {
     let mut p: usize = 0;
     let mut k: usize = 0;
@@ -321,7 +321,7 @@ pub fn write_shells(
     out: &mut [u8],
 ) -> Ending
     requires { (n ≤ 256) × (length members.now ≤ 256) }
-    ensures { Staged (flat_map shellFields (shellsIn boundaries.now members.now n table.now)) out.old out.new result }
+    ensures { Staged (flat_map shell_fields (shells_in boundaries.now members.now n table.now)) out.old out.new result }
 {
     let mut nothing = [0u8; 0];
     let needed = put_shells(boundaries, members, table, n, &mut nothing);
@@ -337,7 +337,7 @@ pub fn write_shells(
 // Shell k is a void of the lump with this home, the lowest merged face of its outer shell.
 fn is_void(table: &[u32], k: usize, home: usize) -> bool
     requires { k < 2 ^ 60 }
-    ensures { result ≡ isVoid table.now home k }
+    ensures { result ≡ is_void table.now home k }
 {
     if shell_outer(table, k) {
         return false;
@@ -357,7 +357,7 @@ fn put_void(
     at: usize,
 ) -> usize
     requires { (length members.now ≤ 256) × (k < 2 ^ 60) × (at < 2 ^ 57) }
-    ensures { Wrote out.old at (fieldBytes (voidOr boundaries.now members.now table.now home number k)) out.new result }
+    ensures { Wrote out.old at (field_bytes (void_or boundaries.now members.now table.now home number k)) out.new result }
 {
     if is_void(table, k, home) {
         let b = shell_boundary(table, k);
@@ -378,7 +378,7 @@ fn put_voids(
     at: usize,
 ) -> usize
     requires { (length members.now ≤ 256) × (n ≤ 256) × (at < 2 ^ 56) }
-    ensures { Wrote out.old at (fieldBytes (voidRows boundaries.now members.now table.now n home number)) out.new result }
+    ensures { Wrote out.old at (field_bytes (void_rows boundaries.now members.now table.now n home number)) out.new result }
 {
     let mut p = at;
     let mut k: usize = 0;
@@ -401,7 +401,7 @@ fn put_lump(
     at: usize,
 ) -> usize
     requires { (length members.now ≤ 256) × (n ≤ 256) × (k < 2 ^ 60) × (at < 2 ^ 55) }
-    ensures { Wrote out.old at (fieldBytes (lumpOr boundaries.now members.now table.now n number k)) out.new result }
+    ensures { Wrote out.old at (field_bytes (lump_or boundaries.now members.now table.now n number k)) out.new result }
 {
     if shell_outer(table, k) {
         let b = shell_boundary(table, k);
@@ -415,7 +415,7 @@ fn put_lump(
 // The fields of each shell, lump by lump; gives the place after them.
 fn put_lumps(boundaries: &[u32], members: &[u32], table: &[u32], n: usize, out: &mut [u8]) -> usize
     requires { (n ≤ 256) × (length members.now ≤ 256) }
-    ensures { Wrote out.old 0 (fieldBytes (lumpFields 0 (lumps (nestedIn boundaries.now members.now n table.now)))) out.new result }
+    ensures { Wrote out.old 0 (field_bytes (lump_fields 0 (lumps (nested_in boundaries.now members.now n table.now)))) out.new result }
 {
     let mut p: usize = 0;
     let mut number: usize = 0;
@@ -437,7 +437,7 @@ pub fn write_lumps(
     out: &mut [u8],
 ) -> Ending
     requires { (n ≤ 256) × (length members.now ≤ 256) }
-    ensures { Staged (lumpFields 0 (lumps (nestedIn boundaries.now members.now n table.now))) out.old out.new result }
+    ensures { Staged (lump_fields 0 (lumps (nested_in boundaries.now members.now n table.now))) out.old out.new result }
 {
     let mut nothing = [0u8; 0];
     let needed = put_lumps(boundaries, members, table, n, &mut nothing);

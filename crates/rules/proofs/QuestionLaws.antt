@@ -6,51 +6,51 @@ use Rattle.rules.specs.declared.SurfaceAnswer.TheVariants.{Different, Agreeing, 
 use Rattle.rules.specs.declared.SurfaceAnswer.TheVariants.{Undecided as SurfaceUndecided}
 use Rattle.rules.specs.declared.Verdict.{Verdict}
 use Rattle.rules.specs.declared.Verdict.TheVariants.{No, Yes, Undecided}
-use Rattle.rules.specs.Questions.{surfaceNumber, verdictNumber, isSurface, isVerdict, numbered, surfaceAnswer, verdict}
+use Rattle.rules.specs.Questions.{surface_number, verdict_number, is_surface, is_verdict, numbered, surface_answer, verdict}
 
 -- the answer of a case's number is that case
-pub surface-case : (a : SurfaceAnswer) → surfaceAnswer (surfaceNumber a) ≡ a
-unfolding surfaceNumber numbered surfaceAnswer
-surface-case Different = refl
-surface-case Agreeing = refl
-surface-case Opposed = refl
-surface-case Vanishing = refl
-surface-case SurfaceUndecided = refl
+pub surface_case : (a : SurfaceAnswer) → surface_answer (surface_number a) ≡ a
+unfolding surface_number numbered surface_answer
+surface_case Different = refl
+surface_case Agreeing = refl
+surface_case Opposed = refl
+surface_case Vanishing = refl
+surface_case SurfaceUndecided = refl
 
-pub verdict-case : (a : Verdict) → verdict (verdictNumber a) ≡ a
-unfolding verdictNumber numbered verdict
-verdict-case No = refl
-verdict-case Yes = refl
-verdict-case Undecided = refl
+pub verdict_case : (a : Verdict) → verdict (verdict_number a) ≡ a
+unfolding verdict_number numbered verdict
+verdict_case No = refl
+verdict_case Yes = refl
+verdict_case Undecided = refl
 
 -- Job records, kind 8: the values permitted are the numbers of the answers, and no others
-pub surface-permitted : (a : SurfaceAnswer) → isSurface (surfaceNumber a) ≡ true
-unfolding surfaceNumber
-surface-permitted Different = refl
-surface-permitted Agreeing = refl
-surface-permitted Opposed = refl
-surface-permitted Vanishing = refl
-surface-permitted SurfaceUndecided = refl
+pub surface_permitted : (a : SurfaceAnswer) → is_surface (surface_number a) ≡ true
+unfolding surface_number
+surface_permitted Different = refl
+surface_permitted Agreeing = refl
+surface_permitted Opposed = refl
+surface_permitted Vanishing = refl
+surface_permitted SurfaceUndecided = refl
 
-pub surface-value : (v : ℕ) → isSurface v ≡ true → surfaceNumber (surfaceAnswer v) ≡ v
-unfolding surfaceNumber numbered surfaceAnswer
-surface-value zero h = refl
-surface-value (suc zero) h = refl
-surface-value (suc (suc zero)) h = refl
-surface-value (suc (suc (suc zero))) h = refl
-surface-value (suc (suc (suc (suc zero)))) h = refl
-surface-value (suc (suc (suc (suc (suc v))))) h = absurd (omega (arith, leb-true (suc (suc (suc (suc (suc v))))) 4 h))
+pub surface_value : (v : ℕ) → is_surface v ≡ true → surface_number (surface_answer v) ≡ v
+unfolding surface_number numbered surface_answer
+surface_value zero h = refl
+surface_value (suc zero) h = refl
+surface_value (suc (suc zero)) h = refl
+surface_value (suc (suc (suc zero))) h = refl
+surface_value (suc (suc (suc (suc zero)))) h = refl
+surface_value (suc (suc (suc (suc (suc v))))) h = absurd (omega (arith, leb-true (suc (suc (suc (suc (suc v))))) 4 h))
 
 -- kinds 9 to 13: the same
-pub verdict-permitted : (a : Verdict) → isVerdict (verdictNumber a) ≡ true
-unfolding verdictNumber
-verdict-permitted No = refl
-verdict-permitted Yes = refl
-verdict-permitted Undecided = refl
+pub verdict_permitted : (a : Verdict) → is_verdict (verdict_number a) ≡ true
+unfolding verdict_number
+verdict_permitted No = refl
+verdict_permitted Yes = refl
+verdict_permitted Undecided = refl
 
-pub verdict-value : (v : ℕ) → isVerdict v ≡ true → verdictNumber (verdict v) ≡ v
-unfolding verdictNumber numbered verdict
-verdict-value zero h = refl
-verdict-value (suc zero) h = refl
-verdict-value (suc (suc zero)) h = refl
-verdict-value (suc (suc (suc v))) h = absurd (omega (arith, leb-true (suc (suc (suc v))) 2 h))
+pub verdict_value : (v : ℕ) → is_verdict v ≡ true → verdict_number (verdict v) ≡ v
+unfolding verdict_number numbered verdict
+verdict_value zero h = refl
+verdict_value (suc zero) h = refl
+verdict_value (suc (suc zero)) h = refl
+verdict_value (suc (suc (suc v))) h = absurd (omega (arith, leb-true (suc (suc (suc v))) 2 h))

@@ -2,7 +2,7 @@
 use Rattle.std.specs.Prelude.{◌≡◌, refl, List, [], ◌∷◌, ◌++◌, Bool, true, false, ◌&&◌, ℕ, eqb}
 use Rattle.lists.specs.Lists.{same, all}
 use Rattle.rules.specs.Outcome.{Outcome, ok, refuse}
-use Rattle.rules.specs.Frame.{Record, framedAll}
+use Rattle.rules.specs.Frame.{Record, framed_all}
 use Rattle.rules.specs.Job.{unset}
 use Rattle.rules.specs.Rules.{ordinary}
 use Rattle.rules.specs.Body.{rec}
@@ -16,23 +16,23 @@ pub record Case : Type 0 where
   pub room : ℕ
   pub ending : Outcome (List Record)
 
-abbrev pub bytesOf : Outcome (List Record) → Outcome (List ℕ)
-bytesOf (ok rs) = ok (framedAll rs)
-bytesOf (refuse n p) = refuse n p
+abbrev pub bytes_of : Outcome (List Record) → Outcome (List ℕ)
+bytes_of (ok rs) = ok (framed_all rs)
+bytes_of (refuse n p) = refuse n p
 
-abbrev pub sameBytes : Outcome (List ℕ) → Outcome (List ℕ) → Bool
-sameBytes (ok a) (ok b) = same a b
-sameBytes (ok a) (refuse n p) = false
-sameBytes (refuse n p) (ok b) = false
-sameBytes (refuse n p) (refuse m q) = eqb n m && eqb p q
+abbrev pub same_bytes : Outcome (List ℕ) → Outcome (List ℕ) → Bool
+same_bytes (ok a) (ok b) = same a b
+same_bytes (ok a) (refuse n p) = false
+same_bytes (refuse n p) (ok b) = false
+same_bytes (refuse n p) (refuse m q) = eqb n m && eqb p q
 
 -- sewing the case's job ends as the case says
 abbrev pub right : Case → Bool
-right c = sameBytes (sewn ordinary (framedAll c.records ++ c.damaged) c.room) (bytesOf c.ending)
+right c = same_bytes (sewn ordinary (framed_all c.records ++ c.damaged) c.room) (bytes_of c.ending)
 
 -- no Head
-unfoldable pub emptyJob : Case
-emptyJob = record {
+unfoldable pub empty_job : Case
+empty_job = record {
   records =
       [];
   damaged = [];
@@ -41,8 +41,8 @@ emptyJob = record {
 }
 
 -- first record is no Head
-unfoldable pub noHead : Case
-noHead = record {
+unfoldable pub no_head : Case
+no_head = record {
   records =
       rec 2 (0 ∷ []) ∷ [];
   damaged = [];
@@ -51,8 +51,8 @@ noHead = record {
 }
 
 -- header cut short
-unfoldable pub cutHeader : Case
-cutHeader = record {
+unfoldable pub cut_header : Case
+cut_header = record {
   records =
       [];
   damaged = 4 ∷ 0 ∷ 0 ∷ [];
@@ -61,8 +61,8 @@ cutHeader = record {
 }
 
 -- payload cut short
-unfoldable pub cutPayload : Case
-cutPayload = record {
+unfoldable pub cut_payload : Case
+cut_payload = record {
   records =
       rec 1 (1 ∷ []) ∷ [];
   damaged = 4 ∷ 0 ∷ 0 ∷ 0 ∷ 2 ∷ 0 ∷ 7 ∷ 0 ∷ 0 ∷ [];
@@ -71,8 +71,8 @@ cutPayload = record {
 }
 
 -- a payload length far past the end
-unfoldable pub cutHuge : Case
-cutHuge = record {
+unfoldable pub cut_huge : Case
+cut_huge = record {
   records =
       rec 1 (1 ∷ []) ∷ [];
   damaged = 255 ∷ 255 ∷ 255 ∷ 255 ∷ 2 ∷ 0 ∷ [];
@@ -81,8 +81,8 @@ cutHuge = record {
 }
 
 -- unknown kind
-unfoldable pub unknownKind : Case
-unknownKind = record {
+unfoldable pub unknown_kind : Case
+unknown_kind = record {
   records =
       rec 1 (1 ∷ []) ∷ rec 14 (0 ∷ []) ∷ [];
   damaged = [];
@@ -91,8 +91,8 @@ unknownKind = record {
 }
 
 -- Head twice
-unfoldable pub twoHeads : Case
-twoHeads = record {
+unfoldable pub two_heads : Case
+two_heads = record {
   records =
       rec 1 (1 ∷ []) ∷ rec 1 (1 ∷ []) ∷ [];
   damaged = [];
@@ -101,8 +101,8 @@ twoHeads = record {
 }
 
 -- Vertex after Edge
-unfoldable pub lateVertex : Case
-lateVertex = record {
+unfoldable pub late_vertex : Case
+late_vertex = record {
   records =
       rec 1 (1 ∷ []) ∷ rec 3 (5 ∷ 0 ∷ unset ∷ unset ∷ []) ∷ rec 2 (0 ∷ []) ∷ [];
   damaged = [];
@@ -111,8 +111,8 @@ lateVertex = record {
 }
 
 -- loop before any face
-unfoldable pub looseLoop : Case
-looseLoop = record {
+unfoldable pub loose_loop : Case
+loose_loop = record {
   records =
       rec 1 (1 ∷ []) ∷ rec 3 (5 ∷ 0 ∷ unset ∷ unset ∷ []) ∷ rec 5 (0 ∷ 0 ∷ []) ∷ [];
   damaged = [];
@@ -121,8 +121,8 @@ looseLoop = record {
 }
 
 -- face after an answer
-unfoldable pub lateFace : Case
-lateFace = record {
+unfoldable pub late_face : Case
+late_face = record {
   records =
       rec 1 (1 ∷ []) ∷ rec 9 (1 ∷ 2 ∷ 0 ∷ []) ∷ rec 4 (7 ∷ 0 ∷ 0 ∷ 0 ∷ 0 ∷ []) ∷ [];
   damaged = [];
@@ -131,8 +131,8 @@ lateFace = record {
 }
 
 -- loop without items
-unfoldable pub emptyLoop : Case
-emptyLoop = record {
+unfoldable pub empty_loop : Case
+empty_loop = record {
   records =
       rec 1 (1 ∷ []) ∷ rec 4 (7 ∷ 0 ∷ 0 ∷ 0 ∷ 0 ∷ []) ∷ rec 5 [] ∷ [];
   damaged = [];
@@ -141,8 +141,8 @@ emptyLoop = record {
 }
 
 -- loop of one field
-unfoldable pub oddLoop : Case
-oddLoop = record {
+unfoldable pub odd_loop : Case
+odd_loop = record {
   records =
       rec 1 (1 ∷ []) ∷ rec 4 (7 ∷ 0 ∷ 0 ∷ 0 ∷ 0 ∷ []) ∷ rec 5 (0 ∷ []) ∷ [];
   damaged = [];
@@ -151,8 +151,8 @@ oddLoop = record {
 }
 
 -- Head 2
-unfoldable pub headTwo : Case
-headTwo = record {
+unfoldable pub head_two : Case
+head_two = record {
   records =
       rec 1 (2 ∷ []) ∷ [];
   damaged = [];
@@ -161,8 +161,8 @@ headTwo = record {
 }
 
 -- one end without vertex
-unfoldable pub halfRing : Case
-halfRing = record {
+unfoldable pub half_ring : Case
+half_ring = record {
   records =
       rec 1 (1 ∷ []) ∷ rec 2 (0 ∷ []) ∷ rec 3 (5 ∷ 0 ∷ 0 ∷ unset ∷ []) ∷ [];
   damaged = [];
@@ -171,8 +171,8 @@ halfRing = record {
 }
 
 -- edge sense 2
-unfoldable pub edgeSense : Case
-edgeSense = record {
+unfoldable pub edge_sense : Case
+edge_sense = record {
   records =
       rec 1 (1 ∷ []) ∷ rec 3 (5 ∷ 2 ∷ unset ∷ unset ∷ []) ∷ [];
   damaged = [];
@@ -181,8 +181,8 @@ edgeSense = record {
 }
 
 -- selected sense 2
-unfoldable pub faceSense : Case
-faceSense = record {
+unfoldable pub face_sense : Case
+face_sense = record {
   records =
       rec 1 (1 ∷ []) ∷ rec 4 (7 ∷ 0 ∷ 2 ∷ 0 ∷ 0 ∷ []) ∷ [];
   damaged = [];
@@ -191,8 +191,8 @@ faceSense = record {
 }
 
 -- no such edge
-unfoldable pub loopEdge : Case
-loopEdge = record {
+unfoldable pub loop_edge : Case
+loop_edge = record {
   records =
       rec 1 (1 ∷ []) ∷ rec 4 (7 ∷ 0 ∷ 0 ∷ 0 ∷ 0 ∷ []) ∷ rec 5 (0 ∷ 0 ∷ []) ∷ [];
   damaged = [];
@@ -201,8 +201,8 @@ loopEdge = record {
 }
 
 -- no such vertex
-unfoldable pub loopVertex : Case
-loopVertex = record {
+unfoldable pub loop_vertex : Case
+loop_vertex = record {
   records =
       rec 1 (1 ∷ []) ∷ rec 4 (7 ∷ 0 ∷ 0 ∷ 0 ∷ 0 ∷ []) ∷ rec 6 (0 ∷ []) ∷ [];
   damaged = [];
@@ -211,8 +211,8 @@ loopVertex = record {
 }
 
 -- equal points
-unfoldable pub pointsEqual : Case
-pointsEqual = record {
+unfoldable pub points_equal : Case
+points_equal = record {
   records =
       rec 1 (1 ∷ []) ∷ rec 9 (3 ∷ 3 ∷ 1 ∷ []) ∷ [];
   damaged = [];
@@ -221,8 +221,8 @@ pointsEqual = record {
 }
 
 -- lower face not less than higher
-unfoldable pub singularOrder : Case
-singularOrder = record {
+unfoldable pub singular_order : Case
+singular_order = record {
   records =
       rec 1 (1 ∷ []) ∷ rec 4 (7 ∷ 0 ∷ 0 ∷ 0 ∷ 0 ∷ []) ∷ rec 4 (8 ∷ 0 ∷ 0 ∷ 0 ∷ 1 ∷ []) ∷ rec 11 (5 ∷ 1 ∷ 1 ∷ 0 ∷ 0 ∷ []) ∷ [];
   damaged = [];
@@ -231,8 +231,8 @@ singularOrder = record {
 }
 
 -- a question answered before, in the other order
-unfoldable pub pointsTwice : Case
-pointsTwice = record {
+unfoldable pub points_twice : Case
+points_twice = record {
   records =
       rec 1 (1 ∷ []) ∷ rec 9 (3 ∷ 4 ∷ 1 ∷ []) ∷ rec 9 (4 ∷ 3 ∷ 0 ∷ []) ∷ [];
   damaged = [];
@@ -241,8 +241,8 @@ pointsTwice = record {
 }
 
 -- unasked answers are ignored
-unfoldable pub emptyUnasked : Case
-emptyUnasked = record {
+unfoldable pub empty_unasked : Case
+empty_unasked = record {
   records =
       rec 1 (0 ∷ []) ∷ rec 9 (3 ∷ 4 ∷ 1 ∷ []) ∷ rec 10 (3 ∷ 4 ∷ 1 ∷ []) ∷ [];
   damaged = [];
@@ -252,8 +252,8 @@ emptyUnasked = record {
 }
 
 -- output too short
-unfoldable pub noRoom : Case
-noRoom = record {
+unfoldable pub no_room : Case
+no_room = record {
   records =
       rec 1 (1 ∷ []) ∷ [];
   damaged = [];
@@ -262,8 +262,8 @@ noRoom = record {
 }
 
 -- output just long enough
-unfoldable pub justRoom : Case
-justRoom = record {
+unfoldable pub just_room : Case
+just_room = record {
   records =
       rec 1 (1 ∷ []) ∷ [];
   damaged = [];
@@ -273,8 +273,8 @@ justRoom = record {
 }
 
 -- joint at two vertices
-unfoldable pub brokenJoint : Case
-brokenJoint = record {
+unfoldable pub broken_joint : Case
+broken_joint = record {
   records =
       rec 1 (1 ∷ []) ∷ rec 2 (0 ∷ []) ∷ rec 2 (1 ∷ []) ∷ rec 3 (5 ∷ 0 ∷ 0 ∷ 1 ∷ []) ∷ rec 3 (5 ∷ 0 ∷ 1 ∷ 0 ∷ []) ∷ rec 4 (7 ∷ 0 ∷ 0 ∷ 0 ∷ 0 ∷ []) ∷
       rec 5 (0 ∷ 0 ∷ 1 ∷ 1 ∷ []) ∷ [];
@@ -284,8 +284,8 @@ brokenJoint = record {
 }
 
 -- no radial answer
-unfoldable pub radialMissing : Case
-radialMissing = record {
+unfoldable pub radial_missing : Case
+radial_missing = record {
   records =
       rec 1 (1 ∷ []) ∷ rec 3 (5 ∷ 0 ∷ unset ∷ unset ∷ []) ∷ rec 4 (7 ∷ 0 ∷ 0 ∷ 0 ∷ 0 ∷ []) ∷ rec 5 (0 ∷ 0 ∷ []) ∷ rec 4 (8 ∷ 0 ∷ 0 ∷ 0 ∷ 1 ∷ []) ∷
       rec 5 (0 ∷ 1 ∷ []) ∷
@@ -296,8 +296,8 @@ radialMissing = record {
 }
 
 -- radial order undecided
-unfoldable pub radialOpen : Case
-radialOpen = record {
+unfoldable pub radial_open : Case
+radial_open = record {
   records =
       rec 1 (1 ∷ []) ∷ rec 3 (5 ∷ 0 ∷ unset ∷ unset ∷ []) ∷ rec 4 (7 ∷ 0 ∷ 0 ∷ 0 ∷ 0 ∷ []) ∷ rec 5 (0 ∷ 0 ∷ []) ∷ rec 4 (8 ∷ 0 ∷ 0 ∷ 0 ∷ 1 ∷ []) ∷
       rec 5 (0 ∷ 1 ∷ []) ∷
@@ -308,8 +308,8 @@ radialOpen = record {
 }
 
 -- radial list leaves a use out
-unfoldable pub radialShort : Case
-radialShort = record {
+unfoldable pub radial_short : Case
+radial_short = record {
   records =
       rec 1 (1 ∷ []) ∷ rec 3 (5 ∷ 0 ∷ unset ∷ unset ∷ []) ∷ rec 4 (7 ∷ 0 ∷ 0 ∷ 0 ∷ 0 ∷ []) ∷ rec 5 (0 ∷ 0 ∷ []) ∷ rec 4 (8 ∷ 0 ∷ 0 ∷ 0 ∷ 1 ∷ []) ∷
       rec 5 (0 ∷ 1 ∷ []) ∷
@@ -320,8 +320,8 @@ radialShort = record {
 }
 
 -- radial list has a use twice
-unfoldable pub radialTwice : Case
-radialTwice = record {
+unfoldable pub radial_twice : Case
+radial_twice = record {
   records =
       rec 1 (1 ∷ []) ∷ rec 3 (5 ∷ 0 ∷ unset ∷ unset ∷ []) ∷ rec 4 (7 ∷ 0 ∷ 0 ∷ 0 ∷ 0 ∷ []) ∷ rec 5 (0 ∷ 0 ∷ []) ∷ rec 4 (8 ∷ 0 ∷ 0 ∷ 0 ∷ 1 ∷ []) ∷
       rec 5 (0 ∷ 1 ∷ []) ∷
@@ -332,8 +332,8 @@ radialTwice = record {
 }
 
 -- Same after Same
-unfoldable pub sameSame : Case
-sameSame = record {
+unfoldable pub same_same : Case
+same_same = record {
   records =
       rec 1 (1 ∷ []) ∷ rec 3 (5 ∷ 0 ∷ unset ∷ unset ∷ []) ∷ rec 4 (7 ∷ 0 ∷ 0 ∷ 0 ∷ 0 ∷ []) ∷ rec 5 (0 ∷ 0 ∷ []) ∷ rec 4 (8 ∷ 0 ∷ 0 ∷ 0 ∷ 1 ∷ []) ∷
       rec 5 (0 ∷ 1 ∷ []) ∷
@@ -344,8 +344,8 @@ sameSame = record {
 }
 
 -- three Reversed and one Same
-unfoldable pub loneUse : Case
-loneUse = record {
+unfoldable pub lone_use : Case
+lone_use = record {
   records =
       rec 1 (1 ∷ []) ∷ rec 3 (5 ∷ 0 ∷ unset ∷ unset ∷ []) ∷ rec 4 (7 ∷ 0 ∷ 0 ∷ 0 ∷ 0 ∷ []) ∷ rec 5 (0 ∷ 0 ∷ []) ∷ rec 4 (8 ∷ 0 ∷ 0 ∷ 0 ∷ 1 ∷ []) ∷
       rec 5 (0 ∷ 1 ∷ []) ∷
@@ -356,8 +356,8 @@ loneUse = record {
 }
 
 -- three uses
-unfoldable pub threeUses : Case
-threeUses = record {
+unfoldable pub three_uses : Case
+three_uses = record {
   records =
       rec 1 (1 ∷ []) ∷ rec 3 (5 ∷ 0 ∷ unset ∷ unset ∷ []) ∷ rec 4 (7 ∷ 0 ∷ 0 ∷ 0 ∷ 0 ∷ []) ∷ rec 5 (0 ∷ 0 ∷ []) ∷ rec 4 (8 ∷ 0 ∷ 0 ∷ 0 ∷ 1 ∷ []) ∷
       rec 5 (0 ∷ 1 ∷ []) ∷
@@ -368,8 +368,8 @@ threeUses = record {
 }
 
 -- surface unanswered
-unfoldable pub surfaceMissing : Case
-surfaceMissing = record {
+unfoldable pub surface_missing : Case
+surface_missing = record {
   records =
       rec 1 (1 ∷ []) ∷ rec 3 (5 ∷ 0 ∷ unset ∷ unset ∷ []) ∷ rec 4 (7 ∷ 0 ∷ 0 ∷ 0 ∷ 0 ∷ []) ∷ rec 5 (0 ∷ 0 ∷ []) ∷ rec 4 (8 ∷ 0 ∷ 0 ∷ 0 ∷ 1 ∷ []) ∷
       rec 5 (0 ∷ 1 ∷ []) ∷ [];
@@ -379,8 +379,8 @@ surfaceMissing = record {
 }
 
 -- surface undecided
-unfoldable pub surfaceOpen : Case
-surfaceOpen = record {
+unfoldable pub surface_open : Case
+surface_open = record {
   records =
       rec 1 (1 ∷ []) ∷ rec 3 (5 ∷ 0 ∷ unset ∷ unset ∷ []) ∷ rec 4 (7 ∷ 0 ∷ 0 ∷ 0 ∷ 0 ∷ []) ∷ rec 5 (0 ∷ 0 ∷ []) ∷ rec 4 (8 ∷ 0 ∷ 0 ∷ 0 ∷ 1 ∷ []) ∷
       rec 5 (0 ∷ 1 ∷ []) ∷
@@ -391,8 +391,8 @@ surfaceOpen = record {
 }
 
 -- normals vanish
-unfoldable pub surfaceVanish : Case
-surfaceVanish = record {
+unfoldable pub surface_vanish : Case
+surface_vanish = record {
   records =
       rec 1 (1 ∷ []) ∷ rec 3 (5 ∷ 0 ∷ unset ∷ unset ∷ []) ∷ rec 4 (7 ∷ 0 ∷ 0 ∷ 0 ∷ 0 ∷ []) ∷ rec 5 (0 ∷ 0 ∷ []) ∷ rec 4 (8 ∷ 0 ∷ 0 ∷ 0 ∷ 1 ∷ []) ∷
       rec 5 (0 ∷ 1 ∷ []) ∷
@@ -403,8 +403,8 @@ surfaceVanish = record {
 }
 
 -- two shells touch along an edge
-unfoldable pub twoShells : Case
-twoShells = record {
+unfoldable pub two_shells : Case
+two_shells = record {
   records =
       rec 1 (1 ∷ []) ∷ rec 3 (5 ∷ 0 ∷ unset ∷ unset ∷ []) ∷ rec 4 (7 ∷ 0 ∷ 0 ∷ 0 ∷ 0 ∷ []) ∷ rec 5 (0 ∷ 0 ∷ []) ∷ rec 4 (8 ∷ 0 ∷ 0 ∷ 0 ∷ 1 ∷ []) ∷
       rec 5 (0 ∷ 1 ∷ []) ∷
@@ -422,8 +422,8 @@ twoShells = record {
 }
 
 -- orientation unanswered
-unfoldable pub orientMissing : Case
-orientMissing = record {
+unfoldable pub orient_missing : Case
+orient_missing = record {
   records =
       rec 1 (0 ∷ []) ∷ rec 3 (5 ∷ 0 ∷ unset ∷ unset ∷ []) ∷ rec 4 (7 ∷ 0 ∷ 0 ∷ 0 ∷ 0 ∷ []) ∷ rec 5 (0 ∷ 0 ∷ []) ∷ rec 4 (8 ∷ 0 ∷ 0 ∷ 0 ∷ 1 ∷ []) ∷
       rec 5 (0 ∷ 1 ∷ []) ∷
@@ -436,8 +436,8 @@ orientMissing = record {
 }
 
 -- second orientation undecided
-unfoldable pub orientSecond : Case
-orientSecond = record {
+unfoldable pub orient_second : Case
+orient_second = record {
   records =
       rec 1 (0 ∷ []) ∷ rec 3 (5 ∷ 0 ∷ unset ∷ unset ∷ []) ∷ rec 4 (7 ∷ 0 ∷ 0 ∷ 0 ∷ 0 ∷ []) ∷ rec 5 (0 ∷ 0 ∷ []) ∷ rec 4 (8 ∷ 0 ∷ 0 ∷ 0 ∷ 1 ∷ []) ∷
       rec 5 (0 ∷ 1 ∷ []) ∷
@@ -450,8 +450,8 @@ orientSecond = record {
 }
 
 -- void without an outer shell
-unfoldable pub voidAlone : Case
-voidAlone = record {
+unfoldable pub void_alone : Case
+void_alone = record {
   records =
       rec 1 (0 ∷ []) ∷ rec 3 (5 ∷ 0 ∷ unset ∷ unset ∷ []) ∷ rec 4 (7 ∷ 0 ∷ 0 ∷ 0 ∷ 0 ∷ []) ∷ rec 5 (0 ∷ 0 ∷ []) ∷ rec 4 (8 ∷ 0 ∷ 0 ∷ 0 ∷ 1 ∷ []) ∷
       rec 5 (0 ∷ 1 ∷ []) ∷
@@ -464,8 +464,8 @@ voidAlone = record {
 }
 
 -- inside unanswered
-unfoldable pub insideMissing : Case
-insideMissing = record {
+unfoldable pub inside_missing : Case
+inside_missing = record {
   records =
       rec 1 (0 ∷ []) ∷ rec 3 (5 ∷ 0 ∷ unset ∷ unset ∷ []) ∷ rec 4 (7 ∷ 0 ∷ 0 ∷ 0 ∷ 0 ∷ []) ∷ rec 5 (0 ∷ 0 ∷ []) ∷ rec 4 (8 ∷ 0 ∷ 0 ∷ 0 ∷ 1 ∷ []) ∷
       rec 5 (0 ∷ 1 ∷ []) ∷
@@ -478,8 +478,8 @@ insideMissing = record {
 }
 
 -- void outside the one outer shell
-unfoldable pub notInside : Case
-notInside = record {
+unfoldable pub not_inside : Case
+not_inside = record {
   records =
       rec 1 (0 ∷ []) ∷ rec 3 (5 ∷ 0 ∷ unset ∷ unset ∷ []) ∷ rec 4 (7 ∷ 0 ∷ 0 ∷ 0 ∷ 0 ∷ []) ∷ rec 5 (0 ∷ 0 ∷ []) ∷ rec 4 (8 ∷ 0 ∷ 0 ∷ 0 ∷ 1 ∷ []) ∷
       rec 5 (0 ∷ 1 ∷ []) ∷
@@ -492,8 +492,8 @@ notInside = record {
 }
 
 -- two pairs of an edge in one lump
-unfoldable pub edgeInLump : Case
-edgeInLump = record {
+unfoldable pub edge_in_lump : Case
+edge_in_lump = record {
   records =
       rec 1 (0 ∷ []) ∷ rec 3 (5 ∷ 0 ∷ unset ∷ unset ∷ []) ∷ rec 4 (7 ∷ 0 ∷ 0 ∷ 0 ∷ 0 ∷ []) ∷ rec 5 (0 ∷ 0 ∷ []) ∷ rec 4 (8 ∷ 0 ∷ 0 ∷ 0 ∷ 1 ∷ []) ∷
       rec 5 (0 ∷ 1 ∷ []) ∷
@@ -506,8 +506,8 @@ edgeInLump = record {
 }
 
 -- two pairs of an edge in one boundary
-unfoldable pub edgeInBound : Case
-edgeInBound = record {
+unfoldable pub edge_in_bound : Case
+edge_in_bound = record {
   records =
       rec 1 (1 ∷ []) ∷ rec 3 (5 ∷ 0 ∷ unset ∷ unset ∷ []) ∷ rec 3 (6 ∷ 0 ∷ unset ∷ unset ∷ []) ∷ rec 4 (7 ∷ 0 ∷ 0 ∷ 0 ∷ 0 ∷ []) ∷ rec 5 (0 ∷ 0 ∷ []) ∷
       rec 5 (1 ∷ 0 ∷ []) ∷ rec 4 (8 ∷ 0 ∷ 0 ∷ 0 ∷ 1 ∷ []) ∷ rec 5 (0 ∷ 1 ∷ []) ∷ rec 4 (9 ∷ 0 ∷ 0 ∷ 0 ∷ 2 ∷ []) ∷ rec 5 (0 ∷ 0 ∷ []) ∷ rec 5 (1 ∷ 1 ∷ []) ∷
@@ -518,8 +518,8 @@ edgeInBound = record {
 }
 
 -- two fans at a point in one boundary
-unfoldable pub pointInBound : Case
-pointInBound = record {
+unfoldable pub point_in_bound : Case
+point_in_bound = record {
   records =
       rec 1 (1 ∷ []) ∷ rec 2 (4 ∷ []) ∷ rec 2 (4 ∷ []) ∷ rec 3 (5 ∷ 0 ∷ 0 ∷ 0 ∷ []) ∷ rec 3 (6 ∷ 0 ∷ 1 ∷ 1 ∷ []) ∷ rec 4 (7 ∷ 0 ∷ 0 ∷ 0 ∷ 0 ∷ []) ∷
       rec 5 (0 ∷ 0 ∷ []) ∷ rec 5 (1 ∷ 0 ∷ []) ∷ rec 4 (8 ∷ 0 ∷ 0 ∷ 0 ∷ 1 ∷ []) ∷ rec 5 (0 ∷ 1 ∷ []) ∷ rec 5 (1 ∷ 1 ∷ []) ∷ rec 8 (0 ∷ 0 ∷ []) ∷
@@ -530,8 +530,8 @@ pointInBound = record {
 }
 
 -- singular unanswered
-unfoldable pub singularMissing : Case
-singularMissing = record {
+unfoldable pub singular_missing : Case
+singular_missing = record {
   records =
       rec 1 (1 ∷ []) ∷ rec 2 (4 ∷ []) ∷ rec 2 (4 ∷ []) ∷ rec 3 (5 ∷ 0 ∷ 0 ∷ 0 ∷ []) ∷ rec 3 (6 ∷ 0 ∷ 1 ∷ 1 ∷ []) ∷ rec 4 (7 ∷ 0 ∷ 0 ∷ 0 ∷ 0 ∷ []) ∷
       rec 5 (0 ∷ 0 ∷ []) ∷ rec 4 (8 ∷ 0 ∷ 0 ∷ 0 ∷ 1 ∷ []) ∷ rec 5 (0 ∷ 1 ∷ []) ∷ rec 4 (9 ∷ 0 ∷ 0 ∷ 0 ∷ 2 ∷ []) ∷ rec 5 (1 ∷ 0 ∷ []) ∷
@@ -543,8 +543,8 @@ singularMissing = record {
 }
 
 -- singular undecided
-unfoldable pub singularOpen : Case
-singularOpen = record {
+unfoldable pub singular_open : Case
+singular_open = record {
   records =
       rec 1 (1 ∷ []) ∷ rec 2 (4 ∷ []) ∷ rec 2 (4 ∷ []) ∷ rec 3 (5 ∷ 0 ∷ 0 ∷ 0 ∷ []) ∷ rec 3 (6 ∷ 0 ∷ 1 ∷ 1 ∷ []) ∷ rec 4 (7 ∷ 0 ∷ 0 ∷ 0 ∷ 0 ∷ []) ∷
       rec 5 (0 ∷ 0 ∷ []) ∷ rec 4 (8 ∷ 0 ∷ 0 ∷ 0 ∷ 1 ∷ []) ∷ rec 5 (0 ∷ 1 ∷ []) ∷ rec 4 (9 ∷ 0 ∷ 0 ∷ 0 ∷ 2 ∷ []) ∷ rec 5 (1 ∷ 0 ∷ []) ∷
@@ -556,8 +556,8 @@ singularOpen = record {
 }
 
 -- two lumps meet at a point
-unfoldable pub pointShared : Case
-pointShared = record {
+unfoldable pub point_shared : Case
+point_shared = record {
   records =
       rec 1 (1 ∷ []) ∷ rec 2 (4 ∷ []) ∷ rec 2 (4 ∷ []) ∷ rec 3 (5 ∷ 0 ∷ 0 ∷ 0 ∷ []) ∷ rec 3 (6 ∷ 0 ∷ 1 ∷ 1 ∷ []) ∷ rec 4 (7 ∷ 0 ∷ 0 ∷ 0 ∷ 0 ∷ []) ∷
       rec 5 (0 ∷ 0 ∷ []) ∷ rec 4 (8 ∷ 0 ∷ 0 ∷ 0 ∷ 1 ∷ []) ∷ rec 5 (0 ∷ 1 ∷ []) ∷ rec 4 (9 ∷ 0 ∷ 0 ∷ 0 ∷ 2 ∷ []) ∷ rec 5 (1 ∷ 0 ∷ []) ∷
@@ -574,8 +574,8 @@ pointShared = record {
 }
 
 -- two fans at a point in one lump
-unfoldable pub pointInLump : Case
-pointInLump = record {
+unfoldable pub point_in_lump : Case
+point_in_lump = record {
   records =
       rec 1 (0 ∷ []) ∷ rec 2 (4 ∷ []) ∷ rec 2 (4 ∷ []) ∷ rec 3 (5 ∷ 0 ∷ 0 ∷ 0 ∷ []) ∷ rec 3 (6 ∷ 0 ∷ 1 ∷ 1 ∷ []) ∷ rec 4 (7 ∷ 0 ∷ 0 ∷ 0 ∷ 0 ∷ []) ∷
       rec 5 (0 ∷ 0 ∷ []) ∷ rec 4 (8 ∷ 0 ∷ 0 ∷ 0 ∷ 1 ∷ []) ∷ rec 5 (0 ∷ 1 ∷ []) ∷ rec 4 (9 ∷ 0 ∷ 0 ∷ 0 ∷ 2 ∷ []) ∷ rec 5 (1 ∷ 0 ∷ []) ∷
@@ -588,8 +588,8 @@ pointInLump = record {
 }
 
 -- a void in its lump
-unfoldable pub voidInside : Case
-voidInside = record {
+unfoldable pub void_inside : Case
+void_inside = record {
   records =
       rec 1 (0 ∷ []) ∷ rec 2 (4 ∷ []) ∷ rec 2 (5 ∷ []) ∷ rec 3 (5 ∷ 0 ∷ 0 ∷ 0 ∷ []) ∷ rec 3 (6 ∷ 0 ∷ 1 ∷ 1 ∷ []) ∷ rec 4 (7 ∷ 0 ∷ 0 ∷ 0 ∷ 0 ∷ []) ∷
       rec 5 (0 ∷ 0 ∷ []) ∷ rec 4 (8 ∷ 0 ∷ 0 ∷ 0 ∷ 1 ∷ []) ∷ rec 5 (0 ∷ 1 ∷ []) ∷ rec 4 (9 ∷ 0 ∷ 0 ∷ 0 ∷ 2 ∷ []) ∷ rec 5 (1 ∷ 0 ∷ []) ∷
@@ -655,8 +655,8 @@ opposed = record {
 }
 
 -- opposed surfaces, stored senses equal
-unfoldable pub opposedSame : Case
-opposedSame = record {
+unfoldable pub opposed_same : Case
+opposed_same = record {
   records =
       rec 1 (1 ∷ []) ∷ rec 3 (5 ∷ 0 ∷ unset ∷ unset ∷ []) ∷ rec 4 (7 ∷ 0 ∷ 0 ∷ 0 ∷ 0 ∷ []) ∷ rec 5 (0 ∷ 0 ∷ []) ∷ rec 4 (7 ∷ 0 ∷ 0 ∷ 0 ∷ 1 ∷ []) ∷
       rec 5 (0 ∷ 1 ∷ []) ∷
@@ -670,8 +670,8 @@ opposedSame = record {
 }
 
 -- points unanswered
-unfoldable pub pointsMissing : Case
-pointsMissing = record {
+unfoldable pub points_missing : Case
+points_missing = record {
   records =
       rec 1 (1 ∷ []) ∷ rec 2 (3 ∷ []) ∷ rec 2 (4 ∷ []) ∷ rec 2 (3 ∷ []) ∷ rec 3 (5 ∷ 0 ∷ unset ∷ unset ∷ []) ∷ rec 4 (7 ∷ 0 ∷ 0 ∷ 0 ∷ 0 ∷ []) ∷
       rec 5 (0 ∷ 0 ∷ []) ∷ rec 6 (0 ∷ []) ∷ rec 4 (7 ∷ 0 ∷ 0 ∷ 0 ∷ 1 ∷ []) ∷ rec 6 (1 ∷ []) ∷ rec 5 (0 ∷ 1 ∷ []) ∷ rec 6 (2 ∷ []) ∷ rec 8 (0 ∷ 1 ∷ []) ∷ [];
@@ -681,8 +681,8 @@ pointsMissing = record {
 }
 
 -- one vertex loop of three is kept
-unfoldable pub pointsSame : Case
-pointsSame = record {
+unfoldable pub points_same : Case
+points_same = record {
   records =
       rec 1 (1 ∷ []) ∷ rec 2 (3 ∷ []) ∷ rec 2 (4 ∷ []) ∷ rec 2 (3 ∷ []) ∷ rec 3 (5 ∷ 0 ∷ unset ∷ unset ∷ []) ∷ rec 4 (7 ∷ 0 ∷ 0 ∷ 0 ∷ 0 ∷ []) ∷
       rec 5 (0 ∷ 0 ∷ []) ∷ rec 6 (0 ∷ []) ∷ rec 4 (7 ∷ 0 ∷ 0 ∷ 0 ∷ 1 ∷ []) ∷ rec 6 (1 ∷ []) ∷ rec 5 (0 ∷ 1 ∷ []) ∷ rec 6 (2 ∷ []) ∷ rec 8 (0 ∷ 1 ∷ []) ∷
@@ -694,8 +694,8 @@ pointsSame = record {
 }
 
 -- two vertex loops are kept
-unfoldable pub pointsDiffer : Case
-pointsDiffer = record {
+unfoldable pub points_differ : Case
+points_differ = record {
   records =
       rec 1 (1 ∷ []) ∷ rec 2 (3 ∷ []) ∷ rec 2 (4 ∷ []) ∷ rec 2 (3 ∷ []) ∷ rec 3 (5 ∷ 0 ∷ unset ∷ unset ∷ []) ∷ rec 4 (7 ∷ 0 ∷ 0 ∷ 0 ∷ 0 ∷ []) ∷
       rec 5 (0 ∷ 0 ∷ []) ∷ rec 6 (0 ∷ []) ∷ rec 4 (7 ∷ 0 ∷ 0 ∷ 0 ∷ 1 ∷ []) ∷ rec 6 (1 ∷ []) ∷ rec 5 (0 ∷ 1 ∷ []) ∷ rec 6 (2 ∷ []) ∷ rec 8 (0 ∷ 1 ∷ []) ∷
@@ -708,8 +708,8 @@ pointsDiffer = record {
 }
 
 -- in two faces nothing is asked but inside each
-unfoldable pub pointsApart : Case
-pointsApart = record {
+unfoldable pub points_apart : Case
+points_apart = record {
   records =
       rec 1 (1 ∷ []) ∷ rec 2 (3 ∷ []) ∷ rec 2 (4 ∷ []) ∷ rec 2 (3 ∷ []) ∷ rec 3 (5 ∷ 0 ∷ unset ∷ unset ∷ []) ∷ rec 4 (7 ∷ 0 ∷ 0 ∷ 0 ∷ 0 ∷ []) ∷
       rec 5 (0 ∷ 0 ∷ []) ∷ rec 6 (0 ∷ []) ∷ rec 4 (7 ∷ 0 ∷ 0 ∷ 0 ∷ 1 ∷ []) ∷ rec 6 (1 ∷ []) ∷ rec 5 (0 ∷ 1 ∷ []) ∷ rec 6 (2 ∷ []) ∷ rec 8 (0 ∷ 0 ∷ []) ∷ [];
@@ -719,8 +719,8 @@ pointsApart = record {
 }
 
 -- four edges become a ring
-unfoldable pub fourJoined : Case
-fourJoined = record {
+unfoldable pub four_joined : Case
+four_joined = record {
   records =
       rec 1 (1 ∷ []) ∷ rec 2 (0 ∷ []) ∷ rec 2 (1 ∷ []) ∷ rec 2 (2 ∷ []) ∷ rec 2 (3 ∷ []) ∷ rec 3 (5 ∷ 0 ∷ 0 ∷ 1 ∷ []) ∷ rec 3 (5 ∷ 0 ∷ 1 ∷ 2 ∷ []) ∷
       rec 3 (5 ∷ 0 ∷ 2 ∷ 3 ∷ []) ∷ rec 3 (5 ∷ 0 ∷ 3 ∷ 0 ∷ []) ∷ rec 4 (7 ∷ 0 ∷ 0 ∷ 0 ∷ 0 ∷ []) ∷ rec 5 (0 ∷ 0 ∷ 1 ∷ 0 ∷ 2 ∷ 0 ∷ 3 ∷ 0 ∷ []) ∷
@@ -736,8 +736,8 @@ fourJoined = record {
 }
 
 -- two uses passed over at once
-unfoldable pub passTwice : Case
-passTwice = record {
+unfoldable pub pass_twice : Case
+pass_twice = record {
   records =
       rec 1 (1 ∷ []) ∷ rec 2 (0 ∷ []) ∷ rec 2 (1 ∷ []) ∷ rec 2 (2 ∷ []) ∷ rec 2 (3 ∷ []) ∷ rec 2 (4 ∷ []) ∷ rec 3 (10 ∷ 0 ∷ 0 ∷ 1 ∷ []) ∷
       rec 3 (11 ∷ 0 ∷ 1 ∷ 2 ∷ []) ∷ rec 3 (12 ∷ 0 ∷ 2 ∷ 3 ∷ []) ∷ rec 3 (13 ∷ 0 ∷ 3 ∷ 4 ∷ []) ∷ rec 3 (14 ∷ 0 ∷ 4 ∷ 0 ∷ []) ∷ rec 3 (20 ∷ 0 ∷ 0 ∷ 2 ∷ []) ∷
@@ -757,8 +757,8 @@ passTwice = record {
 }
 
 -- curves unanswered at the third corner
-unfoldable pub curvesMissing : Case
-curvesMissing = record {
+unfoldable pub curves_missing : Case
+curves_missing = record {
   records =
       rec 1 (1 ∷ []) ∷ rec 2 (0 ∷ []) ∷ rec 2 (1 ∷ []) ∷ rec 2 (2 ∷ []) ∷ rec 2 (3 ∷ []) ∷ rec 2 (4 ∷ []) ∷ rec 3 (10 ∷ 0 ∷ 0 ∷ 1 ∷ []) ∷
       rec 3 (11 ∷ 0 ∷ 1 ∷ 2 ∷ []) ∷ rec 3 (12 ∷ 0 ∷ 2 ∷ 3 ∷ []) ∷ rec 3 (13 ∷ 0 ∷ 3 ∷ 4 ∷ []) ∷ rec 3 (14 ∷ 0 ∷ 4 ∷ 0 ∷ []) ∷ rec 3 (20 ∷ 0 ∷ 0 ∷ 2 ∷ []) ∷
@@ -772,8 +772,8 @@ curvesMissing = record {
 }
 
 -- curves undecided
-unfoldable pub curvesOpen : Case
-curvesOpen = record {
+unfoldable pub curves_open : Case
+curves_open = record {
   records =
       rec 1 (1 ∷ []) ∷ rec 2 (0 ∷ []) ∷ rec 2 (1 ∷ []) ∷ rec 2 (2 ∷ []) ∷ rec 2 (3 ∷ []) ∷ rec 2 (4 ∷ []) ∷ rec 3 (10 ∷ 0 ∷ 0 ∷ 1 ∷ []) ∷
       rec 3 (11 ∷ 0 ∷ 1 ∷ 2 ∷ []) ∷ rec 3 (12 ∷ 0 ∷ 2 ∷ 3 ∷ []) ∷ rec 3 (13 ∷ 0 ∷ 3 ∷ 4 ∷ []) ∷ rec 3 (14 ∷ 0 ∷ 4 ∷ 0 ∷ []) ∷ rec 3 (20 ∷ 0 ∷ 0 ∷ 2 ∷ []) ∷
@@ -787,8 +787,8 @@ curvesOpen = record {
 }
 
 -- an edge and a vertex without uses
-unfoldable pub unusedEdge : Case
-unusedEdge = record {
+unfoldable pub unused_edge : Case
+unused_edge = record {
   records =
       rec 1 (1 ∷ []) ∷ rec 2 (9 ∷ []) ∷ rec 3 (4 ∷ 0 ∷ 0 ∷ 0 ∷ []) ∷ rec 3 (5 ∷ 0 ∷ unset ∷ unset ∷ []) ∷ rec 4 (7 ∷ 0 ∷ 0 ∷ 0 ∷ 0 ∷ []) ∷ rec 5 (1 ∷ 0 ∷ []) ∷
       rec 4 (8 ∷ 0 ∷ 0 ∷ 0 ∷ 1 ∷ []) ∷ rec 5 (1 ∷ 1 ∷ []) ∷ rec 8 (0 ∷ 0 ∷ []) ∷ [];
@@ -801,8 +801,8 @@ unusedEdge = record {
 }
 
 -- a vertex loop given before a loop comes after it
-unfoldable pub vertexLoopLast : Case
-vertexLoopLast = record {
+unfoldable pub vertex_loop_last : Case
+vertex_loop_last = record {
   records =
       rec 1 (1 ∷ []) ∷ rec 2 (9 ∷ []) ∷ rec 3 (5 ∷ 0 ∷ unset ∷ unset ∷ []) ∷ rec 4 (7 ∷ 0 ∷ 0 ∷ 0 ∷ 0 ∷ []) ∷ rec 6 (0 ∷ []) ∷ rec 5 (0 ∷ 0 ∷ []) ∷
       rec 4 (8 ∷ 0 ∷ 0 ∷ 0 ∷ 1 ∷ []) ∷ rec 5 (0 ∷ 1 ∷ []) ∷ rec 8 (0 ∷ 0 ∷ []) ∷ [];
@@ -815,8 +815,8 @@ vertexLoopLast = record {
 }
 
 -- a second radial answer
-unfoldable pub radialAgain : Case
-radialAgain = record {
+unfoldable pub radial_again : Case
+radial_again = record {
   records =
       rec 1 (1 ∷ []) ∷ rec 3 (5 ∷ 0 ∷ unset ∷ unset ∷ []) ∷ rec 4 (7 ∷ 0 ∷ 0 ∷ 0 ∷ 0 ∷ []) ∷ rec 5 (0 ∷ 0 ∷ []) ∷ rec 4 (8 ∷ 0 ∷ 0 ∷ 0 ∷ 1 ∷ []) ∷
       rec 5 (0 ∷ 1 ∷ []) ∷
@@ -828,8 +828,8 @@ radialAgain = record {
 }
 
 -- 32 comes before 33
-unfoldable pub pointBeforeEdge : Case
-pointBeforeEdge = record {
+unfoldable pub point_before_edge : Case
+point_before_edge = record {
   records =
       rec 1 (0 ∷ []) ∷ rec 2 (4 ∷ []) ∷ rec 2 (4 ∷ []) ∷ rec 3 (5 ∷ 0 ∷ 0 ∷ 0 ∷ []) ∷ rec 3 (6 ∷ 0 ∷ 1 ∷ 1 ∷ []) ∷ rec 3 (9 ∷ 0 ∷ unset ∷ unset ∷ []) ∷
       rec 4 (7 ∷ 0 ∷ 0 ∷ 0 ∷ 0 ∷ []) ∷ rec 5 (2 ∷ 0 ∷ []) ∷ rec 5 (0 ∷ 0 ∷ []) ∷ rec 4 (8 ∷ 0 ∷ 0 ∷ 0 ∷ 1 ∷ []) ∷ rec 5 (2 ∷ 1 ∷ []) ∷ rec 5 (0 ∷ 1 ∷ []) ∷
@@ -864,8 +864,8 @@ inner = record {
 }
 
 -- the later outer shell lies outside
-unfoldable pub outerKept : Case
-outerKept = record {
+unfoldable pub outer_kept : Case
+outer_kept = record {
   records =
       rec 1 (0 ∷ []) ∷ rec 3 (5 ∷ 0 ∷ unset ∷ unset ∷ []) ∷ rec 3 (6 ∷ 0 ∷ unset ∷ unset ∷ []) ∷ rec 3 (7 ∷ 0 ∷ unset ∷ unset ∷ []) ∷
       rec 4 (7 ∷ 0 ∷ 0 ∷ 0 ∷ 0 ∷ []) ∷ rec 5 (0 ∷ 0 ∷ []) ∷ rec 4 (8 ∷ 0 ∷ 0 ∷ 0 ∷ 1 ∷ []) ∷ rec 5 (0 ∷ 1 ∷ []) ∷ rec 4 (9 ∷ 0 ∷ 0 ∷ 0 ∷ 2 ∷ []) ∷
@@ -886,8 +886,8 @@ outerKept = record {
 }
 
 -- a void before its outer shell
-unfoldable pub voidFirst : Case
-voidFirst = record {
+unfoldable pub void_first : Case
+void_first = record {
   records =
       rec 1 (0 ∷ []) ∷ rec 3 (5 ∷ 0 ∷ unset ∷ unset ∷ []) ∷ rec 3 (6 ∷ 0 ∷ unset ∷ unset ∷ []) ∷ rec 3 (7 ∷ 0 ∷ unset ∷ unset ∷ []) ∷
       rec 4 (7 ∷ 0 ∷ 0 ∷ 0 ∷ 0 ∷ []) ∷ rec 5 (0 ∷ 0 ∷ []) ∷ rec 4 (8 ∷ 0 ∷ 0 ∷ 0 ∷ 1 ∷ []) ∷ rec 5 (0 ∷ 1 ∷ []) ∷ rec 4 (9 ∷ 0 ∷ 0 ∷ 0 ∷ 2 ∷ []) ∷
@@ -908,8 +908,8 @@ voidFirst = record {
 }
 
 -- a sense that is none in a loop whose joints are broken: fields come first
-unfoldable pub senseAndJoint : Case
-senseAndJoint = record {
+unfoldable pub sense_and_joint : Case
+sense_and_joint = record {
   records =
       rec 1 (1 ∷ []) ∷ rec 2 (0 ∷ []) ∷ rec 2 (1 ∷ []) ∷ rec 3 (5 ∷ 0 ∷ 0 ∷ 1 ∷ []) ∷ rec 3 (5 ∷ 0 ∷ 0 ∷ 1 ∷ []) ∷ rec 4 (7 ∷ 0 ∷ 0 ∷ 0 ∷ 0 ∷ []) ∷
       rec 5 (0 ∷ 0 ∷ 1 ∷ 0 ∷ 0 ∷ 5 ∷ []) ∷ [];
@@ -920,78 +920,78 @@ senseAndJoint = record {
 
 unfoldable pub cases : List Case
 cases =
-    emptyJob ∷
-    noHead ∷
-    cutHeader ∷
-    cutPayload ∷
-    cutHuge ∷
-    unknownKind ∷
-    twoHeads ∷
-    lateVertex ∷
-    looseLoop ∷
-    lateFace ∷
-    emptyLoop ∷
-    oddLoop ∷
-    headTwo ∷
-    halfRing ∷
-    edgeSense ∷
-    faceSense ∷
-    loopEdge ∷
-    loopVertex ∷
-    pointsEqual ∷
-    singularOrder ∷
-    pointsTwice ∷
-    emptyUnasked ∷
-    noRoom ∷
-    justRoom ∷
-    brokenJoint ∷
-    radialMissing ∷
-    radialOpen ∷
-    radialShort ∷
-    radialTwice ∷
-    sameSame ∷
-    loneUse ∷
-    threeUses ∷
-    surfaceMissing ∷
-    surfaceOpen ∷
-    surfaceVanish ∷
-    twoShells ∷
-    orientMissing ∷
-    orientSecond ∷
-    voidAlone ∷
-    insideMissing ∷
-    notInside ∷
-    edgeInLump ∷
-    edgeInBound ∷
-    pointInBound ∷
-    singularMissing ∷
-    singularOpen ∷
-    pointShared ∷
-    pointInLump ∷
-    voidInside ∷
+    empty_job ∷
+    no_head ∷
+    cut_header ∷
+    cut_payload ∷
+    cut_huge ∷
+    unknown_kind ∷
+    two_heads ∷
+    late_vertex ∷
+    loose_loop ∷
+    late_face ∷
+    empty_loop ∷
+    odd_loop ∷
+    head_two ∷
+    half_ring ∷
+    edge_sense ∷
+    face_sense ∷
+    loop_edge ∷
+    loop_vertex ∷
+    points_equal ∷
+    singular_order ∷
+    points_twice ∷
+    empty_unasked ∷
+    no_room ∷
+    just_room ∷
+    broken_joint ∷
+    radial_missing ∷
+    radial_open ∷
+    radial_short ∷
+    radial_twice ∷
+    same_same ∷
+    lone_use ∷
+    three_uses ∷
+    surface_missing ∷
+    surface_open ∷
+    surface_vanish ∷
+    two_shells ∷
+    orient_missing ∷
+    orient_second ∷
+    void_alone ∷
+    inside_missing ∷
+    not_inside ∷
+    edge_in_lump ∷
+    edge_in_bound ∷
+    point_in_bound ∷
+    singular_missing ∷
+    singular_open ∷
+    point_shared ∷
+    point_in_lump ∷
+    void_inside ∷
     seam ∷
     turned ∷
     opposed ∷
-    opposedSame ∷
-    pointsMissing ∷
-    pointsSame ∷
-    pointsDiffer ∷
-    pointsApart ∷
-    fourJoined ∷
-    passTwice ∷
-    curvesMissing ∷
-    curvesOpen ∷
-    unusedEdge ∷
-    vertexLoopLast ∷
-    radialAgain ∷
-    pointBeforeEdge ∷
+    opposed_same ∷
+    points_missing ∷
+    points_same ∷
+    points_differ ∷
+    points_apart ∷
+    four_joined ∷
+    pass_twice ∷
+    curves_missing ∷
+    curves_open ∷
+    unused_edge ∷
+    vertex_loop_last ∷
+    radial_again ∷
+    point_before_edge ∷
     inner ∷
-    outerKept ∷
-    voidFirst ∷
-    senseAndJoint ∷
+    outer_kept ∷
+    void_first ∷
+    sense_and_joint ∷
     []
 
 -- each case ends as it says
-pub cases-right : all right cases ≡ true
-unfolding computes cases senseAndJoint emptyJob noHead cutHeader cutPayload cutHuge unknownKind twoHeads lateVertex looseLoop lateFace emptyLoop oddLoop headTwo halfRing edgeSense faceSense loopEdge loopVertex pointsEqual singularOrder pointsTwice emptyUnasked noRoom justRoom brokenJoint radialMissing radialOpen radialShort radialTwice sameSame loneUse threeUses surfaceMissing surfaceOpen surfaceVanish twoShells orientMissing orientSecond voidAlone insideMissing notInside edgeInLump edgeInBound pointInBound singularMissing singularOpen pointShared pointInLump voidInside seam turned opposed opposedSame pointsMissing pointsSame pointsDiffer pointsApart fourJoined passTwice curvesMissing curvesOpen unusedEdge vertexLoopLast radialAgain pointBeforeEdge inner outerKept voidFirst
-cases-right = refl
+pub cases_right : all right cases ≡ true
+unfolding computes cases sense_and_joint empty_job no_head cut_header cut_payload cut_huge unknown_kind two_heads late_vertex loose_loop late_face empty_loop odd_loop head_two half_ring edge_sense face_sense loop_edge loop_vertex points_equal singular_order points_twice empty_unasked no_room just_room broken_joint radial_missing radial_open radial_short radial_twice same_same lone_use three_uses surface_missing surface_open surface_vanish two_shells orient_missing orient_second void_alone inside_missing not_inside edge_in_lump edge_in_bound point_in_bound singular_missing singular_open point_shared point_in_lump void_inside seam turned opposed opposed_same points_missing points_same points_differ points_apart four_joined pass_twice curves_missing curves_open unused_edge vertex_loop_last radial_again point_before_edge inner outer_kept void_first
+cases_right = refl

@@ -3,39 +3,39 @@ use Rattle.std.specs.Prelude.{ℕ, List, [], ◌∷◌, map, Bool, ◌&&◌, con
 use Rattle.lists.specs.Lists.{below, keep, some, repeats, least}
 use Rattle.rules.specs.declared.Use.{Use}
 use Rattle.rules.specs.Outcome.{Outcome, ok, refuse}
-use Rattle.rules.specs.Read.{faceOfUse}
-use Rattle.rules.specs.Pair.{usesOfEdge, twinOf}
-use Rattle.rules.specs.Groups.{labelOf}
-use Rattle.rules.specs.Fans.{fanPoint}
+use Rattle.rules.specs.Read.{face_of_use}
+use Rattle.rules.specs.Pair.{uses_of_edge, twin_of}
+use Rattle.rules.specs.Groups.{label_of}
+use Rattle.rules.specs.Fans.{fan_point}
 
 -- the label of a use's face
-abbrev pub useLabel : List Use → List ℕ → ℕ → ℕ
-useLabel us labels h = labelOf labels (faceOfUse us h)
+abbrev pub use_label : List Use → List ℕ → ℕ → ℕ
+use_label us labels h = label_of labels (face_of_use us h)
 
 -- h is the lower use of its pair
-abbrev pub isLowerUse : List ℕ → ℕ → Bool
-isLowerUse ts h = ltb h (twinOf ts h)
+abbrev pub is_lower_use : List ℕ → ℕ → Bool
+is_lower_use ts h = ltb h (twin_of ts h)
 
 -- the labels of the pairs among some uses
-abbrev pub pairLabels : List Use → List ℕ → List ℕ → List ℕ → List ℕ
-pairLabels us ts labels hs = map (useLabel us labels) (keep (isLowerUse ts) hs)
+abbrev pub pair_labels : List Use → List ℕ → List ℕ → List ℕ → List ℕ
+pair_labels us ts labels hs = map (use_label us labels) (keep (is_lower_use ts) hs)
 
 -- Endings, 30 and 33: an edge with more than two uses has two pairs of one label
-unfoldable pub edgeTouches : List Use → List ℕ → List ℕ → ℕ → Bool
-edgeTouches us ts labels e =
-    let hs = usesOfEdge us e in
-    ltb 2 (length hs) && repeats (pairLabels us ts labels hs)
+unfoldable pub edge_touches : List Use → List ℕ → List ℕ → ℕ → Bool
+edge_touches us ts labels e =
+    let hs = uses_of_edge us e in
+    ltb 2 (length hs) && repeats (pair_labels us ts labels hs)
 
 -- fans f and g stand at one point and have one label
 unfoldable pub touches : List Use → List ℕ → List ℕ → ℕ → ℕ → Bool
-touches us starts labels f g = eqb (fanPoint starts f) (fanPoint starts g) && eqb (useLabel us labels f) (useLabel us labels g)
+touches us starts labels f g = eqb (fan_point starts f) (fan_point starts g) && eqb (use_label us labels f) (use_label us labels g)
 
 -- Endings, 31 and 32: the points of the fans that touch a later one
-unfoldable pub contactPoints : List Use → List ℕ → List ℕ → List ℕ → List ℕ
-contactPoints us starts labels [] = []
-contactPoints us starts labels (f ∷ fs) =
-    let later = contactPoints us starts labels fs in
-    cond (some (touches us starts labels f) fs) (fanPoint starts f ∷ later) later
+unfoldable pub contact_points : List Use → List ℕ → List ℕ → List ℕ → List ℕ
+contact_points us starts labels [] = []
+contact_points us starts labels (f ∷ fs) =
+    let later = contact_points us starts labels fs in
+    cond (some (touches us starts labels f) fs) (fan_point starts f ∷ later) later
 
 -- Endings: contact tests ascend by point or edge, so the lowest place is given
 abbrev pub clear : ℕ → List ℕ → Outcome (Unit {0})
@@ -43,9 +43,9 @@ clear number [] = ok tt
 clear number (p ∷ ps) = refuse number (least (p ∷ ps) p)
 
 -- Endings, 30 and 33: edges ascending
-abbrev pub edgesClear : ℕ → List Use → List ℕ → List ℕ → ℕ → Outcome (Unit {0})
-edgesClear number us ts labels edges = clear number (keep (edgeTouches us ts labels) (below edges))
+abbrev pub edges_clear : ℕ → List Use → List ℕ → List ℕ → ℕ → Outcome (Unit {0})
+edges_clear number us ts labels edges = clear number (keep (edge_touches us ts labels) (below edges))
 
 -- Endings, 31 and 32: points ascending
-abbrev pub pointsClear : ℕ → List Use → List ℕ → List ℕ → List ℕ → Outcome (Unit {0})
-pointsClear number us starts labels names = clear number (contactPoints us starts labels names)
+abbrev pub points_clear : ℕ → List Use → List ℕ → List ℕ → List ℕ → Outcome (Unit {0})
+points_clear number us starts labels names = clear number (contact_points us starts labels names)

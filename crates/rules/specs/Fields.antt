@@ -11,9 +11,9 @@ unfoldable pub le32 : List ℕ → ℕ → ℕ
 le32 s p = get_or s p 0 + 256 * get_or s (p + 1) 0 + 65536 * get_or s (p + 2) 0 + 16777216 * get_or s (p + 3) 0
 
 -- Job records: the n four-byte fields at the front
-unfoldable pub fieldsIn : ℕ → List ℕ → List ℕ
-fieldsIn zero s = []
-fieldsIn (suc n) s = le32 s 0 ∷ fieldsIn n (drop 4 s)
+unfoldable pub fields_in : ℕ → List ℕ → List ℕ
+fields_in zero s = []
+fields_in (suc n) s = le32 s 0 ∷ fields_in n (drop 4 s)
 
 -- field i of a payload
 abbrev pub field : List ℕ → ℕ → ℕ
@@ -28,5 +28,5 @@ unfoldable pub bytes32 : ℕ → List ℕ
 bytes32 n = n % 256 ∷ n / 256 % 256 ∷ n / 65536 % 256 ∷ n / 16777216 % 256 ∷ []
 
 -- The stages: numbers as 4-byte little-endian fields, one after the other
-abbrev pub fieldBytes : List ℕ → List ℕ
-fieldBytes fs = flat_map bytes32 fs
+abbrev pub field_bytes : List ℕ → List ℕ
+field_bytes fs = flat_map bytes32 fs

@@ -5,8 +5,8 @@ use Rattle.rules.specs.declared.Sense.TheVariants.{Same, Reversed}
 use Rattle.rules.specs.declared.Edge.{Edge}
 use Rattle.rules.specs.declared.Face.{Face}
 use Rattle.rules.specs.declared.Item.{Item}
-use Rattle.rules.specs.Sense.{senseOf}
-use Rattle.rules.specs.Fields.{le32, fieldsIn}
+use Rattle.rules.specs.Sense.{sense_of}
+use Rattle.rules.specs.Fields.{le32, fields_in}
 
 -- the mark for no vertex, no fan, no twin
 abbrev pub unset : ℕ
@@ -14,8 +14,8 @@ unset = 4294967295
 
 -- Job records, kinds 5 and 6: what a loop holds, its items or its one vertex
 pub data Content : Type 0 where
-  ofItems : List Item → Content
-  atVertex : ℕ → Content
+  of_items : List Item → Content
+  at_vertex : ℕ → Content
 
 -- Job records, kinds 5 and 6: a loop of the job, of either sort, with its selected face
 pub record Loop : Type 0 where
@@ -43,65 +43,65 @@ pub record Job : Type 0 where
   pub stretches : List Stretch
   pub answers : List Answer
 
-abbrev pub noEdge : Edge
-noEdge = record { curve = 0; sense = Same; start = unset; end = unset }
+abbrev pub no_edge : Edge
+no_edge = record { curve = 0; sense = Same; start = unset; end = unset }
 
 -- edge e
-abbrev pub edgeAt : List Edge → ℕ → Edge
-edgeAt es e = get_or es e noEdge
+abbrev pub edge_at : List Edge → ℕ → Edge
+edge_at es e = get_or es e no_edge
 
-abbrev pub noFace : Face
-noFace = record { surface = 0; own = Same; selected = Same; body = 0; source = 0 }
+abbrev pub no_face : Face
+no_face = record { surface = 0; own = Same; selected = Same; body = 0; source = 0 }
 
 -- selected face f
-abbrev pub faceAt : List Face → ℕ → Face
-faceAt fs f = get_or fs f noFace
+abbrev pub face_at : List Face → ℕ → Face
+face_at fs f = get_or fs f no_face
 
 -- Job records, kind 3: a ring has no vertices
 abbrev pub ring : Edge → Bool
 ring e = eqb e.start unset
 
 -- the item's edge is a ring
-abbrev pub ofRing : List Edge → Item → Bool
-ofRing es x = ring (edgeAt es x.edge)
+abbrev pub of_ring : List Edge → Item → Bool
+of_ring es x = ring (edge_at es x.edge)
 
 -- the vertex where a sense of an edge starts, and where it ends
-abbrev pub startBy : Sense → Edge → ℕ
-startBy Same e = e.start
-startBy Reversed e = e.end
+abbrev pub start_by : Sense → Edge → ℕ
+start_by Same e = e.start
+start_by Reversed e = e.end
 
-abbrev pub endBy : Sense → Edge → ℕ
-endBy Same e = e.end
-endBy Reversed e = e.start
+abbrev pub end_by : Sense → Edge → ℕ
+end_by Same e = e.end
+end_by Reversed e = e.start
 
 -- Job records, kind 2: the point of vertex v
-abbrev pub pointAt : List ℕ → ℕ → ℕ
-pointAt points v = get_or points v 0
+abbrev pub point_at : List ℕ → ℕ → ℕ
+point_at points v = get_or points v 0
 
 -- the vertex where an item starts, and where it ends
-abbrev pub startVertex : List Edge → Item → ℕ
-startVertex es x = startBy x.sense (edgeAt es x.edge)
+abbrev pub start_vertex : List Edge → Item → ℕ
+start_vertex es x = start_by x.sense (edge_at es x.edge)
 
-abbrev pub endVertex : List Edge → Item → ℕ
-endVertex es x = endBy x.sense (edgeAt es x.edge)
+abbrev pub end_vertex : List Edge → Item → ℕ
+end_vertex es x = end_by x.sense (edge_at es x.edge)
 
 -- the point where an item starts, and where it ends
-abbrev pub startPoint : List ℕ → List Edge → Item → ℕ
-startPoint points es x = pointAt points (startVertex es x)
+abbrev pub start_point : List ℕ → List Edge → Item → ℕ
+start_point points es x = point_at points (start_vertex es x)
 
-abbrev pub endPoint : List ℕ → List Edge → Item → ℕ
-endPoint points es x = pointAt points (endVertex es x)
+abbrev pub end_point : List ℕ → List Edge → Item → ℕ
+end_point points es x = point_at points (end_vertex es x)
 
 -- Job records, kind 5: fields as items, one for each edge and sense
-unfoldable pub itemsOf : List ℕ → List Item
-itemsOf [] = []
-itemsOf (e ∷ []) = []
-itemsOf (e ∷ s ∷ rest) = record { edge = e; sense = senseOf s } ∷ itemsOf rest
+unfoldable pub items_of : List ℕ → List Item
+items_of [] = []
+items_of (e ∷ []) = []
+items_of (e ∷ s ∷ rest) = record { edge = e; sense = sense_of s } ∷ items_of rest
 
 -- the item whose two fields stand at a place
-abbrev pub itemAt : List ℕ → ℕ → Item
-itemAt s p = record { edge = le32 s p; sense = senseOf (le32 s (p + 4)) }
+abbrev pub item_at : List ℕ → ℕ → Item
+item_at s p = record { edge = le32 s p; sense = sense_of (le32 s (p + 4)) }
 
 -- the items from a place on, so many
-abbrev pub itemsFrom : List ℕ → ℕ → ℕ → List Item
-itemsFrom s p m = itemsOf (fieldsIn (2 * m) (drop p s))
+abbrev pub items_from : List ℕ → ℕ → ℕ → List Item
+items_from s p m = items_of (fields_in (2 * m) (drop p s))

@@ -9,10 +9,10 @@ use Rattle.rules.specs.declared.EdgeData.{EdgeData}
 use Rattle.rules.specs.Outcome.{Outcome, ok, ◌>>=◌}
 use Rattle.rules.specs.Sense.{reverse}
 use Rattle.rules.specs.Job.{unset, Answer}
-use Rattle.rules.specs.Questions.{askYes, askSame}
-use Rattle.rules.specs.Fans.{fanPoint}
+use Rattle.rules.specs.Questions.{ask_yes, ask_same}
+use Rattle.rules.specs.Fans.{fan_point}
 use Rattle.rules.specs.Edges.{FaceLoop}
-use Rattle.rules.specs.Rules.{Changes, allChanges, atMost}
+use Rattle.rules.specs.Rules.{Changes, all_changes, at_most}
 
 -- the edges ever made and the loops, and how many joins and rings made them so
 pub record Joining : Type 0 where
@@ -21,112 +21,112 @@ pub record Joining : Type 0 where
   pub joins : ℕ
   pub rings : ℕ
 
-abbrev pub noEdgeData : EdgeData
-noEdgeData = record { curve = 0; sense = Same; start = unset; end = unset; faces = 0 ∷ 0 ∷ []; active = false }
+abbrev pub no_edge_data : EdgeData
+no_edge_data = record { curve = 0; sense = Same; start = unset; end = unset; faces = 0 ∷ 0 ∷ []; active = false }
 
 -- edge e of the result
-abbrev pub edgeDataAt : List EdgeData → ℕ → EdgeData
-edgeDataAt es e = get_or es e noEdgeData
+abbrev pub edge_data_at : List EdgeData → ℕ → EdgeData
+edge_data_at es e = get_or es e no_edge_data
 
 -- CORNERS
 
 -- one edge number, where a test holds
-abbrev pub oneIf : Bool → ℕ → List ℕ → List ℕ
-oneIf true e rest = e ∷ rest
-oneIf false e rest = rest
+abbrev pub one_if : Bool → ℕ → List ℕ → List ℕ
+one_if true e rest = e ∷ rest
+one_if false e rest = rest
 
 -- Joining: the active edge ends at a fan, edges counted from i; an edge with both ends there stands twice
-unfoldable pub endsFrom : ℕ → List EdgeData → ℕ → List ℕ
-endsFrom i [] v = []
-endsFrom i (e ∷ es) v =
-    let later = endsFrom (suc i) es v in
-    oneIf (e.active && eqb e.start v) i (oneIf (e.active && eqb e.end v) i later)
+unfoldable pub ends_from : ℕ → List EdgeData → ℕ → List ℕ
+ends_from i [] v = []
+ends_from i (e ∷ es) v =
+    let later = ends_from (suc i) es v in
+    one_if (e.active && eqb e.start v) i (one_if (e.active && eqb e.end v) i later)
 
-abbrev pub endsAt : List EdgeData → ℕ → List ℕ
-endsAt es v = endsFrom 0 es v
+abbrev pub ends_at : List EdgeData → ℕ → List ℕ
+ends_at es v = ends_from 0 es v
 
 -- Joining, the term "corner": a fan at which some active edge starts or ends
-abbrev pub isCorner : List EdgeData → ℕ → Bool
-isCorner es v = ltb 0 (length (endsAt es v))
+abbrev pub is_corner : List EdgeData → ℕ → Bool
+is_corner es v = ltb 0 (length (ends_at es v))
 
 -- the corners among the fans, ascending
 abbrev pub corners : List EdgeData → List ℕ → List ℕ
-corners es names = keep (isCorner es) names
+corners es names = keep (is_corner es) names
 
 -- Joining: edges are active until a join takes them, rings too
-abbrev pub activeEdges : List EdgeData → List ℕ
-activeEdges es = positions (λ e. e.active) 0 es
+abbrev pub active_edges : List EdgeData → List ℕ
+active_edges es = positions (λ e. e.active) 0 es
 
 -- Joining, the term "corners less edges": the number of corners less that of active edges, which may be below zero
-abbrev pub cornersLessEdges : List EdgeData → List ℕ → ℤ
-cornersLessEdges es names = sub_ℕ (length (corners es names)) (length (activeEdges es))
+abbrev pub corners_less_edges : List EdgeData → List ℕ → ℤ
+corners_less_edges es names = sub_ℕ (length (corners es names)) (length (active_edges es))
 
 -- Joining: a corner with exactly two active edge ends
-abbrev pub twoEnds : List EdgeData → ℕ → Bool
-twoEnds es v = eqb (length (endsAt es v)) 2
+abbrev pub two_ends : List EdgeData → ℕ → Bool
+two_ends es v = eqb (length (ends_at es v)) 2
 
 -- LOOP PLACES
 
 -- where a sense of an edge starts, and where it ends
-abbrev pub startFan : Sense → EdgeData → ℕ
-startFan Same e = e.start
-startFan Reversed e = e.end
+abbrev pub start_fan : Sense → EdgeData → ℕ
+start_fan Same e = e.start
+start_fan Reversed e = e.end
 
-abbrev pub endFan : Sense → EdgeData → ℕ
-endFan Same e = e.end
-endFan Reversed e = e.start
+abbrev pub end_fan : Sense → EdgeData → ℕ
+end_fan Same e = e.end
+end_fan Reversed e = e.start
 
 -- where an item starts, and where it ends
-abbrev pub itemStart : List EdgeData → Item → ℕ
-itemStart es x = startFan x.sense (edgeDataAt es x.edge)
+abbrev pub item_start : List EdgeData → Item → ℕ
+item_start es x = start_fan x.sense (edge_data_at es x.edge)
 
-abbrev pub itemEnd : List EdgeData → Item → ℕ
-itemEnd es x = endFan x.sense (edgeDataAt es x.edge)
+abbrev pub item_end : List EdgeData → Item → ℕ
+item_end es x = end_fan x.sense (edge_data_at es x.edge)
 
 -- two items are of edges a and b, in either order
-abbrev pub ofBoth : ℕ → ℕ → Neighbours Item → Bool
-ofBoth a b p = (eqb p.here.edge a && eqb p.next.edge b) || (eqb p.here.edge b && eqb p.next.edge a)
+abbrev pub of_both : ℕ → ℕ → Neighbours Item → Bool
+of_both a b p = (eqb p.here.edge a && eqb p.next.edge b) || (eqb p.here.edge b && eqb p.next.edge a)
 
 -- Joining, the term "loop place" of the join of edges a and b at corner v: an item ending at the corner with its next item
-unfoldable pub isPlace : List EdgeData → ℕ → ℕ → ℕ → Neighbours Item → Bool
-isPlace es v a b p = ofBoth a b p && (eqb (itemEnd es p.here) v && eqb (itemStart es p.next) v)
+unfoldable pub is_place : List EdgeData → ℕ → ℕ → ℕ → Neighbours Item → Bool
+is_place es v a b p = of_both a b p && (eqb (item_end es p.here) v && eqb (item_start es p.next) v)
 
 -- the first loop place of a loop, or the number of its items where it has none
-abbrev pub placeIn : List EdgeData → ℕ → ℕ → ℕ → List Item → ℕ
-placeIn es v a b xs = position (isPlace es v a b) (neighbours xs)
+abbrev pub place_in : List EdgeData → ℕ → ℕ → ℕ → List Item → ℕ
+place_in es v a b xs = position (is_place es v a b) (neighbours xs)
 
 -- Joining: the items from position i on turn to the front
 abbrev pub turned : ℕ → List Item → List Item
 turned i xs = drop i xs ++ take i xs
 
 -- Joining: two items at the front become one, Same if edge a led
-unfoldable pub oneForTwo : ℕ → ℕ → List Item → List Item
-oneForTwo a new [] = []
-oneForTwo a new (x ∷ xs) = record { edge = new; sense = cond (eqb x.edge a) Same Reversed } ∷ drop 1 xs
+unfoldable pub one_for_two : ℕ → ℕ → List Item → List Item
+one_for_two a new [] = []
+one_for_two a new (x ∷ xs) = record { edge = new; sense = cond (eqb x.edge a) Same Reversed } ∷ drop 1 xs
 
 -- Joining: a loop with a place of the join has it replaced; any other stays
-unfoldable pub replacedIn : List EdgeData → ℕ → ℕ → ℕ → ℕ → FaceLoop → FaceLoop
-replacedIn es v a b new l =
-    let i = placeIn es v a b l.items in
-    record { face = l.face; items = cond (ltb i (length l.items)) (oneForTwo a new (turned i l.items)) l.items }
+unfoldable pub replaced_in : List EdgeData → ℕ → ℕ → ℕ → ℕ → FaceLoop → FaceLoop
+replaced_in es v a b new l =
+    let i = place_in es v a b l.items in
+    record { face = l.face; items = cond (ltb i (length l.items)) (one_for_two a new (turned i l.items)) l.items }
 
 -- Joining: at each place the two items become one
-abbrev pub replacedAll : List EdgeData → ℕ → ℕ → ℕ → ℕ → List FaceLoop → List FaceLoop
-replacedAll es v a b new ls = map (replacedIn es v a b new) ls
+abbrev pub replaced_all : List EdgeData → ℕ → ℕ → ℕ → ℕ → List FaceLoop → List FaceLoop
+replaced_all es v a b new ls = map (replaced_in es v a b new) ls
 
 -- THE TWO CHANGES
 
 -- the end of an edge that is not at corner v
-abbrev pub farEnd : ℕ → EdgeData → ℕ
-farEnd v e = cond (eqb e.start v) e.end e.start
+abbrev pub far_end : ℕ → EdgeData → ℕ
+far_end v e = cond (eqb e.start v) e.end e.start
 
 -- Joining: the new edge takes the first's curve, its far end, the second's far end, and the first's sense if the first ended there, else the reverse
-unfoldable pub joinedEdge : ℕ → EdgeData → EdgeData → EdgeData
-joinedEdge v a b = record {
+unfoldable pub joined_edge : ℕ → EdgeData → EdgeData → EdgeData
+joined_edge v a b = record {
   curve = a.curve;
   sense = cond (eqb a.end v) a.sense (reverse a.sense);
-  start = farEnd v a;
-  end = farEnd v b;
+  start = far_end v a;
+  end = far_end v b;
   faces = a.faces;
   active = true;
 }
@@ -136,29 +136,29 @@ abbrev pub retired : EdgeData → EdgeData
 retired e = record { curve = e.curve; sense = e.sense; start = e.start; end = e.end; faces = e.faces; active = false }
 
 -- an edge turned into a ring
-abbrev pub ringOf : EdgeData → EdgeData
-ringOf e = record { curve = e.curve; sense = e.sense; start = unset; end = unset; faces = e.faces; active = e.active }
+abbrev pub ring_of : EdgeData → EdgeData
+ring_of e = record { curve = e.curve; sense = e.sense; start = unset; end = unset; faces = e.faces; active = e.active }
 
 -- Joining: the edges after the join of a and b at corner v; the new edge is numbered last
-unfoldable pub joinEdges : ℕ → ℕ → ℕ → List EdgeData → List EdgeData
-joinEdges v a b es =
-    let first = edgeDataAt es a in
-    let second = edgeDataAt es b in
-    set (set es a (retired first)) b (retired second) ++ (joinedEdge v first second ∷ [])
+unfoldable pub join_edges : ℕ → ℕ → ℕ → List EdgeData → List EdgeData
+join_edges v a b es =
+    let first = edge_data_at es a in
+    let second = edge_data_at es b in
+    set (set es a (retired first)) b (retired second) ++ (joined_edge v first second ∷ [])
 
 -- Joining: the join of edges a and b at corner v
-unfoldable pub joinAt : Joining → ℕ → ℕ → ℕ → Joining
-joinAt s v a b = record {
-  edges = joinEdges v a b s.edges;
-  loops = replacedAll s.edges v a b (length s.edges) s.loops;
+unfoldable pub join_at : Joining → ℕ → ℕ → ℕ → Joining
+join_at s v a b = record {
+  edges = join_edges v a b s.edges;
+  loops = replaced_all s.edges v a b (length s.edges) s.loops;
   joins = suc s.joins;
   rings = s.rings;
 }
 
 -- Joining: one edge with both ends at a corner becomes a ring
-unfoldable pub ringAt : Joining → ℕ → Joining
-ringAt s a = record {
-  edges = set s.edges a (ringOf (edgeDataAt s.edges a));
+unfoldable pub ring_at : Joining → ℕ → Joining
+ring_at s a = record {
+  edges = set s.edges a (ring_of (edge_data_at s.edges a));
   loops = s.loops;
   joins = s.joins;
   rings = suc s.rings;
@@ -168,24 +168,24 @@ ringAt s a = record {
 
 -- Job records, kind 11: curve, lower face, higher face, point
 abbrev pub singular : List Answer → EdgeData → ℕ → Outcome Bool
-singular answers e point = askYes answers 11 (e.curve ∷ (e.faces ++ (point ∷ [])))
+singular answers e point = ask_yes answers 11 (e.curve ∷ (e.faces ++ (point ∷ [])))
 
 -- a question that is put where a test holds; else the answer is no
-abbrev pub onlyIf : Bool → Outcome Bool → Outcome Bool
-onlyIf true question = question
-onlyIf false question = ok false
+abbrev pub only_if : Bool → Outcome Bool → Outcome Bool
+only_if true question = question
+only_if false question = ok false
 
 -- Joining: one edge becomes a ring unless singular
-abbrev pub notSingular : List Answer → EdgeData → ℕ → Outcome Bool
-notSingular answers e point = singular answers e point >>= λ yes. ok (not yes)
+abbrev pub not_singular : List Answer → EdgeData → ℕ → Outcome Bool
+not_singular answers e point = singular answers e point >>= λ yes. ok (not yes)
 
 -- Joining: two edges need equal face pairs, then same curve, then not singular for the first
-unfoldable pub mayJoin : List Answer → EdgeData → EdgeData → ℕ → Outcome Bool
-mayJoin answers a b point =
-    let sameCurve = askSame answers 10 a.curve b.curve in
-    let smooth = notSingular answers a point in
-    onlyIf (same a.faces b.faces) sameCurve >>= λ yes.
-    onlyIf yes smooth
+unfoldable pub may_join : List Answer → EdgeData → EdgeData → ℕ → Outcome Bool
+may_join answers a b point =
+    let same_curve = ask_same answers 10 a.curve b.curve in
+    let smooth = not_singular answers a point in
+    only_if (same a.faces b.faces) same_curve >>= λ yes.
+    only_if yes smooth
 
 -- what a corner does: nothing, or a change
 pub data Tried : Type 0 where
@@ -193,48 +193,48 @@ pub data Tried : Type 0 where
   changed : Joining → Tried
 
 -- a change where the question is answered yes
-abbrev pub changedIf : Outcome Bool → Joining → Outcome Tried
-changedIf question s = question >>= λ yes. ok (cond yes (changed s) unchanged)
+abbrev pub changed_if : Outcome Bool → Joining → Outcome Tried
+changed_if question s = question >>= λ yes. ok (cond yes (changed s) unchanged)
 
 -- Joining: corner v, at its point, with its active edge ends; lower edge first
-unfoldable pub atCorner : List Answer → ℕ → Joining → ℕ → List ℕ → Outcome Tried
-atCorner answers point s v [] = ok unchanged
-atCorner answers point s v (a ∷ []) = ok unchanged
-atCorner answers point s v (a ∷ b ∷ []) =
-    let first = edgeDataAt s.edges a in
-    let second = edgeDataAt s.edges b in
-    let ring = changedIf (notSingular answers first point) (ringAt s a) in
-    let join = changedIf (mayJoin answers first second point) (joinAt s v a b) in
+unfoldable pub at_corner : List Answer → ℕ → Joining → ℕ → List ℕ → Outcome Tried
+at_corner answers point s v [] = ok unchanged
+at_corner answers point s v (a ∷ []) = ok unchanged
+at_corner answers point s v (a ∷ b ∷ []) =
+    let first = edge_data_at s.edges a in
+    let second = edge_data_at s.edges b in
+    let ring = changed_if (not_singular answers first point) (ring_at s a) in
+    let join = changed_if (may_join answers first second point) (join_at s v a b) in
     cond (eqb a b) ring join
-atCorner answers point s v (a ∷ b ∷ c ∷ more) = ok unchanged
+at_corner answers point s v (a ∷ b ∷ c ∷ more) = ok unchanged
 
 -- SWEEPS
 
 -- Joining: the sweep stops at its first change
-abbrev pub orElse : Tried → Outcome Tried → Outcome Tried
-orElse unchanged later = later
-orElse (changed s) later = ok (changed s)
+abbrev pub or_else : Tried → Outcome Tried → Outcome Tried
+or_else unchanged later = later
+or_else (changed s) later = ok (changed s)
 
 -- Joining: the sweep over the fans, ascending
 unfoldable pub sweep : List Answer → List ℕ → Joining → List ℕ → Outcome Tried
 sweep answers starts s [] = ok unchanged
 sweep answers starts s (v ∷ vs) =
-    atCorner answers (fanPoint starts v) s v (endsAt s.edges v) >>= λ t.
+    at_corner answers (fan_point starts v) s v (ends_at s.edges v) >>= λ t.
     let later = sweep answers starts s vs in
-    orElse t later
+    or_else t later
 
 -- Joining: after a change it begins afresh
-abbrev pub afterSweep : Tried → Joining → (Joining → Outcome Joining) → Outcome Joining
-afterSweep unchanged s again = ok s
-afterSweep (changed next) s again = again next
+abbrev pub after_sweep : Tried → Joining → (Joining → Outcome Joining) → Outcome Joining
+after_sweep unchanged s again = ok s
+after_sweep (changed next) s again = again next
 
 -- Joining: at most so many changes
-unfoldable pub maximalEdges : List Answer → List ℕ → List ℕ → ℕ → Joining → Outcome Joining
-maximalEdges answers starts names zero s = ok s
-maximalEdges answers starts names (suc most) s =
-    sweep answers starts s names >>= λ t. afterSweep t s (maximalEdges answers starts names most)
+unfoldable pub maximal_edges : List Answer → List ℕ → List ℕ → ℕ → Joining → Outcome Joining
+maximal_edges answers starts names zero s = ok s
+maximal_edges answers starts names (suc most) s =
+    sweep answers starts s names >>= λ t. after_sweep t s (maximal_edges answers starts names most)
 
 -- how many changes are allowed; each takes a corner away, so there are at most as many as fans
 abbrev pub allowed : Changes → List ℕ → ℕ
-allowed allChanges names = length names
-allowed (atMost n) names = n
+allowed all_changes names = length names
+allowed (at_most n) names = n

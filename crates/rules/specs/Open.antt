@@ -1,33 +1,33 @@
 -- All definitions of the rules, opened together: `unfolding computes` lets antt compute with them. Written by tools/open.
 use mathlib.Core.List.{flat_map}
-use Rattle.lists.specs.Lists.{from, has, repeats, same, times, least, all, some, keep, positions, position, sumOf, neighboursFrom, neighbours, iterate, orbit}
-use Rattle.rules.specs.Outcome.{need, throughout, forEach}
+use Rattle.lists.specs.Lists.{from, has, repeats, same, times, least, all, some, keep, positions, position, sum_of, neighbours_from, neighbours, iterate, orbit}
+use Rattle.rules.specs.Outcome.{need, throughout, for_each}
 use Rattle.rules.specs.Sense.{FourAnswers}
-use Rattle.rules.specs.Fields.{le16, le32, fieldsIn, bytes32}
-use Rattle.rules.specs.Frame.{wholeRecord, frameAt, taking, framesFrom, framed}
-use Rattle.rules.specs.Job.{itemsOf}
-use Rattle.rules.specs.Questions.{find, surfaceNumber, verdictNumber, numbered, surfaceAnswer, verdict, onRecord, decided, askSame, ordered}
-use Rattle.rules.specs.Kinds.{kindOf, numberOf, rightLength, partOf, rightPosition, limitPassed, endsPermitted, itemsPermitted, fieldsPermitted, questionLength, questionOf}
-use Rattle.rules.specs.Load.{joint, loneRing, jointed, counted, extended, rightJoints, selectedBefore, answeredBefore, loadRecord, loading, requested}
-use Rattle.rules.specs.Read.{loopUses, read}
-use Rattle.rules.specs.Groups.{moved, joined, joinGroups, groupNumbers}
-use Rattle.rules.specs.Pair.{pairTwo, eachOnce, takePredecessor, takePredecessors, lastOf, pairRound, pairUses, complete, pair}
-use Rattle.rules.specs.Merge.{joinsFaces, surfaceStep, mergeStep, removedUses, mergeFaces}
-use Rattle.rules.specs.VertexLoops.{alreadyThere, keepUnlessThere}
-use Rattle.rules.specs.Walk.{pass, successorOf, passedOf, successors, passedCounts, circuit, loopStep}
-use Rattle.rules.specs.Fans.{fanStep, startPoints}
-use Rattle.rules.specs.Contact.{edgeTouches, touches, contactPoints}
-use Rattle.rules.specs.Edges.{edgeData, itemOf, faceLoop}
-use Rattle.rules.specs.Join.{endsFrom, isPlace, oneForTwo, replacedIn, joinedEdge, joinEdges, joinAt, ringAt, mayJoin, atCorner, sweep, maximalEdges}
-use Rattle.rules.specs.Shells.{orientShell, enclosingShell, nest, lumps, lumpLabels}
-use Rattle.rules.specs.Body.{bodyFace, bodyFaces, solidBody, faceRecords, lumpRecords, bodyRecords}
-use Rattle.rules.specs.Sew.{walksOf, walked, fansOf, fanned, unjoined, edged, throughJoining, lumpsClear, bodyOf, solid, rebuild, sewn}
-use Rattle.rules.specs.Stage.{lumpFields, readStage, pairStage, mergeStage, vertexLoopStage, walkStage, loopStage, fanStage, edgeStage, joiningStage, shellStage, lumpStage}
-use Rattle.rules.specs.Listing.{digitsBefore, wordOf, fieldsText, sewnRecords}
-use Rattle.rules.specs.Rows.{readRows, pairRows, mergeRows, vertexLoopRows, walkRows, loopRows, fanRows, tableRows, edgeRows, joiningRows, shellRows, lumpRowsFrom, lumpRows, stagedRows, rowText, stageListing}
+use Rattle.rules.specs.Fields.{le16, le32, fields_in, bytes32}
+use Rattle.rules.specs.Frame.{whole_record, frame_at, taking, frames_from, framed}
+use Rattle.rules.specs.Job.{items_of}
+use Rattle.rules.specs.Questions.{find, surface_number, verdict_number, numbered, surface_answer, verdict, on_record, decided, ask_same, ordered}
+use Rattle.rules.specs.Kinds.{kind_of, number_of, right_length, part_of, right_position, limit_passed, ends_permitted, items_permitted, fields_permitted, question_length, question_of}
+use Rattle.rules.specs.Load.{joint, lone_ring, jointed, counted, extended, right_joints, selected_before, answered_before, load_record, loading, requested}
+use Rattle.rules.specs.Read.{loop_uses, read}
+use Rattle.rules.specs.Groups.{moved, joined, join_groups, group_numbers}
+use Rattle.rules.specs.Pair.{pair_two, each_once, take_predecessor, take_predecessors, last_of, pair_round, pair_uses, complete, pair}
+use Rattle.rules.specs.Merge.{joins_faces, surface_step, merge_step, removed_uses, merge_faces}
+use Rattle.rules.specs.VertexLoops.{already_there, keep_unless_there}
+use Rattle.rules.specs.Walk.{pass, successor_of, passed_of, successors, passed_counts, circuit, loop_step}
+use Rattle.rules.specs.Fans.{fan_step, start_points}
+use Rattle.rules.specs.Contact.{edge_touches, touches, contact_points}
+use Rattle.rules.specs.Edges.{edge_data, item_of, face_loop}
+use Rattle.rules.specs.Join.{ends_from, is_place, one_for_two, replaced_in, joined_edge, join_edges, join_at, ring_at, may_join, at_corner, sweep, maximal_edges}
+use Rattle.rules.specs.Shells.{orient_shell, enclosing_shell, nest, lumps, lump_labels}
+use Rattle.rules.specs.Body.{body_face, body_faces, solid_body, face_records, lump_records, body_records}
+use Rattle.rules.specs.Sew.{walks_of, walked, fans_of, fanned, unjoined, edged, through_joining, lumps_clear, body_of, solid, rebuild, sewn}
+use Rattle.rules.specs.Stage.{lump_fields, read_stage, pair_stage, merge_stage, vertex_loop_stage, walk_stage, loop_stage, fan_stage, edge_stage, joining_stage, shell_stage, lump_stage}
+use Rattle.rules.specs.Listing.{digits_before, word_of, fields_text, sewn_records}
+use Rattle.rules.specs.Rows.{read_rows, pair_rows, merge_rows, vertex_loop_rows, walk_rows, loop_rows, fan_rows, table_rows, edge_rows, joining_rows, shell_rows, lump_rows_from, lump_rows, staged_rows, row_text, stage_listing}
 use Rattle.rules.specs.Operation.{operation}
 
 -- nothing but its line of names
 unfoldable pub computes : Unit {0}
-unfolding flat_map from has repeats same times least all some keep positions position sumOf neighboursFrom neighbours iterate orbit need throughout forEach FourAnswers le16 le32 fieldsIn bytes32 wholeRecord frameAt taking framesFrom framed itemsOf find surfaceNumber verdictNumber numbered surfaceAnswer verdict onRecord decided askSame ordered kindOf numberOf rightLength partOf rightPosition limitPassed endsPermitted itemsPermitted fieldsPermitted questionLength questionOf joint loneRing jointed counted extended rightJoints selectedBefore answeredBefore loadRecord loading requested loopUses read moved joined joinGroups groupNumbers pairTwo eachOnce takePredecessor takePredecessors lastOf pairRound pairUses complete pair joinsFaces surfaceStep mergeStep removedUses mergeFaces alreadyThere keepUnlessThere pass successorOf passedOf successors passedCounts circuit loopStep fanStep startPoints edgeTouches touches contactPoints edgeData itemOf faceLoop endsFrom isPlace oneForTwo replacedIn joinedEdge joinEdges joinAt ringAt mayJoin atCorner sweep maximalEdges orientShell enclosingShell nest lumps lumpLabels bodyFace bodyFaces solidBody faceRecords lumpRecords bodyRecords walksOf walked fansOf fanned unjoined edged throughJoining lumpsClear bodyOf solid rebuild sewn lumpFields readStage pairStage mergeStage vertexLoopStage walkStage loopStage fanStage edgeStage joiningStage shellStage lumpStage digitsBefore wordOf fieldsText sewnRecords readRows pairRows mergeRows vertexLoopRows walkRows loopRows fanRows tableRows edgeRows joiningRows shellRows lumpRowsFrom lumpRows stagedRows rowText stageListing operation
+unfolding flat_map from has repeats same times least all some keep positions position sum_of neighbours_from neighbours iterate orbit need throughout for_each FourAnswers le16 le32 fields_in bytes32 whole_record frame_at taking frames_from framed items_of find surface_number verdict_number numbered surface_answer verdict on_record decided ask_same ordered kind_of number_of right_length part_of right_position limit_passed ends_permitted items_permitted fields_permitted question_length question_of joint lone_ring jointed counted extended right_joints selected_before answered_before load_record loading requested loop_uses read moved joined join_groups group_numbers pair_two each_once take_predecessor take_predecessors last_of pair_round pair_uses complete pair joins_faces surface_step merge_step removed_uses merge_faces already_there keep_unless_there pass successor_of passed_of successors passed_counts circuit loop_step fan_step start_points edge_touches touches contact_points edge_data item_of face_loop ends_from is_place one_for_two replaced_in joined_edge join_edges join_at ring_at may_join at_corner sweep maximal_edges orient_shell enclosing_shell nest lumps lump_labels body_face body_faces solid_body face_records lump_records body_records walks_of walked fans_of fanned unjoined edged through_joining lumps_clear body_of solid rebuild sewn lump_fields read_stage pair_stage merge_stage vertex_loop_stage walk_stage loop_stage fan_stage edge_stage joining_stage shell_stage lump_stage digits_before word_of fields_text sewn_records read_rows pair_rows merge_rows vertex_loop_rows walk_rows loop_rows fan_rows table_rows edge_rows joining_rows shell_rows lump_rows_from lump_rows staged_rows row_text stage_listing operation
 computes = tt

@@ -23,6 +23,6 @@ throughout step [] s = ok s
 throughout step (x ∷ xs) s = step x s >>= throughout step xs
 
 -- an answer for each member of a list, in order
-unfoldable pub forEach : {A B : Type 0} → (A → Outcome B) → List A → Outcome (List B)
-forEach f [] = ok []
-forEach f (x ∷ xs) = f x >>= λ y. forEach f xs >>= λ ys. ok (y ∷ ys)
+unfoldable pub for_each : {A B : Type 0} → (A → Outcome B) → List A → Outcome (List B)
+for_each f [] = ok []
+for_each f (x ∷ xs) = f x >>= λ y. for_each f xs >>= λ ys. ok (y ∷ ys)

@@ -5,7 +5,7 @@ use Rattle.rules.specs.Outcome.{ok, refuse}
 use Rattle.rules.specs.Frame.{Record}
 use Rattle.rules.specs.Job.{unset}
 use Rattle.rules.specs.Body.{rec}
-use Rattle.rules.specs.Tables.{Row, sameRecords, right}
+use Rattle.rules.specs.Tables.{Row, same_records, right}
 use Rattle.rules.specs.Open.{computes}
 
 -- Head only
@@ -16,8 +16,8 @@ P1 = record {
 }
 
 -- two faces on one ring, used Same then in the given sense
-unfoldable pub ringJob : ℕ → List Record
-ringJob second =
+unfoldable pub ring_job : ℕ → List Record
+ring_job second =
     rec 1 (1 ∷ []) ∷
     rec 3 (5 ∷ 0 ∷ unset ∷ unset ∷ []) ∷
     rec 4 (7 ∷ 0 ∷ 0 ∷ 0 ∷ 0 ∷ []) ∷ rec 5 (0 ∷ 0 ∷ []) ∷
@@ -26,7 +26,7 @@ ringJob second =
 -- the surfaces differ: 2 faces, 1 edge, 1 shell
 unfoldable pub P2 : Row
 P2 = record {
-  job = ringJob 1 ++ (rec 8 (0 ∷ 0 ∷ []) ∷ []);
+  job = ring_job 1 ++ (rec 8 (0 ∷ 0 ∷ []) ∷ []);
   ending = ok
       (rec 21 (1 ∷ 2 ∷ 0 ∷ 0 ∷ 0 ∷ 0 ∷ 0 ∷ []) ∷
       rec 23 (5 ∷ 0 ∷ unset ∷ unset ∷ []) ∷
@@ -38,13 +38,13 @@ P2 = record {
 -- the surfaces are the same: one face without loops
 unfoldable pub P3 : Row
 P3 = record {
-  job = ringJob 1 ++ (rec 8 (0 ∷ 1 ∷ []) ∷ []);
+  job = ring_job 1 ++ (rec 8 (0 ∷ 1 ∷ []) ∷ []);
   ending = ok (rec 21 (1 ∷ 2 ∷ 2 ∷ 0 ∷ 0 ∷ 0 ∷ 1 ∷ []) ∷ rec 24 (7 ∷ 0 ∷ []) ∷ rec 29 (0 ∷ 0 ∷ 0 ∷ 1 ∷ []) ∷ rec 27 [] ∷ rec 28 (0 ∷ []) ∷ []);
 }
 
 -- both uses Same
 unfoldable pub P4 : Row
-P4 = record { job = ringJob 0; ending = refuse 10 0 }
+P4 = record { job = ring_job 0; ending = refuse 10 0 }
 
 -- one use
 unfoldable pub P5 : Row
@@ -61,8 +61,8 @@ P6 = record {
 }
 
 -- two edges between two vertices, two faces, all answers 0 but whether point 0 is singular
-unfoldable pub lensJob : ℕ → List Record
-lensJob singular =
+unfoldable pub lens_job : ℕ → List Record
+lens_job singular =
     rec 1 (1 ∷ []) ∷
     rec 2 (0 ∷ []) ∷ rec 2 (1 ∷ []) ∷
     rec 3 (5 ∷ 0 ∷ 0 ∷ 1 ∷ []) ∷ rec 3 (5 ∷ 0 ∷ 1 ∷ 0 ∷ []) ∷
@@ -74,7 +74,7 @@ lensJob singular =
 -- one join, one ring
 unfoldable pub P7 : Row
 P7 = record {
-  job = lensJob 0;
+  job = lens_job 0;
   ending = ok
       (rec 21 (1 ∷ 4 ∷ 0 ∷ 0 ∷ 1 ∷ 1 ∷ 0 ∷ []) ∷
       rec 23 (5 ∷ 1 ∷ unset ∷ unset ∷ []) ∷
@@ -86,7 +86,7 @@ P7 = record {
 -- point 0 is singular: one join, no ring
 unfoldable pub P8 : Row
 P8 = record {
-  job = lensJob 1;
+  job = lens_job 1;
   ending = ok
       (rec 21 (1 ∷ 4 ∷ 0 ∷ 0 ∷ 1 ∷ 0 ∷ 0 ∷ []) ∷
       rec 22 (0 ∷ []) ∷
@@ -121,6 +121,6 @@ unfoldable pub parts : List Row
 parts = P1 ∷ P2 ∷ P3 ∷ P4 ∷ P5 ∷ P6 ∷ P7 ∷ P8 ∷ P9 ∷ []
 
 -- each part ends as document 01 says
-pub parts-right : all right parts ≡ true
-unfolding computes sameRecords ringJob lensJob P1 P2 P3 P4 P5 P6 P7 P8 P9 parts
-parts-right = refl
+pub parts_right : all right parts ≡ true
+unfolding computes same_records ring_job lens_job P1 P2 P3 P4 P5 P6 P7 P8 P9 parts
+parts_right = refl

@@ -26,32 +26,32 @@ find (a ∷ more) kind question =
     cond (eqb a.kind kind && same a.question question) (found a.value) later
 
 -- a question has an answer, as a test
-abbrev pub isFound : Found → Bool
-isFound missing = false
-isFound (found v) = true
+abbrev pub is_found : Found → Bool
+is_found missing = false
+is_found (found v) = true
 
 -- THE ANSWERS BY NUMBER
 
 -- Job records, kind 8: 0 different, 1 same with normals agreeing, 2 same and opposed, 3 vanishing, 4 undecided
-unfoldable pub surfaceNumber : SurfaceAnswer → ℕ
-surfaceNumber Different = 0
-surfaceNumber Agreeing = 1
-surfaceNumber Opposed = 2
-surfaceNumber Vanishing = 3
-surfaceNumber SurfaceUndecided = 4
+unfoldable pub surface_number : SurfaceAnswer → ℕ
+surface_number Different = 0
+surface_number Agreeing = 1
+surface_number Opposed = 2
+surface_number Vanishing = 3
+surface_number SurfaceUndecided = 4
 
 -- Job records, kinds 9 to 13: 0 different, no or void; 1 same, yes or outer; 2 undecided
-unfoldable pub verdictNumber : Verdict → ℕ
-verdictNumber No = 0
-verdictNumber Yes = 1
-verdictNumber Undecided = 2
+unfoldable pub verdict_number : Verdict → ℕ
+verdict_number No = 0
+verdict_number Yes = 1
+verdict_number Undecided = 2
 
 -- Job records, the values permitted: kind 8, 0 to 4; kinds 9 to 13, 0 to 2. They are the numbers of the answers (QuestionLaws)
-abbrev pub isSurface : ℕ → Bool
-isSurface v = leb v 4
+abbrev pub is_surface : ℕ → Bool
+is_surface v = leb v 4
 
-abbrev pub isVerdict : ℕ → Bool
-isVerdict v = leb v 2
+abbrev pub is_verdict : ℕ → Bool
+is_verdict v = leb v 2
 
 -- the first of some answers that has number v, else another
 unfoldable pub numbered : {A : Type 0} → (A → ℕ) → List A → A → ℕ → A
@@ -61,23 +61,23 @@ numbered number (a ∷ more) other v =
     cond (eqb v (number a)) a later
 
 -- the answer of kind 8 that has a number: undecided, if no other has it
-unfoldable pub surfaceAnswer : ℕ → SurfaceAnswer
-surfaceAnswer v = numbered surfaceNumber (Different ∷ Agreeing ∷ Opposed ∷ Vanishing ∷ []) SurfaceUndecided v
+unfoldable pub surface_answer : ℕ → SurfaceAnswer
+surface_answer v = numbered surface_number (Different ∷ Agreeing ∷ Opposed ∷ Vanishing ∷ []) SurfaceUndecided v
 
 -- the answer of kinds 9 to 13 that has a number: undecided, if no other has it
 unfoldable pub verdict : ℕ → Verdict
-verdict v = numbered verdictNumber (No ∷ Yes ∷ []) Undecided v
+verdict v = numbered verdict_number (No ∷ Yes ∷ []) Undecided v
 
 -- THE QUESTIONS PUT
 
 -- Endings, 20, kinds 8 to 13: no record answers it, else the value on record
-unfoldable pub onRecord : ℕ → Found → Outcome ℕ
-onRecord kind missing = refuse 20 kind
-onRecord kind (found v) = ok (field v 0)
+unfoldable pub on_record : ℕ → Found → Outcome ℕ
+on_record kind missing = refuse 20 kind
+on_record kind (found v) = ok (field v 0)
 
 -- a question of kinds 8 to 13 is put
 abbrev pub ask : List Answer → ℕ → List ℕ → Outcome ℕ
-ask answers kind question = onRecord kind (find answers kind question)
+ask answers kind question = on_record kind (find answers kind question)
 
 -- Endings, 21, kinds 9 to 13: the answer is undecided, else yes or no
 unfoldable pub decided : ℕ → Verdict → Outcome Bool
@@ -86,13 +86,13 @@ decided kind Yes = ok true
 decided kind Undecided = refuse 21 kind
 
 -- a question of kinds 9 to 13 is put
-abbrev pub askYes : List Answer → ℕ → List ℕ → Outcome Bool
-askYes answers kind question = ask answers kind question >>= λ v. decided kind (verdict v)
+abbrev pub ask_yes : List Answer → ℕ → List ℕ → Outcome Bool
+ask_yes answers kind question = ask answers kind question >>= λ v. decided kind (verdict v)
 
 -- Job records: equal numbers are the same without a record (kinds 9 and 10)
-unfoldable pub askSame : List Answer → ℕ → ℕ → ℕ → Outcome Bool
-askSame answers kind a b =
-    let put = askYes answers kind (unordered a b) in
+unfoldable pub ask_same : List Answer → ℕ → ℕ → ℕ → Outcome Bool
+ask_same answers kind a b =
+    let put = ask_yes answers kind (unordered a b) in
     cond (eqb a b) (ok true) put
 
 -- Endings, 20 and 21, kind 7: none means undecided
@@ -102,5 +102,5 @@ ordered (found []) = refuse 21 7
 ordered (found (h ∷ hs)) = ok (h ∷ hs)
 
 -- kind 7: the uses of an edge in order round it
-abbrev pub askRadial : List Answer → ℕ → Outcome (List ℕ)
-askRadial answers e = ordered (find answers 7 (e ∷ []))
+abbrev pub ask_radial : List Answer → ℕ → Outcome (List ℕ)
+ask_radial answers e = ordered (find answers 7 (e ∷ []))

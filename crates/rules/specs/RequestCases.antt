@@ -2,28 +2,28 @@
 use Rattle.std.specs.Prelude.{◌≡◌, refl, List, [], ◌∷◌, ◌++◌, map, ℕ, length, take, Bool, true}
 use Rattle.lists.specs.Lists.{same, all, below}
 use Rattle.rules.specs.Outcome.{Outcome, ok, refuse, ◌>>=◌, throughout}
-use Rattle.rules.specs.Fields.{fieldBytes}
-use Rattle.rules.specs.Frame.{Record, framedAll}
+use Rattle.rules.specs.Fields.{field_bytes}
+use Rattle.rules.specs.Frame.{Record, framed_all}
 use Rattle.rules.specs.Listing.{listing}
 use Rattle.rules.specs.Job.{unset}
 use Rattle.rules.specs.Load.{loaded, requested, shown}
-use Rattle.rules.specs.Read.{usesOf, useStart}
+use Rattle.rules.specs.Read.{uses_of, use_start}
 use Rattle.rules.specs.Pair.{pair}
-use Rattle.rules.specs.Rules.{fullTable, ordinary}
-use Rattle.rules.specs.Merge.{mergeStep, ungrouped}
+use Rattle.rules.specs.Rules.{full_table, ordinary}
+use Rattle.rules.specs.Merge.{merge_step, ungrouped}
 use Rattle.rules.specs.Body.{rec}
-use Rattle.rules.specs.Tables.{Row, right, sameRecords}
-use Rattle.rules.specs.Cases.{sameBytes}
-use Rattle.rules.specs.MoreCases.{sameStretch}
+use Rattle.rules.specs.Tables.{Row, right, same_records}
+use Rattle.rules.specs.Cases.{same_bytes}
+use Rattle.rules.specs.MoreCases.{same_stretch}
 use Rattle.rules.specs.Sew.{sewn}
-use Rattle.rules.specs.Stage.{readStage, fanStage}
+use Rattle.rules.specs.Stage.{read_stage, fan_stage}
 use Rattle.rules.specs.Open.{computes}
 
 -- FOUR, SENSE BY CASES
 
 -- own times selected: Same Same, Same Reversed, Reversed Same, Reversed Reversed
-unfoldable pub fourFaces : Row
-fourFaces = record {
+unfoldable pub four_faces : Row
+four_faces = record {
   job = rec 1 (1 ∷ []) ∷ rec 4 (7 ∷ 0 ∷ 0 ∷ 0 ∷ 0 ∷ []) ∷ rec 4 (8 ∷ 0 ∷ 1 ∷ 0 ∷ 1 ∷ []) ∷ rec 4 (9 ∷ 1 ∷ 0 ∷ 0 ∷ 2 ∷ []) ∷ rec 4 (10 ∷ 1 ∷ 1 ∷ 0 ∷ 3 ∷ []) ∷ [];
   ending =
       ok (rec 21 (1 ∷ 0 ∷ 0 ∷ 0 ∷ 0 ∷ 0 ∷ 0 ∷ []) ∷ rec 24 (7 ∷ 0 ∷ []) ∷ rec 29 (0 ∷ 0 ∷ []) ∷ rec 24 (8 ∷ 1 ∷ []) ∷ rec 29 (0 ∷ 1 ∷ []) ∷ rec 24 (9 ∷ 1 ∷ []) ∷
@@ -32,8 +32,8 @@ fourFaces = record {
 }
 
 -- normals agree, and Reversed times Reversed is the other face's Same: the two faces are one
-unfoldable pub reversedTwice : Row
-reversedTwice = record {
+unfoldable pub reversed_twice : Row
+reversed_twice = record {
   job =
       rec 1 (1 ∷ []) ∷ rec 3 (5 ∷ 0 ∷ unset ∷ unset ∷ []) ∷ rec 4 (7 ∷ 0 ∷ 0 ∷ 0 ∷ 0 ∷ []) ∷ rec 5 (0 ∷ 0 ∷ []) ∷ rec 4 (8 ∷ 1 ∷ 1 ∷ 0 ∷ 1 ∷ []) ∷ rec 5 (0 ∷ 0 ∷ []) ∷
       rec 8 (0 ∷ 1 ∷ []) ∷ [];
@@ -41,8 +41,8 @@ reversedTwice = record {
 }
 
 -- a loop's sense times the selected sense, the four cases in turn: two rings, a face selected Same and one selected Reversed
-unfoldable pub fourUses : Row
-fourUses = record {
+unfoldable pub four_uses : Row
+four_uses = record {
   job =
       rec 1 (1 ∷ []) ∷ rec 3 (5 ∷ 0 ∷ unset ∷ unset ∷ []) ∷ rec 3 (6 ∷ 0 ∷ unset ∷ unset ∷ []) ∷ rec 4 (7 ∷ 0 ∷ 0 ∷ 0 ∷ 0 ∷ []) ∷ rec 5 (0 ∷ 0 ∷ []) ∷
       rec 5 (1 ∷ 1 ∷ []) ∷
@@ -53,23 +53,23 @@ fourUses = record {
       rec 25 (1 ∷ 1 ∷ []) ∷ rec 24 (8 ∷ 1 ∷ []) ∷ rec 29 (0 ∷ 1 ∷ []) ∷ rec 25 (0 ∷ 1 ∷ []) ∷ rec 25 (1 ∷ 0 ∷ []) ∷ rec 27 [] ∷ rec 28 (0 ∷ 1 ∷ []) ∷ []);
 }
 
-unfoldable pub senseRows : List Row
-senseRows = fourFaces ∷ reversedTwice ∷ fourUses ∷ []
+unfoldable pub sense_rows : List Row
+sense_rows = four_faces ∷ reversed_twice ∷ four_uses ∷ []
 
-pub senses-right : all right senseRows ≡ true
-unfolding computes sameRecords senseRows fourFaces reversedTwice fourUses
-senses-right = refl
+pub senses_right : all right sense_rows ≡ true
+unfolding computes same_records sense_rows four_faces reversed_twice four_uses
+senses_right = refl
 
 -- the uses as read: edge, face, sense, successor of each
-pub senses-read-right : sameBytes (readStage (framedAll fourUses.job) 64) (ok (fieldBytes (0 ∷ 0 ∷ 0 ∷ 0 ∷ 1 ∷ 0 ∷ 1 ∷ 1 ∷ 0 ∷ 1 ∷ 1 ∷ 2 ∷ 1 ∷ 1 ∷ 0 ∷ 3 ∷ []))) ≡ true
-unfolding computes fourUses
-senses-read-right = refl
+pub senses_read_right : same_bytes (read_stage (framed_all four_uses.job) 64) (ok (field_bytes (0 ∷ 0 ∷ 0 ∷ 0 ∷ 1 ∷ 0 ∷ 1 ∷ 1 ∷ 0 ∷ 1 ∷ 1 ∷ 2 ∷ 1 ∷ 1 ∷ 0 ∷ 3 ∷ []))) ≡ true
+unfolding computes four_uses
+senses_read_right = refl
 
 -- THREE, JOINTS BY POINT
 
 -- P7 from two halves: neighbouring uses meet at two vertex records that stand on one point
-unfoldable pub twoHalves : Row
-twoHalves = record {
+unfoldable pub two_halves : Row
+two_halves = record {
   job =
       rec 1 (1 ∷ []) ∷ rec 2 (0 ∷ []) ∷ rec 2 (1 ∷ []) ∷ rec 2 (1 ∷ []) ∷ rec 2 (0 ∷ []) ∷ rec 3 (5 ∷ 0 ∷ 0 ∷ 1 ∷ []) ∷ rec 3 (5 ∷ 0 ∷ 2 ∷ 3 ∷ []) ∷
       rec 4 (7 ∷ 0 ∷ 0 ∷ 0 ∷ 0 ∷ []) ∷ rec 5 (0 ∷ 0 ∷ 1 ∷ 0 ∷ []) ∷ rec 4 (8 ∷ 0 ∷ 0 ∷ 0 ∷ 1 ∷ []) ∷ rec 5 (1 ∷ 1 ∷ 0 ∷ 1 ∷ []) ∷ rec 8 (0 ∷ 0 ∷ []) ∷
@@ -82,8 +82,8 @@ twoHalves = record {
 }
 
 -- a triangle whose edges have a vertex record for each end; the second face is selected Reversed, its joints hold as stored
-unfoldable pub triangleByPoint : Row
-triangleByPoint = record {
+unfoldable pub triangle_by_point : Row
+triangle_by_point = record {
   job =
       rec 1 (1 ∷ []) ∷ rec 2 (11 ∷ []) ∷ rec 2 (12 ∷ []) ∷ rec 2 (12 ∷ []) ∷ rec 2 (13 ∷ []) ∷ rec 2 (13 ∷ []) ∷ rec 2 (11 ∷ []) ∷ rec 3 (5 ∷ 0 ∷ 0 ∷ 1 ∷ []) ∷
       rec 3 (6 ∷ 0 ∷ 2 ∷ 3 ∷ []) ∷ rec 3 (7 ∷ 0 ∷ 4 ∷ 5 ∷ []) ∷ rec 4 (7 ∷ 0 ∷ 0 ∷ 0 ∷ 0 ∷ []) ∷ rec 5 (0 ∷ 0 ∷ 1 ∷ 0 ∷ 2 ∷ 0 ∷ []) ∷
@@ -99,8 +99,8 @@ triangleByPoint = record {
 }
 
 -- a use alone in its loop, between two vertex records on point 4,294,967,295: it loads, and is no ring, since it has a corner
-unfoldable pub aloneByPoint : Row
-aloneByPoint = record {
+unfoldable pub alone_by_point : Row
+alone_by_point = record {
   job =
       rec 1 (1 ∷ []) ∷ rec 2 (4294967295 ∷ []) ∷ rec 2 (4294967295 ∷ []) ∷ rec 3 (5 ∷ 0 ∷ 0 ∷ 1 ∷ []) ∷ rec 4 (7 ∷ 0 ∷ 0 ∷ 0 ∷ 0 ∷ []) ∷ rec 5 (0 ∷ 0 ∷ []) ∷
       rec 4 (8 ∷ 0 ∷ 0 ∷ 0 ∷ 1 ∷ []) ∷
@@ -112,8 +112,8 @@ aloneByPoint = record {
 }
 
 -- the last use ends at another point than the first starts
-unfoldable pub lastOpen : Row
-lastOpen = record {
+unfoldable pub last_open : Row
+last_open = record {
   job =
       rec 1 (1 ∷ []) ∷ rec 2 (0 ∷ []) ∷ rec 2 (1 ∷ []) ∷ rec 2 (1 ∷ []) ∷ rec 2 (2 ∷ []) ∷ rec 3 (5 ∷ 0 ∷ 0 ∷ 1 ∷ []) ∷ rec 3 (5 ∷ 0 ∷ 2 ∷ 3 ∷ []) ∷
       rec 4 (7 ∷ 0 ∷ 0 ∷ 0 ∷ 0 ∷ []) ∷ rec 5 (0 ∷ 0 ∷ 1 ∷ 0 ∷ []) ∷ [];
@@ -121,8 +121,8 @@ lastOpen = record {
 }
 
 -- the second use starts at another point than the first ends, though the last leads to the first
-unfoldable pub firstOpen : Row
-firstOpen = record {
+unfoldable pub first_open : Row
+first_open = record {
   job =
       rec 1 (1 ∷ []) ∷ rec 2 (0 ∷ []) ∷ rec 2 (1 ∷ []) ∷ rec 2 (2 ∷ []) ∷ rec 2 (0 ∷ []) ∷ rec 3 (5 ∷ 0 ∷ 0 ∷ 1 ∷ []) ∷ rec 3 (5 ∷ 0 ∷ 2 ∷ 3 ∷ []) ∷
       rec 4 (7 ∷ 0 ∷ 0 ∷ 0 ∷ 0 ∷ []) ∷ rec 5 (0 ∷ 0 ∷ 1 ∷ 0 ∷ []) ∷ [];
@@ -130,8 +130,8 @@ firstOpen = record {
 }
 
 -- the second loop breaks between its second use and its third
-unfoldable pub middleOpen : Row
-middleOpen = record {
+unfoldable pub middle_open : Row
+middle_open = record {
   job =
       rec 1 (1 ∷ []) ∷ rec 2 (1 ∷ []) ∷ rec 2 (2 ∷ []) ∷ rec 2 (2 ∷ []) ∷ rec 2 (3 ∷ []) ∷ rec 2 (4 ∷ []) ∷ rec 2 (1 ∷ []) ∷ rec 2 (4 ∷ []) ∷
       rec 3 (5 ∷ 0 ∷ 0 ∷ 1 ∷ []) ∷ rec 3 (6 ∷ 0 ∷ 2 ∷ 3 ∷ []) ∷ rec 3 (7 ∷ 0 ∷ 4 ∷ 5 ∷ []) ∷ rec 3 (8 ∷ 0 ∷ 4 ∷ 6 ∷ []) ∷ rec 4 (7 ∷ 0 ∷ 0 ∷ 0 ∷ 0 ∷ []) ∷
@@ -141,16 +141,16 @@ middleOpen = record {
 }
 
 -- point numbers that differ above their lower 16 bits
-unfoldable pub pointNumbers : Row
-pointNumbers = record {
+unfoldable pub point_numbers : Row
+point_numbers = record {
   job =
       rec 1 (1 ∷ []) ∷ rec 2 (1 ∷ []) ∷ rec 2 (65537 ∷ []) ∷ rec 3 (5 ∷ 0 ∷ 0 ∷ 1 ∷ []) ∷ rec 4 (7 ∷ 0 ∷ 0 ∷ 0 ∷ 0 ∷ []) ∷ rec 5 (0 ∷ 0 ∷ []) ∷ [];
   ending = refuse 6 78;
 }
 
 -- an answer calls the two points the same; no question is put, the numbers differ
-unfoldable pub answeredSame : Row
-answeredSame = record {
+unfoldable pub answered_same : Row
+answered_same = record {
   job =
       rec 1 (1 ∷ []) ∷ rec 2 (1 ∷ []) ∷ rec 2 (2 ∷ []) ∷ rec 3 (5 ∷ 0 ∷ 0 ∷ 1 ∷ []) ∷ rec 4 (7 ∷ 0 ∷ 0 ∷ 0 ∷ 0 ∷ []) ∷ rec 5 (0 ∷ 0 ∷ []) ∷
       rec 9 (1 ∷ 2 ∷ 1 ∷ []) ∷ [];
@@ -158,8 +158,8 @@ answeredSame = record {
 }
 
 -- the ring rule remains: a ring's use before one that starts and ends at point 4,294,967,295
-unfoldable pub ringFirst : Row
-ringFirst = record {
+unfoldable pub ring_first : Row
+ring_first = record {
   job =
       rec 1 (1 ∷ []) ∷ rec 2 (4294967295 ∷ []) ∷ rec 3 (5 ∷ 0 ∷ unset ∷ unset ∷ []) ∷ rec 3 (6 ∷ 0 ∷ 0 ∷ 0 ∷ []) ∷ rec 4 (7 ∷ 0 ∷ 0 ∷ 0 ∷ 0 ∷ []) ∷
       rec 5 (0 ∷ 0 ∷ 1 ∷ 0 ∷ []) ∷
@@ -168,8 +168,8 @@ ringFirst = record {
 }
 
 -- and after one that starts and ends at point 0
-unfoldable pub ringLast : Row
-ringLast = record {
+unfoldable pub ring_last : Row
+ring_last = record {
   job =
       rec 1 (1 ∷ []) ∷ rec 2 (0 ∷ []) ∷ rec 3 (5 ∷ 0 ∷ unset ∷ unset ∷ []) ∷ rec 3 (6 ∷ 0 ∷ 0 ∷ 0 ∷ []) ∷ rec 4 (7 ∷ 0 ∷ 0 ∷ 0 ∷ 0 ∷ []) ∷
       rec 5 (1 ∷ 0 ∷ 0 ∷ 1 ∷ []) ∷ [];
@@ -177,35 +177,35 @@ ringLast = record {
 }
 
 -- and beside a ring's
-unfoldable pub twoRings : Row
-twoRings = record {
+unfoldable pub two_rings : Row
+two_rings = record {
   job =
       rec 1 (1 ∷ []) ∷ rec 3 (5 ∷ 0 ∷ unset ∷ unset ∷ []) ∷ rec 3 (6 ∷ 0 ∷ unset ∷ unset ∷ []) ∷ rec 4 (7 ∷ 0 ∷ 0 ∷ 0 ∷ 0 ∷ []) ∷ rec 5 (0 ∷ 0 ∷ 1 ∷ 0 ∷ []) ∷ [];
   ending = refuse 6 80;
 }
 
-unfoldable pub jointRows : List Row
-jointRows = twoHalves ∷ triangleByPoint ∷ aloneByPoint ∷ lastOpen ∷ firstOpen ∷ middleOpen ∷ pointNumbers ∷ answeredSame ∷ ringFirst ∷ ringLast ∷ twoRings ∷ []
+unfoldable pub joint_rows : List Row
+joint_rows = two_halves ∷ triangle_by_point ∷ alone_by_point ∷ last_open ∷ first_open ∷ middle_open ∷ point_numbers ∷ answered_same ∷ ring_first ∷ ring_last ∷ two_rings ∷ []
 
-pub joints-right : all right jointRows ≡ true
-unfolding computes sameRecords jointRows twoHalves triangleByPoint aloneByPoint lastOpen firstOpen middleOpen pointNumbers answeredSame ringFirst ringLast twoRings
-joints-right = refl
+pub joints_right : all right joint_rows ≡ true
+unfolding computes same_records joint_rows two_halves triangle_by_point alone_by_point last_open first_open middle_open point_numbers answered_same ring_first ring_last two_rings
+joints_right = refl
 
 -- each fan of the triangle starts at two vertices and at one point: where each use starts, and of each use its fan and point
-pub starts-right : sameBytes (loaded (framedAll triangleByPoint.job) >>= λ j. ok (map (useStart j.edges) (usesOf j))) (ok (0 ∷ 2 ∷ 4 ∷ 1 ∷ 5 ∷ 3 ∷ [])) ≡ true
-unfolding computes triangleByPoint
-starts-right = refl
+pub starts_right : same_bytes (loaded (framed_all triangle_by_point.job) >>= λ j. ok (map (use_start j.edges) (uses_of j))) (ok (0 ∷ 2 ∷ 4 ∷ 1 ∷ 5 ∷ 3 ∷ [])) ≡ true
+unfolding computes triangle_by_point
+starts_right = refl
 
-pub fans-right : sameBytes (fanStage ordinary (framedAll triangleByPoint.job) 72)
-    (ok (fieldBytes (0 ∷ 0 ∷ 11 ∷ 1 ∷ 1 ∷ 12 ∷ 2 ∷ 2 ∷ 13 ∷ 3 ∷ 1 ∷ 12 ∷ 4 ∷ 0 ∷ 11 ∷ 5 ∷ 2 ∷ 13 ∷ []))) ≡ true
-unfolding computes triangleByPoint
-fans-right = refl
+pub fans_right : same_bytes (fan_stage ordinary (framed_all triangle_by_point.job) 72)
+    (ok (field_bytes (0 ∷ 0 ∷ 11 ∷ 1 ∷ 1 ∷ 12 ∷ 2 ∷ 2 ∷ 13 ∷ 3 ∷ 1 ∷ 12 ∷ 4 ∷ 0 ∷ 11 ∷ 5 ∷ 2 ∷ 13 ∷ []))) ≡ true
+unfolding computes triangle_by_point
+fans_right = refl
 
 -- SIX, WHETHER ANYTHING JOINED
 
 -- two surface questions between the same two faces: both answers join, and the second finds one group
-unfoldable pub joinedOnce : Row
-joinedOnce = record {
+unfoldable pub joined_once : Row
+joined_once = record {
   job =
       rec 1 (1 ∷ []) ∷ rec 3 (5 ∷ 0 ∷ unset ∷ unset ∷ []) ∷ rec 3 (6 ∷ 0 ∷ unset ∷ unset ∷ []) ∷ rec 4 (7 ∷ 0 ∷ 0 ∷ 0 ∷ 0 ∷ []) ∷ rec 5 (0 ∷ 0 ∷ []) ∷
       rec 5 (1 ∷ 0 ∷ []) ∷ rec 4 (7 ∷ 0 ∷ 0 ∷ 0 ∷ 1 ∷ []) ∷ rec 5 (0 ∷ 1 ∷ []) ∷ rec 5 (1 ∷ 1 ∷ []) ∷ rec 8 (0 ∷ 1 ∷ []) ∷ rec 8 (1 ∷ 1 ∷ []) ∷ [];
@@ -214,8 +214,8 @@ joinedOnce = record {
 }
 
 -- the face across is in a group already, and not its lowest: the join counts
-unfoldable pub secondFaceInAGroup : Row
-secondFaceInAGroup = record {
+unfoldable pub second_face_in_a_group : Row
+second_face_in_a_group = record {
   job =
       rec 1 (1 ∷ []) ∷ rec 3 (5 ∷ 0 ∷ unset ∷ unset ∷ []) ∷ rec 3 (6 ∷ 0 ∷ unset ∷ unset ∷ []) ∷ rec 4 (7 ∷ 0 ∷ 0 ∷ 0 ∷ 0 ∷ []) ∷ rec 5 (0 ∷ 0 ∷ []) ∷
       rec 4 (7 ∷ 0 ∷ 0 ∷ 0 ∷ 1 ∷ []) ∷ rec 5 (1 ∷ 0 ∷ []) ∷ rec 4 (7 ∷ 0 ∷ 0 ∷ 0 ∷ 2 ∷ []) ∷ rec 5 (0 ∷ 1 ∷ []) ∷ rec 5 (1 ∷ 1 ∷ []) ∷ rec 8 (0 ∷ 1 ∷ []) ∷
@@ -225,8 +225,8 @@ secondFaceInAGroup = record {
 }
 
 -- the same for the face that asks
-unfoldable pub firstFaceInAGroup : Row
-firstFaceInAGroup = record {
+unfoldable pub first_face_in_a_group : Row
+first_face_in_a_group = record {
   job =
       rec 1 (1 ∷ []) ∷ rec 3 (5 ∷ 0 ∷ unset ∷ unset ∷ []) ∷ rec 3 (6 ∷ 0 ∷ unset ∷ unset ∷ []) ∷ rec 4 (7 ∷ 0 ∷ 0 ∷ 0 ∷ 0 ∷ []) ∷ rec 5 (0 ∷ 0 ∷ []) ∷
       rec 4 (7 ∷ 0 ∷ 0 ∷ 0 ∷ 1 ∷ []) ∷ rec 5 (0 ∷ 1 ∷ []) ∷ rec 5 (1 ∷ 0 ∷ []) ∷ rec 4 (7 ∷ 0 ∷ 0 ∷ 0 ∷ 2 ∷ []) ∷ rec 5 (1 ∷ 1 ∷ []) ∷ rec 8 (0 ∷ 1 ∷ []) ∷
@@ -236,8 +236,8 @@ firstFaceInAGroup = record {
 }
 
 -- two groups of two faces each become one through the higher faces of both
-unfoldable pub pairsOfFaces : Row
-pairsOfFaces = record {
+unfoldable pub pairs_of_faces : Row
+pairs_of_faces = record {
   job =
       rec 1 (1 ∷ []) ∷ rec 3 (5 ∷ 0 ∷ unset ∷ unset ∷ []) ∷ rec 3 (6 ∷ 0 ∷ unset ∷ unset ∷ []) ∷ rec 3 (7 ∷ 0 ∷ unset ∷ unset ∷ []) ∷
       rec 4 (7 ∷ 0 ∷ 0 ∷ 0 ∷ 0 ∷ []) ∷ rec 5 (0 ∷ 0 ∷ []) ∷ rec 4 (7 ∷ 0 ∷ 0 ∷ 0 ∷ 1 ∷ []) ∷ rec 5 (1 ∷ 0 ∷ []) ∷ rec 4 (7 ∷ 0 ∷ 0 ∷ 0 ∷ 2 ∷ []) ∷
@@ -249,8 +249,8 @@ pairsOfFaces = record {
 }
 
 -- three faces, each beside each: the first two answers join, the third finds one group
-unfoldable pub threeInARound : Row
-threeInARound = record {
+unfoldable pub three_in_a_round : Row
+three_in_a_round = record {
   job =
       rec 1 (1 ∷ []) ∷ rec 3 (5 ∷ 0 ∷ unset ∷ unset ∷ []) ∷ rec 3 (6 ∷ 0 ∷ unset ∷ unset ∷ []) ∷ rec 3 (7 ∷ 0 ∷ unset ∷ unset ∷ []) ∷
       rec 4 (7 ∷ 0 ∷ 0 ∷ 0 ∷ 0 ∷ []) ∷ rec 5 (0 ∷ 0 ∷ []) ∷ rec 5 (1 ∷ 0 ∷ []) ∷ rec 4 (7 ∷ 0 ∷ 0 ∷ 0 ∷ 1 ∷ []) ∷ rec 5 (0 ∷ 1 ∷ []) ∷ rec 5 (2 ∷ 0 ∷ []) ∷
@@ -260,8 +260,8 @@ threeInARound = record {
 }
 
 -- of three questions one joins: surfaces distinct, and normals that agree where the stored senses differ
-unfoldable pub askedInVain : Row
-askedInVain = record {
+unfoldable pub asked_in_vain : Row
+asked_in_vain = record {
   job =
       rec 1 (1 ∷ []) ∷ rec 3 (5 ∷ 0 ∷ unset ∷ unset ∷ []) ∷ rec 3 (6 ∷ 0 ∷ unset ∷ unset ∷ []) ∷ rec 3 (7 ∷ 0 ∷ unset ∷ unset ∷ []) ∷
       rec 4 (7 ∷ 0 ∷ 0 ∷ 0 ∷ 0 ∷ []) ∷ rec 5 (0 ∷ 0 ∷ []) ∷ rec 4 (8 ∷ 0 ∷ 0 ∷ 0 ∷ 1 ∷ []) ∷ rec 5 (0 ∷ 1 ∷ []) ∷ rec 5 (1 ∷ 0 ∷ []) ∷
@@ -276,72 +276,72 @@ askedInVain = record {
       rec 28 (0 ∷ 1 ∷ 2 ∷ []) ∷ []);
 }
 
-unfoldable pub joinRows : List Row
-joinRows = joinedOnce ∷ secondFaceInAGroup ∷ firstFaceInAGroup ∷ pairsOfFaces ∷ threeInARound ∷ askedInVain ∷ []
+unfoldable pub join_rows : List Row
+join_rows = joined_once ∷ second_face_in_a_group ∷ first_face_in_a_group ∷ pairs_of_faces ∷ three_in_a_round ∷ asked_in_vain ∷ []
 
-pub joins-right : all right joinRows ≡ true
-unfolding computes sameRecords joinRows joinedOnce secondFaceInAGroup firstFaceInAGroup pairsOfFaces threeInARound askedInVain
-joins-right = refl
+pub joins_right : all right join_rows ≡ true
+unfolding computes same_records join_rows joined_once second_face_in_a_group first_face_in_a_group pairs_of_faces three_in_a_round asked_in_vain
+joins_right = refl
 
 -- face joins and groups when so many uses of the three in a round have asked: the third question, of use 3, changes nothing
-unfoldable pub joinsSoFar : ℕ → Outcome (List ℕ)
-joinsSoFar k = loaded (framedAll threeInARound.job) >>= λ j.
-    pair j.answers (usesOf j) (length j.edges) >>= λ ts.
-    throughout (mergeStep fullTable j.answers j.faces (usesOf j) ts) (below k) (ungrouped (length j.faces)) >>= λ g.
+unfoldable pub joins_so_far : ℕ → Outcome (List ℕ)
+joins_so_far k = loaded (framed_all three_in_a_round.job) >>= λ j.
+    pair j.answers (uses_of j) (length j.edges) >>= λ ts.
+    throughout (merge_step full_table j.answers j.faces (uses_of j) ts) (below k) (ungrouped (length j.faces)) >>= λ g.
     ok (g.joins ∷ g.groups)
 
-unfoldable pub questionTests : List Bool
-questionTests =
-    sameBytes (joinsSoFar 0) (ok (0 ∷ 0 ∷ 1 ∷ 2 ∷ [])) ∷
-    sameBytes (joinsSoFar 1) (ok (1 ∷ 0 ∷ 0 ∷ 2 ∷ [])) ∷
-    sameBytes (joinsSoFar 2) (ok (2 ∷ 0 ∷ 0 ∷ 0 ∷ [])) ∷
-    sameBytes (joinsSoFar 3) (ok (2 ∷ 0 ∷ 0 ∷ 0 ∷ [])) ∷
-    sameBytes (joinsSoFar 4) (ok (2 ∷ 0 ∷ 0 ∷ 0 ∷ [])) ∷ []
+unfoldable pub question_tests : List Bool
+question_tests =
+    same_bytes (joins_so_far 0) (ok (0 ∷ 0 ∷ 1 ∷ 2 ∷ [])) ∷
+    same_bytes (joins_so_far 1) (ok (1 ∷ 0 ∷ 0 ∷ 2 ∷ [])) ∷
+    same_bytes (joins_so_far 2) (ok (2 ∷ 0 ∷ 0 ∷ 0 ∷ [])) ∷
+    same_bytes (joins_so_far 3) (ok (2 ∷ 0 ∷ 0 ∷ 0 ∷ [])) ∷
+    same_bytes (joins_so_far 4) (ok (2 ∷ 0 ∷ 0 ∷ 0 ∷ [])) ∷ []
 
-pub each-question-right : all (λ b. b) questionTests ≡ true
-unfolding computes questionTests joinsSoFar threeInARound
-each-question-right = refl
+pub each_question_right : all (λ b. b) question_tests ≡ true
+unfolding computes question_tests joins_so_far three_in_a_round
+each_question_right = refl
 
 -- the body of two faces that are one: 34 bytes of the Body record, 14 of the face, 22 of its members, 6 of the lump, 10 of the shell
-unfoldable pub roomTests : List Bool
-roomTests =
-    sameBytes (sewn ordinary (framedAll joinedOnce.job) 85) (refuse 40 86) ∷
-    sameBytes (sewn ordinary (framedAll joinedOnce.job) 86)
+unfoldable pub room_tests : List Bool
+room_tests =
+    same_bytes (sewn ordinary (framed_all joined_once.job) 85) (refuse 40 86) ∷
+    same_bytes (sewn ordinary (framed_all joined_once.job) 86)
     (ok
-    ((28 ∷ 0 ∷ 0 ∷ 0 ∷ 21 ∷ 0 ∷ []) ++ fieldBytes (1 ∷ 4 ∷ 4 ∷ 0 ∷ 0 ∷ 0 ∷ 1 ∷ []) ++ (8 ∷ 0 ∷ 0 ∷ 0 ∷ 24 ∷ 0 ∷ []) ++ fieldBytes (7 ∷ 0 ∷ []) ++
-    (16 ∷ 0 ∷ 0 ∷ 0 ∷ 29 ∷ 0 ∷ []) ++ fieldBytes (0 ∷ 0 ∷ 0 ∷ 1 ∷ []) ++ (0 ∷ 0 ∷ 0 ∷ 0 ∷ 27 ∷ 0 ∷ []) ++ (4 ∷ 0 ∷ 0 ∷ 0 ∷ 28 ∷ 0 ∷ []) ++
-    fieldBytes (0 ∷ []))) ∷
+    ((28 ∷ 0 ∷ 0 ∷ 0 ∷ 21 ∷ 0 ∷ []) ++ field_bytes (1 ∷ 4 ∷ 4 ∷ 0 ∷ 0 ∷ 0 ∷ 1 ∷ []) ++ (8 ∷ 0 ∷ 0 ∷ 0 ∷ 24 ∷ 0 ∷ []) ++ field_bytes (7 ∷ 0 ∷ []) ++
+    (16 ∷ 0 ∷ 0 ∷ 0 ∷ 29 ∷ 0 ∷ []) ++ field_bytes (0 ∷ 0 ∷ 0 ∷ 1 ∷ []) ++ (0 ∷ 0 ∷ 0 ∷ 0 ∷ 27 ∷ 0 ∷ []) ++ (4 ∷ 0 ∷ 0 ∷ 0 ∷ 28 ∷ 0 ∷ []) ++
+    field_bytes (0 ∷ []))) ∷
     []
 
-pub room-right : all (λ b. b) roomTests ≡ true
-unfolding computes roomTests joinedOnce
-room-right = refl
+pub room_right : all (λ b. b) room_tests ≡ true
+unfolding computes room_tests joined_once
+room_right = refl
 
 -- SEVEN, FACES REMEMBER THEIR MEMBERS
 
 -- a face of so many fields: the forms with three, four and six give 3
-unfoldable pub faceOfFields : List ℕ → List Record
-faceOfFields fields = rec 1 (1 ∷ []) ∷ rec 4 fields ∷ []
+unfoldable pub face_of_fields : List ℕ → List Record
+face_of_fields fields = rec 1 (1 ∷ []) ∷ rec 4 fields ∷ []
 
-unfoldable pub threeFields : Row
-threeFields = record { job = faceOfFields (9 ∷ 0 ∷ 0 ∷ []); ending = refuse 3 10 }
+unfoldable pub three_fields : Row
+three_fields = record { job = face_of_fields (9 ∷ 0 ∷ 0 ∷ []); ending = refuse 3 10 }
 
-unfoldable pub fourFields : Row
-fourFields = record { job = faceOfFields (9 ∷ 0 ∷ 0 ∷ 0 ∷ []); ending = refuse 3 10 }
+unfoldable pub four_fields : Row
+four_fields = record { job = face_of_fields (9 ∷ 0 ∷ 0 ∷ 0 ∷ []); ending = refuse 3 10 }
 
-unfoldable pub sixFields : Row
-sixFields = record { job = faceOfFields (9 ∷ 0 ∷ 0 ∷ 0 ∷ 0 ∷ 0 ∷ []); ending = refuse 3 10 }
+unfoldable pub six_fields : Row
+six_fields = record { job = face_of_fields (9 ∷ 0 ∷ 0 ∷ 0 ∷ 0 ∷ 0 ∷ []); ending = refuse 3 10 }
 
 -- a body other than 0 or 1 is a field fault, also of the second face
-unfoldable pub bodyTwo : Row
-bodyTwo = record { job = faceOfFields (9 ∷ 0 ∷ 0 ∷ 2 ∷ 0 ∷ []); ending = refuse 4 10 }
+unfoldable pub body_two : Row
+body_two = record { job = face_of_fields (9 ∷ 0 ∷ 0 ∷ 2 ∷ 0 ∷ []); ending = refuse 4 10 }
 
-unfoldable pub bodyHighest : Row
-bodyHighest = record { job = faceOfFields (9 ∷ 0 ∷ 0 ∷ 0 ∷ 0 ∷ []) ++ (rec 4 (9 ∷ 0 ∷ 0 ∷ unset ∷ 0 ∷ []) ∷ []); ending = refuse 4 36 }
+unfoldable pub body_highest : Row
+body_highest = record { job = face_of_fields (9 ∷ 0 ∷ 0 ∷ 0 ∷ 0 ∷ []) ++ (rec 4 (9 ∷ 0 ∷ 0 ∷ unset ∷ 0 ∷ []) ∷ []); ending = refuse 4 36 }
 
 -- a source face may be anything, 4,294,967,295 as any other number; a face without loops has its members too
-unfoldable pub sourceAnything : Row
-sourceAnything = record {
+unfoldable pub source_anything : Row
+source_anything = record {
   job = rec 1 (1 ∷ []) ∷ rec 4 (7 ∷ 0 ∷ 0 ∷ 0 ∷ unset ∷ []) ∷ rec 4 (8 ∷ 0 ∷ 0 ∷ 1 ∷ 65536 ∷ []) ∷ [];
   ending = ok
       (rec 21 (1 ∷ 0 ∷ 0 ∷ 0 ∷ 0 ∷ 0 ∷ 0 ∷ []) ∷ rec 24 (7 ∷ 0 ∷ []) ∷ rec 29 (0 ∷ unset ∷ []) ∷ rec 24 (8 ∷ 0 ∷ []) ∷ rec 29 (1 ∷ 65536 ∷ []) ∷
@@ -349,8 +349,8 @@ sourceAnything = record {
 }
 
 -- three members of two bodies in one face, by ascending selected face and not by source; the pairs are body and source of each in turn, and they stand before the face's loop and its vertex loop
-unfoldable pub threeMembers : Row
-threeMembers = record {
+unfoldable pub three_members : Row
+three_members = record {
   job =
       rec 1 (1 ∷ []) ∷ rec 2 (4 ∷ []) ∷ rec 3 (5 ∷ 0 ∷ unset ∷ unset ∷ []) ∷ rec 3 (6 ∷ 0 ∷ unset ∷ unset ∷ []) ∷ rec 3 (9 ∷ 0 ∷ unset ∷ unset ∷ []) ∷
       rec 4 (8 ∷ 0 ∷ 0 ∷ 1 ∷ 0 ∷ []) ∷ rec 5 (2 ∷ 1 ∷ []) ∷
@@ -366,8 +366,8 @@ threeMembers = record {
 }
 
 -- two merged faces whose selected faces alternate: each has its own, and not those between
-unfoldable pub membersAlternate : Row
-membersAlternate = record {
+unfoldable pub members_alternate : Row
+members_alternate = record {
   job =
       rec 1 (1 ∷ []) ∷ rec 3 (5 ∷ 0 ∷ unset ∷ unset ∷ []) ∷ rec 3 (6 ∷ 0 ∷ unset ∷ unset ∷ []) ∷
       rec 4 (7 ∷ 0 ∷ 0 ∷ 0 ∷ 40 ∷ []) ∷ rec 5 (0 ∷ 0 ∷ []) ∷ rec 4 (8 ∷ 1 ∷ 0 ∷ 1 ∷ 40 ∷ []) ∷ rec 5 (1 ∷ 0 ∷ []) ∷
@@ -379,32 +379,32 @@ membersAlternate = record {
 }
 
 -- kind 29 is a record of the body alone
-unfoldable pub membersInJob : Row
-membersInJob = record { job = faceOfFields (9 ∷ 0 ∷ 0 ∷ 0 ∷ 0 ∷ []) ++ (rec 29 (0 ∷ 0 ∷ []) ∷ []); ending = refuse 3 36 }
+unfoldable pub members_in_job : Row
+members_in_job = record { job = face_of_fields (9 ∷ 0 ∷ 0 ∷ 0 ∷ 0 ∷ []) ++ (rec 29 (0 ∷ 0 ∷ []) ∷ []); ending = refuse 3 36 }
 
-unfoldable pub memberRows : List Row
-memberRows =
-    threeFields ∷ fourFields ∷ sixFields ∷ bodyTwo ∷ bodyHighest ∷ sourceAnything ∷ threeMembers ∷ membersAlternate ∷ membersInJob ∷ []
+unfoldable pub member_rows : List Row
+member_rows =
+    three_fields ∷ four_fields ∷ six_fields ∷ body_two ∷ body_highest ∷ source_anything ∷ three_members ∷ members_alternate ∷ members_in_job ∷ []
 
-pub members-right : all right memberRows ≡ true
-unfolding computes sameRecords memberRows faceOfFields threeFields fourFields sixFields bodyTwo bodyHighest sourceAnything threeMembers membersAlternate membersInJob
-members-right = refl
+pub members_right : all right member_rows ≡ true
+unfolding computes same_records member_rows face_of_fields three_fields four_fields six_fields body_two body_highest source_anything three_members members_alternate members_in_job
+members_right = refl
 
 -- the lines of a listing: `members`, pairs, and 4,294,967,295 as a number
-unfoldable pub memberTexts : List Bool
-memberTexts =
-    same (listing ordinary (framedAll (faceOfFields (9 ∷ 0 ∷ 0 ∷ 0 ∷ 0 ∷ []))))
+unfoldable pub member_texts : List Bool
+member_texts =
+    same (listing ordinary (framed_all (face_of_fields (9 ∷ 0 ∷ 0 ∷ 0 ∷ 0 ∷ []))))
     (98 ∷ 111 ∷ 100 ∷ 121 ∷ 32 ∷ 49 ∷ 32 ∷ 48 ∷ 32 ∷ 48 ∷ 32 ∷ 48 ∷ 32 ∷ 48 ∷ 32 ∷ 48 ∷ 32 ∷ 48 ∷ 10 ∷ 102 ∷ 97 ∷ 99 ∷ 101 ∷ 32 ∷ 57 ∷ 32 ∷ 48 ∷ 10 ∷ 109 ∷ 101 ∷ 109 ∷ 98 ∷ 101 ∷ 114 ∷ 115 ∷
     32 ∷ 48 ∷ 32 ∷ 48 ∷ 10 ∷ 108 ∷ 117 ∷ 109 ∷ 112 ∷ 10 ∷ 115 ∷ 104 ∷ 101 ∷ 108 ∷ 108 ∷ 32 ∷ 48 ∷ 10 ∷ []) ∷
-    same (listing ordinary (framedAll sourceAnything.job))
+    same (listing ordinary (framed_all source_anything.job))
     (98 ∷ 111 ∷ 100 ∷ 121 ∷ 32 ∷ 49 ∷ 32 ∷ 48 ∷ 32 ∷ 48 ∷ 32 ∷ 48 ∷ 32 ∷ 48 ∷ 32 ∷ 48 ∷ 32 ∷ 48 ∷ 10 ∷ 102 ∷ 97 ∷ 99 ∷ 101 ∷ 32 ∷ 55 ∷ 32 ∷ 48 ∷ 10 ∷ 109 ∷ 101 ∷ 109 ∷ 98 ∷ 101 ∷ 114 ∷ 115 ∷
     32 ∷ 48 ∷ 32 ∷ 52 ∷ 50 ∷ 57 ∷ 52 ∷ 57 ∷ 54 ∷ 55 ∷ 50 ∷ 57 ∷ 53 ∷ 10 ∷ 102 ∷ 97 ∷ 99 ∷ 101 ∷ 32 ∷ 56 ∷ 32 ∷ 48 ∷ 10 ∷ 109 ∷ 101 ∷ 109 ∷ 98 ∷ 101 ∷ 114 ∷ 115 ∷ 32 ∷ 49 ∷ 32 ∷ 54 ∷ 53 ∷ 53 ∷
     51 ∷ 54 ∷ 10 ∷ 108 ∷ 117 ∷ 109 ∷ 112 ∷ 10 ∷ 115 ∷ 104 ∷ 101 ∷ 108 ∷ 108 ∷ 32 ∷ 48 ∷ 10 ∷ 108 ∷ 117 ∷ 109 ∷ 112 ∷ 10 ∷ 115 ∷ 104 ∷ 101 ∷ 108 ∷ 108 ∷ 32 ∷ 49 ∷ 10 ∷ []) ∷
     []
 
-pub member-texts-right : all (λ b. b) memberTexts ≡ true
-unfolding computes memberTexts faceOfFields sourceAnything
-member-texts-right = refl
+pub member_texts_right : all (λ b. b) member_texts ≡ true
+unfolding computes member_texts face_of_fields source_anything
+member_texts_right = refl
 
 -- EIGHT, NO FACE SELECTED TWICE
 
@@ -413,8 +413,8 @@ unfoldable pub selecting : List (List ℕ) → List Record
 selecting faces = rec 1 (1 ∷ []) ∷ map (rec 4) faces
 
 -- the same face selected twice, in both senses: the pairing error that puzzled the user is not reached
-unfoldable pub selectedTwice : Row
-selectedTwice = record {
+unfoldable pub selected_twice : Row
+selected_twice = record {
   job =
       rec 1 (1 ∷ []) ∷ rec 3 (5 ∷ 0 ∷ unset ∷ unset ∷ []) ∷ rec 4 (7 ∷ 0 ∷ 0 ∷ 1 ∷ 9 ∷ []) ∷ rec 5 (0 ∷ 0 ∷ []) ∷
       rec 4 (7 ∷ 0 ∷ 1 ∷ 1 ∷ 9 ∷ []) ∷ rec 5 (0 ∷ 1 ∷ []) ∷ [];
@@ -422,8 +422,8 @@ selectedTwice = record {
 }
 
 -- two that would be joined into one face
-unfoldable pub twiceAndJoined : Row
-twiceAndJoined = record {
+unfoldable pub twice_and_joined : Row
+twice_and_joined = record {
   job =
       rec 1 (1 ∷ []) ∷ rec 3 (5 ∷ 0 ∷ unset ∷ unset ∷ []) ∷ rec 4 (7 ∷ 0 ∷ 0 ∷ 1 ∷ 6 ∷ []) ∷ rec 5 (0 ∷ 0 ∷ []) ∷
       rec 4 (7 ∷ 0 ∷ 0 ∷ 1 ∷ 6 ∷ []) ∷ rec 5 (0 ∷ 1 ∷ []) ∷ rec 8 (0 ∷ 1 ∷ []) ∷ [];
@@ -431,51 +431,51 @@ twiceAndJoined = record {
 }
 
 -- neither the surface nor a sense makes it another face
-unfoldable pub twiceOnAnotherSurface : Row
-twiceOnAnotherSurface = record { job = selecting ((7 ∷ 0 ∷ 0 ∷ 0 ∷ 5 ∷ []) ∷ (8 ∷ 0 ∷ 0 ∷ 0 ∷ 5 ∷ []) ∷ []); ending = refuse 45 36 }
+unfoldable pub twice_on_another_surface : Row
+twice_on_another_surface = record { job = selecting ((7 ∷ 0 ∷ 0 ∷ 0 ∷ 5 ∷ []) ∷ (8 ∷ 0 ∷ 0 ∷ 0 ∷ 5 ∷ []) ∷ []); ending = refuse 45 36 }
 
 -- nor the own sense
-unfoldable pub twiceWithAnotherOwnSense : Row
-twiceWithAnotherOwnSense = record { job = selecting ((7 ∷ 0 ∷ 0 ∷ 0 ∷ 5 ∷ []) ∷ (7 ∷ 1 ∷ 0 ∷ 0 ∷ 5 ∷ []) ∷ []); ending = refuse 45 36 }
+unfoldable pub twice_with_another_own_sense : Row
+twice_with_another_own_sense = record { job = selecting ((7 ∷ 0 ∷ 0 ∷ 0 ∷ 5 ∷ []) ∷ (7 ∷ 1 ∷ 0 ∷ 0 ∷ 5 ∷ []) ∷ []); ending = refuse 45 36 }
 
 -- in body 1 as in body 0
-unfoldable pub twiceInTheOtherBody : Row
-twiceInTheOtherBody = record { job = selecting ((7 ∷ 0 ∷ 0 ∷ 1 ∷ 5 ∷ []) ∷ (7 ∷ 0 ∷ 0 ∷ 1 ∷ 5 ∷ []) ∷ []); ending = refuse 45 36 }
+unfoldable pub twice_in_the_other_body : Row
+twice_in_the_other_body = record { job = selecting ((7 ∷ 0 ∷ 0 ∷ 1 ∷ 5 ∷ []) ∷ (7 ∷ 0 ∷ 0 ∷ 1 ∷ 5 ∷ []) ∷ []); ending = refuse 45 36 }
 
 -- the number 0, and the highest, are numbers as any other
-unfoldable pub zeroTwice : Row
-zeroTwice = record { job = selecting ((7 ∷ 0 ∷ 0 ∷ 0 ∷ 0 ∷ []) ∷ (7 ∷ 0 ∷ 0 ∷ 0 ∷ 0 ∷ []) ∷ []); ending = refuse 45 36 }
+unfoldable pub zero_twice : Row
+zero_twice = record { job = selecting ((7 ∷ 0 ∷ 0 ∷ 0 ∷ 0 ∷ []) ∷ (7 ∷ 0 ∷ 0 ∷ 0 ∷ 0 ∷ []) ∷ []); ending = refuse 45 36 }
 
-unfoldable pub highestTwice : Row
-highestTwice = record { job = selecting ((7 ∷ 0 ∷ 0 ∷ 0 ∷ unset ∷ []) ∷ (7 ∷ 0 ∷ 0 ∷ 0 ∷ unset ∷ []) ∷ []); ending = refuse 45 36 }
+unfoldable pub highest_twice : Row
+highest_twice = record { job = selecting ((7 ∷ 0 ∷ 0 ∷ 0 ∷ unset ∷ []) ∷ (7 ∷ 0 ∷ 0 ∷ 0 ∷ unset ∷ []) ∷ []); ending = refuse 45 36 }
 
 -- each face is held against all before it, and not only against the one before
-unfoldable pub notTheFaceBefore : Row
-notTheFaceBefore = record { job = selecting ((7 ∷ 0 ∷ 0 ∷ 0 ∷ 5 ∷ []) ∷ (7 ∷ 0 ∷ 0 ∷ 0 ∷ 6 ∷ []) ∷ (7 ∷ 0 ∷ 0 ∷ 0 ∷ 5 ∷ []) ∷ []); ending = refuse 45 62 }
+unfoldable pub not_the_face_before : Row
+not_the_face_before = record { job = selecting ((7 ∷ 0 ∷ 0 ∷ 0 ∷ 5 ∷ []) ∷ (7 ∷ 0 ∷ 0 ∷ 0 ∷ 6 ∷ []) ∷ (7 ∷ 0 ∷ 0 ∷ 0 ∷ 5 ∷ []) ∷ []); ending = refuse 45 62 }
 
 -- or against the first
-unfoldable pub notTheFirstFace : Row
-notTheFirstFace = record { job = selecting ((7 ∷ 0 ∷ 0 ∷ 0 ∷ 5 ∷ []) ∷ (7 ∷ 0 ∷ 0 ∷ 0 ∷ 6 ∷ []) ∷ (7 ∷ 0 ∷ 0 ∷ 0 ∷ 6 ∷ []) ∷ []); ending = refuse 45 62 }
+unfoldable pub not_the_first_face : Row
+not_the_first_face = record { job = selecting ((7 ∷ 0 ∷ 0 ∷ 0 ∷ 5 ∷ []) ∷ (7 ∷ 0 ∷ 0 ∷ 0 ∷ 6 ∷ []) ∷ (7 ∷ 0 ∷ 0 ∷ 0 ∷ 6 ∷ []) ∷ []); ending = refuse 45 62 }
 
 -- with the same number of the other body between
-unfoldable pub afterTheOtherBody : Row
-afterTheOtherBody = record { job = selecting ((7 ∷ 0 ∷ 0 ∷ 0 ∷ 5 ∷ []) ∷ (7 ∷ 0 ∷ 0 ∷ 1 ∷ 5 ∷ []) ∷ (7 ∷ 0 ∷ 0 ∷ 0 ∷ 5 ∷ []) ∷ []); ending = refuse 45 62 }
+unfoldable pub after_the_other_body : Row
+after_the_other_body = record { job = selecting ((7 ∷ 0 ∷ 0 ∷ 0 ∷ 5 ∷ []) ∷ (7 ∷ 0 ∷ 0 ∷ 1 ∷ 5 ∷ []) ∷ (7 ∷ 0 ∷ 0 ∷ 0 ∷ 5 ∷ []) ∷ []); ending = refuse 45 62 }
 
 -- the first record that repeats one is told, though an earlier face is repeated later
-unfoldable pub firstOfTwoRepeats : Row
-firstOfTwoRepeats = record { job = selecting ((7 ∷ 0 ∷ 0 ∷ 0 ∷ 5 ∷ []) ∷ (7 ∷ 0 ∷ 0 ∷ 0 ∷ 6 ∷ []) ∷ (7 ∷ 0 ∷ 0 ∷ 0 ∷ 6 ∷ []) ∷ (7 ∷ 0 ∷ 0 ∷ 0 ∷ 5 ∷ []) ∷ []); ending = refuse 45 62 }
+unfoldable pub first_of_two_repeats : Row
+first_of_two_repeats = record { job = selecting ((7 ∷ 0 ∷ 0 ∷ 0 ∷ 5 ∷ []) ∷ (7 ∷ 0 ∷ 0 ∷ 0 ∷ 6 ∷ []) ∷ (7 ∷ 0 ∷ 0 ∷ 0 ∷ 6 ∷ []) ∷ (7 ∷ 0 ∷ 0 ∷ 0 ∷ 5 ∷ []) ∷ []); ending = refuse 45 62 }
 
 -- of that record the length comes first
-unfoldable pub lengthBeforeTwice : Row
-lengthBeforeTwice = record { job = selecting ((7 ∷ 0 ∷ 0 ∷ 0 ∷ 0 ∷ []) ∷ (7 ∷ 0 ∷ 0 ∷ []) ∷ []); ending = refuse 3 36 }
+unfoldable pub length_before_twice : Row
+length_before_twice = record { job = selecting ((7 ∷ 0 ∷ 0 ∷ 0 ∷ 0 ∷ []) ∷ (7 ∷ 0 ∷ 0 ∷ []) ∷ []); ending = refuse 3 36 }
 
 -- and the fields: a sense that is none
-unfoldable pub fieldsBeforeTwice : Row
-fieldsBeforeTwice = record { job = selecting ((7 ∷ 0 ∷ 0 ∷ 0 ∷ 9 ∷ []) ∷ (7 ∷ 0 ∷ 2 ∷ 0 ∷ 9 ∷ []) ∷ []); ending = refuse 4 36 }
+unfoldable pub fields_before_twice : Row
+fields_before_twice = record { job = selecting ((7 ∷ 0 ∷ 0 ∷ 0 ∷ 9 ∷ []) ∷ (7 ∷ 0 ∷ 2 ∷ 0 ∷ 9 ∷ []) ∷ []); ending = refuse 4 36 }
 
 -- before a later loop that does not join
-unfoldable pub twiceBeforeJoints : Row
-twiceBeforeJoints = record {
+unfoldable pub twice_before_joints : Row
+twice_before_joints = record {
   job =
       rec 1 (1 ∷ []) ∷ rec 2 (0 ∷ []) ∷ rec 2 (1 ∷ []) ∷ rec 3 (5 ∷ 0 ∷ 0 ∷ 1 ∷ []) ∷ rec 4 (7 ∷ 0 ∷ 0 ∷ 0 ∷ 9 ∷ []) ∷ rec 4 (7 ∷ 0 ∷ 0 ∷ 0 ∷ 9 ∷ []) ∷
       rec 5 (0 ∷ 0 ∷ []) ∷ [];
@@ -483,8 +483,8 @@ twiceBeforeJoints = record {
 }
 
 -- and after an earlier one
-unfoldable pub jointsBeforeTwice : Row
-jointsBeforeTwice = record {
+unfoldable pub joints_before_twice : Row
+joints_before_twice = record {
   job =
       rec 1 (1 ∷ []) ∷ rec 2 (0 ∷ []) ∷ rec 2 (1 ∷ []) ∷ rec 3 (5 ∷ 0 ∷ 0 ∷ 1 ∷ []) ∷ rec 4 (7 ∷ 0 ∷ 0 ∷ 0 ∷ 9 ∷ []) ∷ rec 5 (0 ∷ 0 ∷ []) ∷
       rec 4 (7 ∷ 0 ∷ 0 ∷ 0 ∷ 9 ∷ []) ∷ [];
@@ -492,12 +492,12 @@ jointsBeforeTwice = record {
 }
 
 -- before a later record of no kind
-unfoldable pub twiceBeforeUnknown : Row
-twiceBeforeUnknown = record { job = selecting ((7 ∷ 0 ∷ 0 ∷ 0 ∷ 9 ∷ []) ∷ (7 ∷ 0 ∷ 0 ∷ 0 ∷ 9 ∷ []) ∷ []) ++ (rec 14 [] ∷ []); ending = refuse 45 36 }
+unfoldable pub twice_before_unknown : Row
+twice_before_unknown = record { job = selecting ((7 ∷ 0 ∷ 0 ∷ 0 ∷ 9 ∷ []) ∷ (7 ∷ 0 ∷ 0 ∷ 0 ∷ 9 ∷ []) ∷ []) ++ (rec 14 [] ∷ []); ending = refuse 45 36 }
 
 -- the same number in the other body is another face
-unfoldable pub sameNumberOfBoth : Row
-sameNumberOfBoth = record {
+unfoldable pub same_number_of_both : Row
+same_number_of_both = record {
   job =
       rec 1 (1 ∷ []) ∷ rec 3 (5 ∷ 0 ∷ unset ∷ unset ∷ []) ∷ rec 4 (7 ∷ 0 ∷ 0 ∷ 0 ∷ 9 ∷ []) ∷ rec 5 (0 ∷ 0 ∷ []) ∷
       rec 4 (7 ∷ 0 ∷ 0 ∷ 1 ∷ 9 ∷ []) ∷ rec 5 (0 ∷ 1 ∷ []) ∷ rec 8 (0 ∷ 1 ∷ []) ∷ [];
@@ -505,8 +505,8 @@ sameNumberOfBoth = record {
 }
 
 -- body and number are compared each for itself
-unfoldable pub sameSum : Row
-sameSum = record {
+unfoldable pub same_sum : Row
+same_sum = record {
   job = selecting ((7 ∷ 0 ∷ 0 ∷ 0 ∷ 6 ∷ []) ∷ (7 ∷ 0 ∷ 0 ∷ 1 ∷ 5 ∷ []) ∷ []);
   ending = ok
       (rec 21 (1 ∷ 0 ∷ 0 ∷ 0 ∷ 0 ∷ 0 ∷ 0 ∷ []) ∷ rec 24 (7 ∷ 0 ∷ []) ∷ rec 29 (0 ∷ 6 ∷ []) ∷ rec 24 (7 ∷ 0 ∷ []) ∷ rec 29 (1 ∷ 5 ∷ []) ∷
@@ -514,8 +514,8 @@ sameSum = record {
 }
 
 -- numbers that agree in their lowest 8, 16, 24 or 31 bits are different
-unfoldable pub byAllBits : Row
-byAllBits = record {
+unfoldable pub by_all_bits : Row
+by_all_bits = record {
   job = selecting ((7 ∷ 0 ∷ 0 ∷ 0 ∷ 1 ∷ []) ∷ (7 ∷ 0 ∷ 0 ∷ 0 ∷ 257 ∷ []) ∷ (7 ∷ 0 ∷ 0 ∷ 0 ∷ 65537 ∷ []) ∷ (7 ∷ 0 ∷ 0 ∷ 0 ∷ 16777217 ∷ []) ∷ (7 ∷ 0 ∷ 0 ∷ 0 ∷ 2147483649 ∷ []) ∷ []);
   ending = ok
       (rec 21 (1 ∷ 0 ∷ 0 ∷ 0 ∷ 0 ∷ 0 ∷ 0 ∷ []) ∷ rec 24 (7 ∷ 0 ∷ []) ∷ rec 29 (0 ∷ 1 ∷ []) ∷ rec 24 (7 ∷ 0 ∷ []) ∷ rec 29 (0 ∷ 257 ∷ []) ∷
@@ -524,28 +524,28 @@ byAllBits = record {
       rec 27 [] ∷ rec 28 (3 ∷ []) ∷ rec 27 [] ∷ rec 28 (4 ∷ []) ∷ []);
 }
 
-unfoldable pub selectedRows : List Row
-selectedRows =
-    selectedTwice ∷ twiceAndJoined ∷ twiceOnAnotherSurface ∷ twiceWithAnotherOwnSense ∷ twiceInTheOtherBody ∷ zeroTwice ∷ highestTwice ∷ notTheFaceBefore ∷ notTheFirstFace ∷
-    afterTheOtherBody ∷ firstOfTwoRepeats ∷ lengthBeforeTwice ∷ fieldsBeforeTwice ∷ twiceBeforeJoints ∷ jointsBeforeTwice ∷ twiceBeforeUnknown ∷ sameNumberOfBoth ∷ sameSum ∷ byAllBits ∷ []
+unfoldable pub selected_rows : List Row
+selected_rows =
+    selected_twice ∷ twice_and_joined ∷ twice_on_another_surface ∷ twice_with_another_own_sense ∷ twice_in_the_other_body ∷ zero_twice ∷ highest_twice ∷ not_the_face_before ∷ not_the_first_face ∷
+    after_the_other_body ∷ first_of_two_repeats ∷ length_before_twice ∷ fields_before_twice ∷ twice_before_joints ∷ joints_before_twice ∷ twice_before_unknown ∷ same_number_of_both ∷ same_sum ∷ by_all_bits ∷ []
 
-pub selected-right : all right selectedRows ≡ true
-unfolding computes sameRecords selectedRows selecting selectedTwice twiceAndJoined twiceOnAnotherSurface twiceWithAnotherOwnSense twiceInTheOtherBody zeroTwice highestTwice notTheFaceBefore notTheFirstFace afterTheOtherBody firstOfTwoRepeats lengthBeforeTwice fieldsBeforeTwice twiceBeforeJoints jointsBeforeTwice twiceBeforeUnknown sameNumberOfBoth sameSum byAllBits
-selected-right = refl
+pub selected_right : all right selected_rows ≡ true
+unfolding computes same_records selected_rows selecting selected_twice twice_and_joined twice_on_another_surface twice_with_another_own_sense twice_in_the_other_body zero_twice highest_twice not_the_face_before not_the_first_face after_the_other_body first_of_two_repeats length_before_twice fields_before_twice twice_before_joints joints_before_twice twice_before_unknown same_number_of_both same_sum by_all_bits
+selected_right = refl
 
 -- a record that is cut, after the second of two; and as the second of them
-unfoldable pub selectedTests : List Bool
-selectedTests =
-    sameBytes (sewn ordinary (framedAll selectedTwice.job ++ (4 ∷ 0 ∷ 0 ∷ [])) 65536) (refuse 45 72) ∷
-    sameBytes (sewn ordinary (take 60 (framedAll twiceBeforeUnknown.job)) 65536) (refuse 2 36) ∷
+unfoldable pub selected_tests : List Bool
+selected_tests =
+    same_bytes (sewn ordinary (framed_all selected_twice.job ++ (4 ∷ 0 ∷ 0 ∷ [])) 65536) (refuse 45 72) ∷
+    same_bytes (sewn ordinary (take 60 (framed_all twice_before_unknown.job)) 65536) (refuse 2 36) ∷
     -- in a stage, and in the loop request before a loop that there is none of; that shows nothing
-    sameBytes (readStage (framedAll selectedTwice.job) 65536) (refuse 45 72) ∷
-    sameBytes (fanStage ordinary (framedAll selectedTwice.job) 65536) (refuse 45 72) ∷
-    sameStretch (requested (framedAll selectedTwice.job) 9) (refuse 45 72) ∷
-    sameStretch (requested (framedAll selectedTwice.job) 0) (refuse 45 72) ∷
-    same (shown (framedAll selectedTwice.job) (requested (framedAll selectedTwice.job) 0)) [] ∷
+    same_bytes (read_stage (framed_all selected_twice.job) 65536) (refuse 45 72) ∷
+    same_bytes (fan_stage ordinary (framed_all selected_twice.job) 65536) (refuse 45 72) ∷
+    same_stretch (requested (framed_all selected_twice.job) 9) (refuse 45 72) ∷
+    same_stretch (requested (framed_all selected_twice.job) 0) (refuse 45 72) ∷
+    same (shown (framed_all selected_twice.job) (requested (framed_all selected_twice.job) 0)) [] ∷
     []
 
-pub selected-tests-right : all (λ b. b) selectedTests ≡ true
-unfolding computes selectedTests selecting selectedTwice twiceBeforeUnknown
-selected-tests-right = refl
+pub selected_tests_right : all (λ b. b) selected_tests ≡ true
+unfolding computes selected_tests selecting selected_twice twice_before_unknown
+selected_tests_right = refl

@@ -4,13 +4,13 @@ use Rattle.rules.specs.declared.Sense.{Sense}
 use Rattle.rules.specs.declared.Sense.TheVariants.{Same, Reversed}
 
 -- Job records: sense is 0 Same, 1 Reversed
-abbrev pub senseOf : ℕ → Sense
-senseOf n = cond (eqb n 0) Same Reversed
+abbrev pub sense_of : ℕ → Sense
+sense_of n = cond (eqb n 0) Same Reversed
 
 -- the number that stands for a sense
-abbrev pub senseNumber : Sense → ℕ
-senseNumber Same = 0
-senseNumber Reversed = 1
+abbrev pub sense_number : Sense → ℕ
+sense_number Same = 0
+sense_number Reversed = 1
 
 -- The stages: `reverse` swaps senses
 abbrev pub reverse : Sense → Sense
@@ -34,13 +34,13 @@ FourAnswers a b r =
     × (a ≡ Reversed → b ≡ Reversed → r ≡ Same)
 
 -- two senses are equal, as a test
-abbrev pub sameSense : Sense → Sense → Bool
-sameSense Same Same = true
-sameSense Same Reversed = false
-sameSense Reversed Same = false
-sameSense Reversed Reversed = true
+abbrev pub same_sense : Sense → Sense → Bool
+same_sense Same Same = true
+same_sense Same Reversed = false
+same_sense Reversed Same = false
+same_sense Reversed Reversed = true
 
 -- a sense is Same, as a test
-abbrev pub isSame : Sense → Bool
-isSame Same = true
-isSame Reversed = false
+abbrev pub is_same : Sense → Bool
+is_same Same = true
+is_same Reversed = false

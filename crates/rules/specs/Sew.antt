@@ -1,27 +1,27 @@
 -- Sewing: the stages one after the other, from a job's bytes to the body's bytes or a refusal.
 use Rattle.std.specs.Prelude.{ℕ, ◌≡◌, List, ◌++◌, true, cond, length, drop, eqb, leb}
-use Rattle.lists.specs.Lists.{keep, sumOf}
+use Rattle.lists.specs.Lists.{keep, sum_of}
 use Rattle.rules.specs.declared.Use.{Use}
 use Rattle.rules.specs.declared.KeptVertexLoop.{KeptVertexLoop}
 use Rattle.rules.specs.declared.Ending.{Ending}
 use Rattle.rules.specs.declared.Ending.TheVariants.{Written, Refused}
 use Rattle.rules.specs.Outcome.{Outcome, ok, refuse, ◌>>=◌, need}
-use Rattle.rules.specs.Frame.{framedAll}
+use Rattle.rules.specs.Frame.{framed_all}
 use Rattle.rules.specs.Job.{Job}
 use Rattle.rules.specs.Load.{loaded}
-use Rattle.rules.specs.Read.{usesOf}
-use Rattle.rules.specs.Groups.{lowestMembers}
+use Rattle.rules.specs.Read.{uses_of}
+use Rattle.rules.specs.Groups.{lowest_members}
 use Rattle.rules.specs.Pair.{pair}
 use Rattle.rules.specs.Rules.{Rules}
-use Rattle.rules.specs.Merge.{Merged, mergeFaces, mergedFaces}
-use Rattle.rules.specs.VertexLoops.{vertexLoops}
-use Rattle.rules.specs.Walk.{successors, passedCounts, Circuit, circuits, loopsOf}
-use Rattle.rules.specs.Fans.{fans, fanNames, startPoints}
-use Rattle.rules.specs.Contact.{edgesClear, pointsClear}
-use Rattle.rules.specs.Edges.{edgesOf, faceLoops}
-use Rattle.rules.specs.Join.{Joining, maximalEdges, allowed}
-use Rattle.rules.specs.Shells.{Shell, allShellFaces, shells, Nested, nested, lumps, lumpLabels}
-use Rattle.rules.specs.Body.{Totals, Body, emptyBody, solidBody, bodyRecords}
+use Rattle.rules.specs.Merge.{Merged, merge_faces, merged_faces}
+use Rattle.rules.specs.VertexLoops.{vertex_loops}
+use Rattle.rules.specs.Walk.{successors, passed_counts, Circuit, circuits, loops_of}
+use Rattle.rules.specs.Fans.{fans, fan_names, start_points}
+use Rattle.rules.specs.Contact.{edges_clear, points_clear}
+use Rattle.rules.specs.Edges.{edges_of, face_loops}
+use Rattle.rules.specs.Join.{Joining, maximal_edges, allowed}
+use Rattle.rules.specs.Shells.{Shell, all_shell_faces, shells, Nested, nested, lumps, lump_labels}
+use Rattle.rules.specs.Body.{Totals, Body, empty_body, solid_body, body_records}
 
 -- THROUGH THE WALKS
 
@@ -30,33 +30,33 @@ pub record Walked : Type 0 where
   pub uses : List Use
   pub twins : List ℕ
   pub merge : Merged
-  pub vertexLoops : List KeptVertexLoop
+  pub vertex_loops : List KeptVertexLoop
   pub successors : List ℕ
   pub passed : List ℕ
   pub circuits : List Circuit
 
 -- the walks of merged faces
-unfoldable pub walksOf : List Use → List ℕ → Merged → List KeptVertexLoop → Walked
-walksOf us ts m ks =
+unfoldable pub walks_of : List Use → List ℕ → Merged → List KeptVertexLoop → Walked
+walks_of us ts m ks =
     let ss = successors us ts m.removed in
     record {
       uses = us;
       twins = ts;
       merge = m;
-      vertexLoops = ks;
+      vertex_loops = ks;
       successors = ss;
-      passed = passedCounts us ts m.removed;
+      passed = passed_counts us ts m.removed;
       circuits = circuits m.removed ss;
     }
 
 -- The stages: reading, pairing, merging, vertex loops, walks
 unfoldable pub walked : Rules → Job → Outcome Walked
 walked rules j =
-    let us = usesOf j in
+    let us = uses_of j in
     pair j.answers us (length j.edges) >>= λ ts.
-    mergeFaces rules.table j.answers j.faces us ts >>= λ m.
-    vertexLoops j.answers j.points (mergedFaces m) j.loops >>= λ ks.
-    ok (walksOf us ts m ks)
+    merge_faces rules.table j.answers j.faces us ts >>= λ m.
+    vertex_loops j.answers j.points (merged_faces m) j.loops >>= λ ks.
+    ok (walks_of us ts m ks)
 
 -- THROUGH JOINING
 
@@ -67,30 +67,30 @@ pub record Fanned : Type 0 where
   pub names : List ℕ
   pub starts : List ℕ
 
-unfoldable pub fansOf : Job → Walked → Fanned
-fansOf j w =
+unfoldable pub fans_of : Job → Walked → Fanned
+fans_of j w =
     let g = fans j.edges w.uses w.twins w.merge.removed w.successors in
     record {
       walk = w;
       fans = g;
-      names = fanNames j.edges w.uses w.merge.removed g;
-      starts = startPoints j.points j.edges w.uses;
+      names = fan_names j.edges w.uses w.merge.removed g;
+      starts = start_points j.points j.edges w.uses;
     }
 
 -- The stages: contact test 30, then fans
 unfoldable pub fanned : Rules → Job → Outcome Fanned
 fanned rules j = walked rules j >>= λ w.
-    edgesClear 30 w.uses w.twins w.merge.boundaries (length j.edges) >>= λ _.
-    ok (fansOf j w)
+    edges_clear 30 w.uses w.twins w.merge.boundaries (length j.edges) >>= λ _.
+    ok (fans_of j w)
 
 -- the edges and loops before any change
 unfoldable pub unjoined : Job → Fanned → Joining
 unjoined j f =
     let w = f.walk in
-    let numbers = mergedFaces w.merge in
+    let numbers = merged_faces w.merge in
     record {
-      edges = edgesOf j.edges w.uses w.twins w.merge.removed numbers w.successors f.fans;
-      loops = faceLoops w.uses w.twins w.merge.removed numbers (loopsOf w.circuits);
+      edges = edges_of j.edges w.uses w.twins w.merge.removed numbers w.successors f.fans;
+      loops = face_loops w.uses w.twins w.merge.removed numbers (loops_of w.circuits);
       joins = 0;
       rings = 0;
     }
@@ -103,63 +103,63 @@ pub record Joined : Type 0 where
 -- The stages: contact test 31, then edges
 unfoldable pub edged : Rules → Job → Outcome Joined
 edged rules j = fanned rules j >>= λ f.
-    pointsClear 31 f.walk.uses f.starts f.walk.merge.boundaries f.names >>= λ _.
+    points_clear 31 f.walk.uses f.starts f.walk.merge.boundaries f.names >>= λ _.
     ok (record { fan = f; joining = unjoined j f })
 
 -- The stages: joining
-unfoldable pub throughJoining : Rules → Job → Outcome Joined
-throughJoining rules j = edged rules j >>= λ x.
+unfoldable pub through_joining : Rules → Job → Outcome Joined
+through_joining rules j = edged rules j >>= λ x.
     let f = x.fan in
-    maximalEdges j.answers f.starts f.names (allowed rules.changes f.names) x.joining >>= λ s.
+    maximal_edges j.answers f.starts f.names (allowed rules.changes f.names) x.joining >>= λ s.
     ok (record { fan = f; joining = s })
 
 -- SHELLS AND THE BODY
 
 -- The stages: shells
-abbrev pub shellsOf : Job → Walked → Outcome (List Shell)
-shellsOf j w = shells j.answers j.proven (allShellFaces w.merge.boundaries w.merge.groups)
+abbrev pub shells_of : Job → Walked → Outcome (List Shell)
+shells_of j w = shells j.answers j.proven (all_shell_faces w.merge.boundaries w.merge.groups)
 
 -- Endings: contact tests 32, then 33, by lump
-unfoldable pub lumpsClear : Job → Fanned → List Nested → Outcome (Unit {0})
-lumpsClear j f ns =
+unfoldable pub lumps_clear : Job → Fanned → List Nested → Outcome (Unit {0})
+lumps_clear j f ns =
     let w = f.walk in
-    let labels = lumpLabels w.merge.boundaries ns in
-    pointsClear 32 w.uses f.starts labels f.names >>= λ _.
-    edgesClear 33 w.uses w.twins labels (length j.edges)
+    let labels = lump_labels w.merge.boundaries ns in
+    points_clear 32 w.uses f.starts labels f.names >>= λ _.
+    edges_clear 33 w.uses w.twins labels (length j.edges)
 
 -- Body records, 21: passed in total, summed over kept uses (a removed use has none)
-abbrev pub totalsOf : Walked → Joining → Totals
-totalsOf w s = record {
+abbrev pub totals_of : Walked → Joining → Totals
+totals_of w s = record {
   solid = true;
   uses = length w.uses;
   removed = length (keep (λ gone. gone) w.merge.removed);
-  passed = sumOf (λ k. k) w.passed;
+  passed = sum_of (λ k. k) w.passed;
   joins = s.joins;
   rings = s.rings;
-  faceJoins = w.merge.joins;
+  face_joins = w.merge.joins;
 }
 
 -- the body of what was joined and nested
-unfoldable pub bodyOf : Job → Joined → List Nested → Body
-bodyOf j x ns =
+unfoldable pub body_of : Job → Joined → List Nested → Body
+body_of j x ns =
     let w = x.fan.walk in
     let s = x.joining in
-    solidBody (totalsOf w s) j.faces w.merge.groups x.fan.starts s.edges s.loops (lowestMembers w.merge.groups) w.vertexLoops (lumps ns)
+    solid_body (totals_of w s) j.faces w.merge.groups x.fan.starts s.edges s.loops (lowest_members w.merge.groups) w.vertex_loops (lumps ns)
 
 -- The stages, in the order of their refusals: the body of a job with faces
 unfoldable pub solid : Rules → Job → Outcome Body
 solid rules j =
-    throughJoining rules j >>= λ x.
-    shellsOf j x.fan.walk >>= λ ss.
+    through_joining rules j >>= λ x.
+    shells_of j x.fan.walk >>= λ ss.
     nested j.answers ss >>= λ ns.
-    lumpsClear j x.fan ns >>= λ _.
-    ok (bodyOf j x ns)
+    lumps_clear j x.fan ns >>= λ _.
+    ok (body_of j x ns)
 
 -- the body of a job; one that selects no face gives an Empty body
 unfoldable pub rebuild : Rules → Job → Outcome Body
 rebuild rules j =
     let full = solid rules j in
-    cond (eqb (length j.faces) 0) (ok emptyBody) full
+    cond (eqb (length j.faces) 0) (ok empty_body) full
 
 -- THE WHOLE
 
@@ -169,7 +169,7 @@ fitting room bytes = need (leb (length bytes) room) 40 (length bytes) (ok bytes)
 
 -- Endings: sewing a job into an output of so many bytes gives the bytes written, or the refusal
 unfoldable pub sewn : Rules → List ℕ → ℕ → Outcome (List ℕ)
-sewn rules job room = loaded job >>= λ j. rebuild rules j >>= λ b. fitting room (framedAll (bodyRecords b))
+sewn rules job room = loaded job >>= λ j. rebuild rules j >>= λ b. fitting room (framed_all (body_records b))
 
 -- Endings: a refusal writes nothing; success fills the start, later bytes of the output stay
 abbrev pub written : Outcome (List ℕ) → List ℕ → List ℕ

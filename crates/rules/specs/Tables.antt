@@ -2,30 +2,30 @@
 use Rattle.std.specs.Prelude.{List, [], ◌∷◌, Bool, true, false, ◌&&◌, eqb}
 use Rattle.lists.specs.Lists.{same}
 use Rattle.rules.specs.Outcome.{Outcome, ok, refuse}
-use Rattle.rules.specs.Frame.{Record, framedAll}
+use Rattle.rules.specs.Frame.{Record, framed_all}
 use Rattle.rules.specs.Rules.{ordinary}
-use Rattle.rules.specs.Listing.{sewnRecords}
+use Rattle.rules.specs.Listing.{sewn_records}
 
 -- a job and its expected ending: body records, or refusal number and place
 pub record Row : Type 0 where
   pub job : List Record
   pub ending : Outcome (List Record)
 
-abbrev pub sameRecord : Record → Record → Bool
-sameRecord a b = eqb a.kind b.kind && same a.fields b.fields
+abbrev pub same_record : Record → Record → Bool
+same_record a b = eqb a.kind b.kind && same a.fields b.fields
 
-unfoldable pub sameRecords : List Record → List Record → Bool
-sameRecords [] [] = true
-sameRecords [] (b ∷ bs) = false
-sameRecords (a ∷ as') [] = false
-sameRecords (a ∷ as') (b ∷ bs) = sameRecord a b && sameRecords as' bs
+unfoldable pub same_records : List Record → List Record → Bool
+same_records [] [] = true
+same_records [] (b ∷ bs) = false
+same_records (a ∷ as') [] = false
+same_records (a ∷ as') (b ∷ bs) = same_record a b && same_records as' bs
 
-abbrev pub sameEnding : Outcome (List Record) → Outcome (List Record) → Bool
-sameEnding (ok a) (ok b) = sameRecords a b
-sameEnding (ok a) (refuse n p) = false
-sameEnding (refuse n p) (ok b) = false
-sameEnding (refuse n p) (refuse m q) = eqb n m && eqb p q
+abbrev pub same_ending : Outcome (List Record) → Outcome (List Record) → Bool
+same_ending (ok a) (ok b) = same_records a b
+same_ending (ok a) (refuse n p) = false
+same_ending (refuse n p) (ok b) = false
+same_ending (refuse n p) (refuse m q) = eqb n m && eqb p q
 
 -- sewing the row's job ends as the row says
 abbrev pub right : Row → Bool
-right r = sameEnding (sewnRecords ordinary (framedAll r.job) 65536) r.ending
+right r = same_ending (sewn_records ordinary (framed_all r.job) 65536) r.ending

@@ -8,9 +8,9 @@
 ghost use Rattle.std.specs.Prelude.{◌≡◌, ◌+◌, ◌<◌, ◌&&◌, eqb};
 ghost use Rattle.lists.specs.Lists.{some};
 ghost use Rattle.rules.specs.Fields.{le32};
-ghost use Rattle.rules.specs.Load.{sameSource};
-ghost use Rattle.job.specs.Lists.{faceIn, facesIn};
-ghost use Rattle.selected.specs.Sources.{faceEntered, Sourced};
+ghost use Rattle.rules.specs.Load.{same_source};
+ghost use Rattle.job.specs.Lists.{face_in, faces_in};
+ghost use Rattle.selected.specs.Sources.{face_entered, Sourced};
 
 use fields::{byte, get, put_byte, word};
 use job::FACES;
@@ -37,7 +37,7 @@ fn is_face(job: &[u8], at: usize, body: usize, source: usize) -> bool
 // The face of the record at a byte is one of those selected before.
 pub fn selected_before(job: &[u8], index: &[u32], sources: &[u8], c: Counts, at: usize) -> bool
     requires { Sourced job.now index.now sources.now c × (c.faces < 256) × (at < 4294967296) }
-    ensures { result ≡ some (sameSource (faceIn job.now at)) (facesIn job.now index.now c) }
+    ensures { result ≡ some (same_source (face_in job.now at)) (faces_in job.now index.now c) }
 {
     let body = word(job, at + 18);
     let source = word(job, at + 22);
@@ -55,7 +55,7 @@ pub fn selected_before(job: &[u8], index: &[u32], sources: &[u8], c: Counts, at:
 // Face k, whose record stands at a byte, is entered in front of its chain.
 pub fn enter(job: &[u8], sources: &mut [u8], k: usize, at: usize)
     requires { (k < 256) × (at < 4294967296) }
-    ensures { sources.new ≡ faceEntered job.now sources.old k at }
+    ensures { sources.new ≡ face_entered job.now sources.old k at }
 {
     let b = word(job, at + 22) % BUCKETS;
     let head = byte(sources, b);

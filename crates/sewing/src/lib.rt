@@ -4,19 +4,19 @@
 #![tactic(auto)]
 
 ghost use Rattle.std.specs.Prelude.{◌≡◌, ◌*◌, ◌≤◌, length, take};
-ghost use Rattle.rules.specs.Read.{usesOf};
-ghost use Rattle.rules.specs.Rules.{ordinary, fullTable};
+ghost use Rattle.rules.specs.Read.{uses_of};
+ghost use Rattle.rules.specs.Rules.{ordinary, full_table};
 ghost use Rattle.rules.specs.Groups.{Lowest};
-ghost use Rattle.rules.specs.Merge.{removedUses};
-ghost use Rattle.rules.specs.Walk.{circuits, loopsOf};
+ghost use Rattle.rules.specs.Merge.{removed_uses};
+ghost use Rattle.rules.specs.Walk.{circuits, loops_of};
 ghost use Rattle.rules.specs.Sew.{sewn, Ends};
-ghost use Rattle.rules.specs.Stage.{readStage, pairStage, mergeStage, vertexLoopStage, walkStage, loopStage, fanStage, edgeStage, joiningStage, shellStage, lumpStage};
+ghost use Rattle.rules.specs.Stage.{read_stage, pair_stage, merge_stage, vertex_loop_stage, walk_stage, loop_stage, fan_stage, edge_stage, joining_stage, shell_stage, lump_stage};
 ghost use Rattle.theorems.specs.Promises.{Promises};
-ghost use Rattle.job.specs.Lists.{jobIn};
-ghost use Rattle.uses.specs.Table.{usesIn};
-ghost use Rattle.stages_out.specs.Rows.{Staged, roundRows};
-ghost use Rattle.progress.specs.Chain.{afterReading, afterPairing, afterMerging, afterKeeping, afterWalks, staged, sewnBy};
-ghost use Rattle.progress.specs.Known.{Opened, Paired, Grouped, Settled, groupsIn, numbersIn, mergedIn, walkedIn};
+ghost use Rattle.job.specs.Lists.{job_in};
+ghost use Rattle.uses.specs.Table.{uses_in};
+ghost use Rattle.stages_out.specs.Rows.{Staged, round_rows};
+ghost use Rattle.progress.specs.Chain.{after_reading, after_pairing, after_merging, after_keeping, after_walks, staged, sewn_by};
+ghost use Rattle.progress.specs.Known.{Opened, Paired, Grouped, Settled, groups_in, numbers_in, merged_in, walked_in};
 ghost use Rattle.sewing.specs.Steps.{Blank, Read, Chained, FacesOf, Kept, WalkTables, WalksOf, Walks, Promised};
 
 use body::put_empty;
@@ -44,8 +44,8 @@ fn put_loops(
     succ: &[u32],
     out: &mut [u8],
 ) -> Ending
-    requires { Walks c m (usesIn uses.now) removed.now succ.now }
-    ensures { Staged (roundRows (usesIn uses.now) (numbersIn c m) (loopsOf (circuits removed.now succ.now))) out.old out.new result }
+    requires { Walks c m (uses_in uses.now) removed.now succ.now }
+    ensures { Staged (round_rows (uses_in uses.now) (numbers_in c m) (loops_of (circuits removed.now succ.now))) out.old out.new result }
 {
     let n = succ.len();
     let numbers = m.numbers;
@@ -77,8 +77,8 @@ fn on_walks(
     g: Figures,
     out: &mut [u8],
 ) -> Ending
-    requires { Settled job.now index.now c (usesIn uses.now) twins.now m removed.now succ.now kept.now g × (stage ≡ 5 → ⊥) }
-    ensures { Ends (afterWalks stage (jobIn job.now index.now c) (length out.old) (walkedIn c m (usesIn uses.now) twins.now removed.now g.kept kept.now)) out.old out.new result }
+    requires { Settled job.now index.now c (uses_in uses.now) twins.now m removed.now succ.now kept.now g × (stage ≡ 5 → ⊥) }
+    ensures { Ends (after_walks stage (job_in job.now index.now c) (length out.old) (walked_in c m (uses_in uses.now) twins.now removed.now g.kept kept.now)) out.old out.new result }
 {
     if stage == LOOPS {
         return put_loops(c, m, uses, removed, succ, out);
@@ -100,8 +100,8 @@ fn walks(
     succ: &mut [u32],
     passed: &mut [u32],
 ) -> Figures
-    requires { (c.faces ≤ length m.groups) × (length (usesIn uses.now) ≤ 2048) × WalkTables (length (usesIn uses.now)) removed.old succ.old passed.old }
-    ensures { WalksOf c m (usesIn uses.now) twins.now k removed.new succ.new passed.new result }
+    requires { (c.faces ≤ length m.groups) × (length (uses_in uses.now) ≤ 2048) × WalkTables (length (uses_in uses.now)) removed.old succ.old passed.old }
+    ensures { WalksOf c m (uses_in uses.now) twins.now k removed.new succ.new passed.new result }
 {
     let groups = m.groups;
     let gone = remove(uses, twins, &groups[..c.faces], removed);
@@ -129,8 +129,8 @@ fn walk_in(
     passed: &mut [u32],
     out: &mut [u8],
 ) -> Ending
-    requires { Kept job.now index.now c (usesIn uses.now) twins.now m kept.now k × WalkTables c.uses removed.old succ.old passed.old }
-    ensures { Ends (afterWalks stage (jobIn job.now index.now c) (length out.old) (walkedIn c m (usesIn uses.now) twins.now (removedUses (usesIn uses.now) twins.now (groupsIn c m)) k kept.now)) out.old out.new result }
+    requires { Kept job.now index.now c (uses_in uses.now) twins.now m kept.now k × WalkTables c.uses removed.old succ.old passed.old }
+    ensures { Ends (after_walks stage (job_in job.now index.now c) (length out.old) (walked_in c m (uses_in uses.now) twins.now (removed_uses (uses_in uses.now) twins.now (groups_in c m)) k kept.now)) out.old out.new result }
 {
     let g = walks(c, m, uses, twins, k, removed, succ, passed);
     if stage == WALK {
@@ -154,8 +154,8 @@ fn walk_in_small_tables(
     k: usize,
     out: &mut [u8],
 ) -> Ending
-    requires { Kept job.now index.now c (usesIn uses.now) twins.now m kept.now k × (c.uses ≤ 64) }
-    ensures { Ends (afterWalks stage (jobIn job.now index.now c) (length out.old) (walkedIn c m (usesIn uses.now) twins.now (removedUses (usesIn uses.now) twins.now (groupsIn c m)) k kept.now)) out.old out.new result }
+    requires { Kept job.now index.now c (uses_in uses.now) twins.now m kept.now k × (c.uses ≤ 64) }
+    ensures { Ends (after_walks stage (job_in job.now index.now c) (length out.old) (walked_in c m (uses_in uses.now) twins.now (removed_uses (uses_in uses.now) twins.now (groups_in c m)) k kept.now)) out.old out.new result }
 {
     let mut removed = [false; 64];
     let mut succ = [0u32; 64];
@@ -190,8 +190,8 @@ fn walk_in_large_tables(
     k: usize,
     out: &mut [u8],
 ) -> Ending
-    requires { Kept job.now index.now c (usesIn uses.now) twins.now m kept.now k × (c.uses ≤ 2048) }
-    ensures { Ends (afterWalks stage (jobIn job.now index.now c) (length out.old) (walkedIn c m (usesIn uses.now) twins.now (removedUses (usesIn uses.now) twins.now (groupsIn c m)) k kept.now)) out.old out.new result }
+    requires { Kept job.now index.now c (uses_in uses.now) twins.now m kept.now k × (c.uses ≤ 2048) }
+    ensures { Ends (after_walks stage (job_in job.now index.now c) (length out.old) (walked_in c m (uses_in uses.now) twins.now (removed_uses (uses_in uses.now) twins.now (groups_in c m)) k kept.now)) out.old out.new result }
 {
     let mut removed = [false; 2048];
     let mut succ = [0u32; 2048];
@@ -226,8 +226,8 @@ fn on_kept(
     k: usize,
     out: &mut [u8],
 ) -> Ending
-    requires { Kept job.now index.now c (usesIn uses.now) twins.now m kept.now k }
-    ensures { Ends (afterKeeping stage (jobIn job.now index.now c) (length out.old) (walkedIn c m (usesIn uses.now) twins.now (removedUses (usesIn uses.now) twins.now (groupsIn c m)) k kept.now)) out.old out.new result }
+    requires { Kept job.now index.now c (uses_in uses.now) twins.now m kept.now k }
+    ensures { Ends (after_keeping stage (job_in job.now index.now c) (length out.old) (walked_in c m (uses_in uses.now) twins.now (removed_uses (uses_in uses.now) twins.now (groups_in c m)) k kept.now)) out.old out.new result }
 {
     if stage == VERTEX_LOOPS {
         return write_kept(kept, k, out);
@@ -250,8 +250,8 @@ fn on_merged(
     kept: &mut [u32],
     out: &mut [u8],
 ) -> Ending
-    requires { Grouped job.now index.now c (usesIn uses.now) twins.now m × (2 * c.loops ≤ length kept.old) }
-    ensures { Ends (afterMerging stage (jobIn job.now index.now c) (usesIn uses.now) twins.now (length out.old) (mergedIn c m (removedUses (usesIn uses.now) twins.now (groupsIn c m)))) out.old out.new result }
+    requires { Grouped job.now index.now c (uses_in uses.now) twins.now m × (2 * c.loops ≤ length kept.old) }
+    ensures { Ends (after_merging stage (job_in job.now index.now c) (uses_in uses.now) twins.now (length out.old) (merged_in c m (removed_uses (uses_in uses.now) twins.now (groups_in c m)))) out.old out.new result }
 {
     if stage == MERGE {
         let labels = m.boundaries;
@@ -269,7 +269,7 @@ fn on_merged(
 // The boundaries, numbers and lowest members that belong to merged groups, which so many face joins made.
 fn faces_of(n: usize, uses: &[u32], twins: &[u32], groups: [u32; 256], joins: usize) -> Faces
     requires { (n ≤ 256) × (length groups ≡ 256) × Lowest (take n groups) }
-    ensures { FacesOf n (usesIn uses.now) twins.now groups joins result }
+    ensures { FacesOf n (uses_in uses.now) twins.now groups joins result }
 {
     let mut labels = [0u32; 256];
     let mut numbers = [0u32; 256];
@@ -297,8 +297,8 @@ fn on_paired(
     kept: &mut [u32],
     out: &mut [u8],
 ) -> Ending
-    requires { Paired job.now index.now c (usesIn uses.now) twins.now × (2 * c.loops ≤ length kept.old) }
-    ensures { Ends (afterPairing stage (jobIn job.now index.now c) (usesIn uses.now) (length out.old) twins.now) out.old out.new result }
+    requires { Paired job.now index.now c (uses_in uses.now) twins.now × (2 * c.loops ≤ length kept.old) }
+    ensures { Ends (after_pairing stage (job_in job.now index.now c) (uses_in uses.now) (length out.old) twins.now) out.old out.new result }
 {
     if stage == PAIR {
         return write_twins(twins, out);
@@ -326,8 +326,8 @@ fn pair_in_small_table(
     kept: &mut [u32],
     out: &mut [u8],
 ) -> Ending
-    requires { Chained job.now index.now c (usesIn uses.now) firsts.now nexts.now kept.old × (c.uses ≤ 64) }
-    ensures { Ends (afterReading stage (jobIn job.now index.now c) (length out.old) (usesIn uses.now)) out.old out.new result }
+    requires { Chained job.now index.now c (uses_in uses.now) firsts.now nexts.now kept.old × (c.uses ≤ 64) }
+    ensures { Ends (after_reading stage (job_in job.now index.now c) (length out.old) (uses_in uses.now)) out.old out.new result }
 {
     let p = pair_small(job, index, c, uses, firsts, nexts);
     if p.refusal != 0 {
@@ -349,8 +349,8 @@ fn pair_in_large_table(
     kept: &mut [u32],
     out: &mut [u8],
 ) -> Ending
-    requires { Chained job.now index.now c (usesIn uses.now) firsts.now nexts.now kept.old × (c.uses ≤ 2048) }
-    ensures { Ends (afterReading stage (jobIn job.now index.now c) (length out.old) (usesIn uses.now)) out.old out.new result }
+    requires { Chained job.now index.now c (uses_in uses.now) firsts.now nexts.now kept.old × (c.uses ≤ 2048) }
+    ensures { Ends (after_reading stage (job_in job.now index.now c) (length out.old) (uses_in uses.now)) out.old out.new result }
 {
     let p = pair(job, index, c, uses, firsts, nexts);
     if p.refusal != 0 {
@@ -372,8 +372,8 @@ fn on_read(
     kept: &mut [u32],
     out: &mut [u8],
 ) -> Ending
-    requires { Read job.now index.now c (usesIn uses.now) × Blank c firsts.old nexts.old kept.old }
-    ensures { Ends (afterReading stage (jobIn job.now index.now c) (length out.old) (usesIn uses.now)) out.old out.new result }
+    requires { Read job.now index.now c (uses_in uses.now) × Blank c firsts.old nexts.old kept.old }
+    ensures { Ends (after_reading stage (job_in job.now index.now c) (length out.old) (uses_in uses.now)) out.old out.new result }
 {
     link(uses, firsts, nexts);
     if c.uses <= 64 {
@@ -395,7 +395,7 @@ fn read_in(
     out: &mut [u8],
 ) -> Ending
     requires { Opened job.now index.now c × (length uses.old ≡ 4 * c.uses) × Blank c firsts.old nexts.old kept.old }
-    ensures { Ends (afterReading stage (jobIn job.now index.now c) (length out.old) (usesOf (jobIn job.now index.now c))) out.old out.new result }
+    ensures { Ends (after_reading stage (job_in job.now index.now c) (length out.old) (uses_of (job_in job.now index.now c))) out.old out.new result }
 {
     read(job, index, c, uses);
     on_read(stage, job, index, c, uses, firsts, nexts, kept, out)
@@ -410,7 +410,7 @@ fn read_in_small_tables(
     out: &mut [u8],
 ) -> Ending
     requires { Opened job.now index.now c × (c.uses ≤ 64) × (c.edges ≤ 64) × (c.loops ≤ 64) }
-    ensures { Ends (afterReading stage (jobIn job.now index.now c) (length out.old) (usesOf (jobIn job.now index.now c))) out.old out.new result }
+    ensures { Ends (after_reading stage (job_in job.now index.now c) (length out.old) (uses_of (job_in job.now index.now c))) out.old out.new result }
 {
     let mut uses = [0u32; 256];
     let mut firsts = [0u32; 64];
@@ -438,7 +438,7 @@ fn read_in_large_tables(
     out: &mut [u8],
 ) -> Ending
     requires { Opened job.now index.now c × (c.uses ≤ 2048) × (c.edges ≤ 1024) × (c.loops ≤ 1024) }
-    ensures { Ends (afterReading stage (jobIn job.now index.now c) (length out.old) (usesOf (jobIn job.now index.now c))) out.old out.new result }
+    ensures { Ends (after_reading stage (job_in job.now index.now c) (length out.old) (uses_of (job_in job.now index.now c))) out.old out.new result }
 {
     let mut uses = [0u32; 8192];
     let mut firsts = [0u32; 1024];
@@ -460,7 +460,7 @@ fn read_in_large_tables(
 // The uses read, once the job is loaded.
 fn on_loaded(stage: usize, job: &[u8], index: &[u32], c: Counts, out: &mut [u8]) -> Ending
     requires { Opened job.now index.now c }
-    ensures { Ends (afterReading stage (jobIn job.now index.now c) (length out.old) (usesOf (jobIn job.now index.now c))) out.old out.new result }
+    ensures { Ends (after_reading stage (job_in job.now index.now c) (length out.old) (uses_of (job_in job.now index.now c))) out.old out.new result }
 {
     if c.uses <= 64 && c.edges <= 64 && c.loops <= 64 {
         return read_in_small_tables(stage, job, index, c, out);
@@ -483,7 +483,7 @@ fn run(stage: usize, job: &[u8], out: &mut [u8]) -> Ending
 // The uses of a loaded job, read and written.
 fn write_loaded(job: &[u8], index: &[u32], c: Counts, out: &mut [u8]) -> Ending
     requires { Opened job.now index.now c }
-    ensures { Ends (readStage job.now (length out.old)) out.old out.new result }
+    ensures { Ends (read_stage job.now (length out.old)) out.old out.new result }
 {
     let mut uses = [0u32; 8192];
     read(job, index, c, &mut uses[..4 * c.uses]);
@@ -493,7 +493,7 @@ fn write_loaded(job: &[u8], index: &[u32], c: Counts, out: &mut [u8]) -> Ending
 // The stage `read`. It hands nothing on, and goes a way of its own, so that the records that it makes of the uses take no
 // stack of sewing.
 pub fn read_stage(job: &[u8], out: &mut [u8]) -> Ending
-    ensures { Ends (readStage job.now (length out.old)) out.old out.new result }
+    ensures { Ends (read_stage job.now (length out.old)) out.old out.new result }
 {
     let mut index = [0u32; 7424];
     let r = load(job, &mut index);
@@ -505,70 +505,70 @@ pub fn read_stage(job: &[u8], out: &mut [u8]) -> Ending
 
 // The stage `pair`.
 pub fn pair_stage(job: &[u8], out: &mut [u8]) -> Ending
-    ensures { Ends (pairStage job.now (length out.old)) out.old out.new result }
+    ensures { Ends (pair_stage job.now (length out.old)) out.old out.new result }
 {
     run(PAIR, job, out)
 }
 
 // The stage `merge`.
 pub fn merge_stage(job: &[u8], out: &mut [u8]) -> Ending
-    ensures { Ends (mergeStage ordinary job.now (length out.old)) out.old out.new result }
+    ensures { Ends (merge_stage ordinary job.now (length out.old)) out.old out.new result }
 {
     run(MERGE, job, out)
 }
 
 // The stage `vertex-loops`.
 pub fn vertex_loop_stage(job: &[u8], out: &mut [u8]) -> Ending
-    ensures { Ends (vertexLoopStage ordinary job.now (length out.old)) out.old out.new result }
+    ensures { Ends (vertex_loop_stage ordinary job.now (length out.old)) out.old out.new result }
 {
     run(VERTEX_LOOPS, job, out)
 }
 
 // The stage `walk`. Its walks are those of which demand 3 speaks, so what it says of walks holds of them.
 pub fn walk_stage(job: &[u8], out: &mut [u8]) -> Ending
-    ensures { Ends (walkStage ordinary job.now (length out.old)) out.old out.new result × Promised job.now }
+    ensures { Ends (walk_stage ordinary job.now (length out.old)) out.old out.new result × Promised job.now }
 {
     run(WALK, job, out)
 }
 
 // The stage `loops`.
 pub fn loop_stage(job: &[u8], out: &mut [u8]) -> Ending
-    ensures { Ends (loopStage ordinary job.now (length out.old)) out.old out.new result × Promised job.now }
+    ensures { Ends (loop_stage ordinary job.now (length out.old)) out.old out.new result × Promised job.now }
 {
     run(LOOPS, job, out)
 }
 
 // The stage `fans`.
 pub fn fan_stage(job: &[u8], out: &mut [u8]) -> Ending
-    ensures { Ends (fanStage ordinary job.now (length out.old)) out.old out.new result }
+    ensures { Ends (fan_stage ordinary job.now (length out.old)) out.old out.new result }
 {
     run(FANS, job, out)
 }
 
 // The stage `edges`.
 pub fn edge_stage(job: &[u8], out: &mut [u8]) -> Ending
-    ensures { Ends (edgeStage ordinary job.now (length out.old)) out.old out.new result }
+    ensures { Ends (edge_stage ordinary job.now (length out.old)) out.old out.new result }
 {
     run(EDGES, job, out)
 }
 
 // The stage `joining`.
 pub fn joining_stage(job: &[u8], out: &mut [u8]) -> Ending
-    ensures { Ends (joiningStage ordinary job.now (length out.old)) out.old out.new result }
+    ensures { Ends (joining_stage ordinary job.now (length out.old)) out.old out.new result }
 {
     run(JOINING, job, out)
 }
 
 // The stage `shells`.
 pub fn shell_stage(job: &[u8], out: &mut [u8]) -> Ending
-    ensures { Ends (shellStage ordinary job.now (length out.old)) out.old out.new result }
+    ensures { Ends (shell_stage ordinary job.now (length out.old)) out.old out.new result }
 {
     run(SHELLS, job, out)
 }
 
 // The stage `lumps`.
 pub fn lump_stage(job: &[u8], out: &mut [u8]) -> Ending
-    ensures { Ends (lumpStage ordinary job.now (length out.old)) out.old out.new result }
+    ensures { Ends (lump_stage ordinary job.now (length out.old)) out.old out.new result }
 {
     run(LUMPS, job, out)
 }
@@ -576,7 +576,7 @@ pub fn lump_stage(job: &[u8], out: &mut [u8]) -> Ending
 // The body of a loaded job; one that selects no face is Empty.
 fn sew_loaded(job: &[u8], index: &[u32], c: Counts, out: &mut [u8]) -> Ending
     requires { Opened job.now index.now c }
-    ensures { Ends (sewnBy job.now (length out.old)) out.old out.new result }
+    ensures { Ends (sewn_by job.now (length out.old)) out.old out.new result }
 {
     if c.faces == 0 {
         return put_empty(out);
@@ -587,7 +587,7 @@ fn sew_loaded(job: &[u8], index: &[u32], c: Counts, out: &mut [u8]) -> Ending
 // Sewing: the body's records from the output's start on, or a refusal and the output untouched. What demand 3 says holds
 // of the job.
 pub fn sew(job: &[u8], out: &mut [u8]) -> Ending
-    ensures { Ends (sewn ordinary job.now (length out.old)) out.old out.new result × Promises fullTable job.now }
+    ensures { Ends (sewn ordinary job.now (length out.old)) out.old out.new result × Promises full_table job.now }
 {
     let mut index = [0u32; 7424];
     let r = load(job, &mut index);

@@ -5,13 +5,13 @@
 
 ghost use Rattle.std.specs.Prelude.{◌≡◌, length};
 ghost use Rattle.rules.specs.Load.{requested};
-ghost use Rattle.rules.specs.Rules.{ordinary, fullTable};
+ghost use Rattle.rules.specs.Rules.{ordinary, full_table};
 ghost use Rattle.rules.specs.Sew.{sewn};
-ghost use Rattle.rules.specs.Stage.{readStage, pairStage, mergeStage, vertexLoopStage, walkStage, loopStage, fanStage, edgeStage, joiningStage, shellStage, lumpStage};
+ghost use Rattle.rules.specs.Stage.{read_stage, pair_stage, merge_stage, vertex_loop_stage, walk_stage, loop_stage, fan_stage, edge_stage, joining_stage, shell_stage, lump_stage};
 ghost use Rattle.theorems.specs.Promises.{Promises};
 ghost use Rattle.lines.specs.Listed.{Lists};
 ghost use Rattle.sewing.specs.Steps.{Promised};
-ghost use Rattle.sewing_c.specs.Told.{endNumber, endValue, endingOf, Tells, ListsAnswer, Inside, TellsLoop};
+ghost use Rattle.sewing_c.specs.Told.{end_number, end_value, ending_of, Tells, ListsAnswer, Inside, TellsLoop};
 
 use load::Stretched;
 use rules::Ending;
@@ -21,7 +21,7 @@ const BODY: usize = 4294967295;
 
 // An ending in numbers: 0 with the bytes written, or a refusal's number with its place.
 fn tell(ending: Ending, value: &mut usize) -> usize
-    ensures { (result ≡ endNumber ending) × (value.new ≡ endValue ending) }
+    ensures { (result ≡ end_number ending) × (value.new ≡ end_value ending) }
 {
     match ending {
         Ending::Written(n) => {
@@ -37,7 +37,7 @@ fn tell(ending: Ending, value: &mut usize) -> usize
 
 // The ending of which these numbers were told.
 fn ending_of(number: usize, value: usize) -> Ending
-    ensures { result ≡ endingOf number value }
+    ensures { result ≡ ending_of number value }
 {
     if number == 0 {
         return Ending::Written(value);
@@ -49,7 +49,7 @@ fn ending_of(number: usize, value: usize) -> Ending
 // holds of the job.
 #[unsafe(no_mangle)]
 pub extern "C" fn zaxclover_sew(job: &[u8], out: &mut [u8], value: &mut usize) -> usize
-    ensures { Tells (sewn ordinary job.now (length out.old)) out.old out.new value.new result × Promises fullTable job.now }
+    ensures { Tells (sewn ordinary job.now (length out.old)) out.old out.new value.new result × Promises full_table job.now }
 {
     let ending = sewing::sew(job, out);
     tell(ending, value)
@@ -60,7 +60,7 @@ pub extern "C" fn zaxclover_sew(job: &[u8], out: &mut [u8], value: &mut usize) -
 // The stage `read`.
 #[unsafe(no_mangle)]
 pub extern "C" fn zaxclover_read_stage(job: &[u8], out: &mut [u8], value: &mut usize) -> usize
-    ensures { Tells (readStage job.now (length out.old)) out.old out.new value.new result }
+    ensures { Tells (read_stage job.now (length out.old)) out.old out.new value.new result }
 {
     let ending = sewing::read_stage(job, out);
     tell(ending, value)
@@ -69,7 +69,7 @@ pub extern "C" fn zaxclover_read_stage(job: &[u8], out: &mut [u8], value: &mut u
 // The stage `pair`.
 #[unsafe(no_mangle)]
 pub extern "C" fn zaxclover_pair_stage(job: &[u8], out: &mut [u8], value: &mut usize) -> usize
-    ensures { Tells (pairStage job.now (length out.old)) out.old out.new value.new result }
+    ensures { Tells (pair_stage job.now (length out.old)) out.old out.new value.new result }
 {
     let ending = sewing::pair_stage(job, out);
     tell(ending, value)
@@ -78,7 +78,7 @@ pub extern "C" fn zaxclover_pair_stage(job: &[u8], out: &mut [u8], value: &mut u
 // The stage `merge`.
 #[unsafe(no_mangle)]
 pub extern "C" fn zaxclover_merge_stage(job: &[u8], out: &mut [u8], value: &mut usize) -> usize
-    ensures { Tells (mergeStage ordinary job.now (length out.old)) out.old out.new value.new result }
+    ensures { Tells (merge_stage ordinary job.now (length out.old)) out.old out.new value.new result }
 {
     let ending = sewing::merge_stage(job, out);
     tell(ending, value)
@@ -91,7 +91,7 @@ pub extern "C" fn zaxclover_vertex_loop_stage(
     out: &mut [u8],
     value: &mut usize,
 ) -> usize
-    ensures { Tells (vertexLoopStage ordinary job.now (length out.old)) out.old out.new value.new result }
+    ensures { Tells (vertex_loop_stage ordinary job.now (length out.old)) out.old out.new value.new result }
 {
     let ending = sewing::vertex_loop_stage(job, out);
     tell(ending, value)
@@ -100,7 +100,7 @@ pub extern "C" fn zaxclover_vertex_loop_stage(
 // The stage `walk`. Demand 3 holds of its walks.
 #[unsafe(no_mangle)]
 pub extern "C" fn zaxclover_walk_stage(job: &[u8], out: &mut [u8], value: &mut usize) -> usize
-    ensures { Tells (walkStage ordinary job.now (length out.old)) out.old out.new value.new result × Promised job.now }
+    ensures { Tells (walk_stage ordinary job.now (length out.old)) out.old out.new value.new result × Promised job.now }
 {
     let ending = sewing::walk_stage(job, out);
     tell(ending, value)
@@ -109,7 +109,7 @@ pub extern "C" fn zaxclover_walk_stage(job: &[u8], out: &mut [u8], value: &mut u
 // The stage `loops`. Demand 3 holds of its walks.
 #[unsafe(no_mangle)]
 pub extern "C" fn zaxclover_loop_stage(job: &[u8], out: &mut [u8], value: &mut usize) -> usize
-    ensures { Tells (loopStage ordinary job.now (length out.old)) out.old out.new value.new result × Promised job.now }
+    ensures { Tells (loop_stage ordinary job.now (length out.old)) out.old out.new value.new result × Promised job.now }
 {
     let ending = sewing::loop_stage(job, out);
     tell(ending, value)
@@ -118,7 +118,7 @@ pub extern "C" fn zaxclover_loop_stage(job: &[u8], out: &mut [u8], value: &mut u
 // The stage `fans`.
 #[unsafe(no_mangle)]
 pub extern "C" fn zaxclover_fan_stage(job: &[u8], out: &mut [u8], value: &mut usize) -> usize
-    ensures { Tells (fanStage ordinary job.now (length out.old)) out.old out.new value.new result }
+    ensures { Tells (fan_stage ordinary job.now (length out.old)) out.old out.new value.new result }
 {
     let ending = sewing::fan_stage(job, out);
     tell(ending, value)
@@ -127,7 +127,7 @@ pub extern "C" fn zaxclover_fan_stage(job: &[u8], out: &mut [u8], value: &mut us
 // The stage `edges`.
 #[unsafe(no_mangle)]
 pub extern "C" fn zaxclover_edge_stage(job: &[u8], out: &mut [u8], value: &mut usize) -> usize
-    ensures { Tells (edgeStage ordinary job.now (length out.old)) out.old out.new value.new result }
+    ensures { Tells (edge_stage ordinary job.now (length out.old)) out.old out.new value.new result }
 {
     let ending = sewing::edge_stage(job, out);
     tell(ending, value)
@@ -136,7 +136,7 @@ pub extern "C" fn zaxclover_edge_stage(job: &[u8], out: &mut [u8], value: &mut u
 // The stage `joining`.
 #[unsafe(no_mangle)]
 pub extern "C" fn zaxclover_joining_stage(job: &[u8], out: &mut [u8], value: &mut usize) -> usize
-    ensures { Tells (joiningStage ordinary job.now (length out.old)) out.old out.new value.new result }
+    ensures { Tells (joining_stage ordinary job.now (length out.old)) out.old out.new value.new result }
 {
     let ending = sewing::joining_stage(job, out);
     tell(ending, value)
@@ -145,7 +145,7 @@ pub extern "C" fn zaxclover_joining_stage(job: &[u8], out: &mut [u8], value: &mu
 // The stage `shells`.
 #[unsafe(no_mangle)]
 pub extern "C" fn zaxclover_shell_stage(job: &[u8], out: &mut [u8], value: &mut usize) -> usize
-    ensures { Tells (shellStage ordinary job.now (length out.old)) out.old out.new value.new result }
+    ensures { Tells (shell_stage ordinary job.now (length out.old)) out.old out.new value.new result }
 {
     let ending = sewing::shell_stage(job, out);
     tell(ending, value)
@@ -154,7 +154,7 @@ pub extern "C" fn zaxclover_shell_stage(job: &[u8], out: &mut [u8], value: &mut 
 // The stage `lumps`.
 #[unsafe(no_mangle)]
 pub extern "C" fn zaxclover_lump_stage(job: &[u8], out: &mut [u8], value: &mut usize) -> usize
-    ensures { Tells (lumpStage ordinary job.now (length out.old)) out.old out.new value.new result }
+    ensures { Tells (lump_stage ordinary job.now (length out.old)) out.old out.new value.new result }
 {
     let ending = sewing::lump_stage(job, out);
     tell(ending, value)

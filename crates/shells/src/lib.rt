@@ -6,13 +6,13 @@
 
 ghost use Rattle.std.specs.Prelude.{◌≡◌, ℕ, ◌+◌, ◌*◌, ◌<◌, ◌≤◌, ◌^◌, List, map, length, get_or, replicate, eqb};
 ghost use Rattle.rules.specs.Fields.{le32};
-ghost use Rattle.rules.specs.Groups.{lowestMembers, Lowest};
-ghost use Rattle.rules.specs.Shells.{shellFaces, shells as shellsBy, nested, innermost, enclosingShell, none, lumpLabels};
-ghost use Rattle.job.specs.Lists.{answersIn};
+ghost use Rattle.rules.specs.Groups.{lowest_members, Lowest};
+ghost use Rattle.rules.specs.Shells.{shell_faces, shells as shellsBy, nested, innermost, enclosing_shell, none, lump_labels};
+ghost use Rattle.job.specs.Lists.{answers_in};
 ghost use Rattle.answers.specs.Index.{Indexed};
-ghost use Rattle.ask.specs.Told.{askedOf, toldOf};
-ghost use Rattle.shells.specs.Table.{shellsIn, nestedIn, Shelled, shellsOf, nestedOf, Standing};
-ghost use Rattle.shells.specs.Steps.{LowFaces, outerBy, stored, lowIn, outerIn, outersIn, takenIn, takenOf, takenAfter, takenNext, homeOf, Asked32, StillShelled};
+ghost use Rattle.ask.specs.Told.{asked_of, told_of};
+ghost use Rattle.shells.specs.Table.{shells_in, nested_in, Shelled, shells_of, nested_of, Standing};
+ghost use Rattle.shells.specs.Steps.{LowFaces, outer_by, stored, low_in, outer_in, outers_in, taken_in, taken_of, taken_after, taken_next, home_of, Asked32, StillShelled};
 ghost use Rattle.shells.specs.ShellLaws.{ShellsAt, ShellsTo};
 ghost use Rattle.shells.specs.LumpLaws.{LabelsAt};
 
@@ -88,7 +88,7 @@ fn low_faces(boundaries: &[u32], members: &[u32], lows: &mut [u32])
 // Outer if Head says so or by kind 12, for the shell's lowest face.
 fn is_outer(job: &[u8], index: &[u32], c: Counts, low: usize) -> Told
     requires { Indexed job.now index.now c × (low < 4294967296) }
-    ensures { toldOf result ≡ outerBy (answersIn job.now index.now c) (le32 job.now 6) low }
+    ensures { told_of result ≡ outer_by (answers_in job.now index.now c) (le32 job.now 6) low }
 {
     let proven = word(job, 6);
     if proven == 1 {
@@ -109,7 +109,7 @@ fn next_shell(
     b: usize,
 ) -> Nesting
     requires { Indexed job.now index.now c × (length table.old ≡ 1024) × (length boundaries.now ≤ 256) × (b < length boundaries.now) × (count ≤ b) }
-    ensures { (members : List ℕ) → LowFaces boundaries.now members lows.now → ShellsAt (answersIn job.now index.now c) (le32 job.now 6) boundaries.now members table.old count b → ShellsTo (answersIn job.now index.now c) (le32 job.now 6) boundaries.now members table.new result (b + 1) }
+    ensures { (members : List ℕ) → LowFaces boundaries.now members lows.now → ShellsAt (answers_in job.now index.now c) (le32 job.now 6) boundaries.now members table.old count b → ShellsTo (answers_in job.now index.now c) (le32 job.now 6) boundaries.now members table.new result (b + 1) }
 {
     let label = get(boundaries, b);
     if label != b {
@@ -141,7 +141,7 @@ pub fn shells(
     table: &mut [u32],
 ) -> Nesting
     requires { Indexed job.now index.now c × (length table.old ≡ 1024) × (length boundaries.now ≤ 256) × (length members.now ≤ 256) }
-    ensures { (shellsOf boundaries.now members.now table.new result ≡ shellsBy (answersIn job.now index.now c) (le32 job.now 6) (map (shellFaces boundaries.now members.now) (lowestMembers boundaries.now))) × Standing boundaries.now members.now table.new result }
+    ensures { (shells_of boundaries.now members.now table.new result ≡ shellsBy (answers_in job.now index.now c) (le32 job.now 6) (map (shell_faces boundaries.now members.now) (lowest_members boundaries.now))) × Standing boundaries.now members.now table.new result }
 {
     let mut lows = [0u32; 256];
     low_faces(boundaries, members, &mut lows);
@@ -176,7 +176,7 @@ fn nearer(
     k: usize,
 ) -> Asked
     requires { Indexed job.now index.now c × (n ≤ 256) × (k < n) }
-    ensures { takenOf table.now n result ≡ innermost (answersIn job.now index.now c) (takenIn table.now n taken) (lowIn table.now k) }
+    ensures { taken_of table.now n result ≡ innermost (answers_in job.now index.now c) (taken_in table.now n taken) (low_in table.now k) }
 {
     if n <= taken {
         return Asked::Value(k);
@@ -202,7 +202,7 @@ fn taken_after(
     k: usize,
 ) -> Asked
     requires { Indexed job.now index.now c × (n ≤ 256) × (k < n) × (void < 4294967296) }
-    ensures { takenOf table.now n result ≡ takenAfter (answersIn job.now index.now c) void (lowIn table.now k) (takenIn table.now n taken) }
+    ensures { taken_of table.now n result ≡ taken_after (answers_in job.now index.now c) void (low_in table.now k) (taken_in table.now n taken) }
 {
     let o = shell_low(table, k);
     let t = ask::ask_inside(job, index, c, void, o);
@@ -225,7 +225,7 @@ fn enclosing_next(
     k: usize,
 ) -> Asked
     requires { Indexed job.now index.now c × (n ≤ 256) × (k < n) × (void < 4294967296) }
-    ensures { takenOf table.now n result ≡ takenNext (answersIn job.now index.now c) void (outerIn table.now k) (lowIn table.now k) (takenIn table.now n taken) }
+    ensures { taken_of table.now n result ≡ taken_next (answers_in job.now index.now c) void (outer_in table.now k) (low_in table.now k) (taken_in table.now n taken) }
 {
     if shell_outer(table, k) {
         return taken_after(job, index, c, table, n, void, taken, k);
@@ -243,7 +243,7 @@ fn enclosing_shell(
     void: usize,
 ) -> Asked
     requires { Indexed job.now index.now c × (n ≤ 256) × (void < 4294967296) }
-    ensures { takenOf table.now n result ≡ enclosingShell (answersIn job.now index.now c) void (outersIn table.now n) none }
+    ensures { taken_of table.now n result ≡ enclosing_shell (answers_in job.now index.now c) void (outers_in table.now n) none }
 {
     let mut taken = n;
     let mut k: usize = 0;
@@ -266,7 +266,7 @@ fn enclosing_shell(
 // does.
 fn home(job: &[u8], index: &[u32], c: Counts, table: &[u32], n: usize, k: usize) -> Asked
     requires { Indexed job.now index.now c × (n ≤ 256) × (k < n) }
-    ensures { (askedOf result ≡ homeOf (answersIn job.now index.now c) (outersIn table.now n) (lowIn table.now k) (outerIn table.now k)) × Asked32 result }
+    ensures { (asked_of result ≡ home_of (answers_in job.now index.now c) (outers_in table.now n) (low_in table.now k) (outer_in table.now k)) × Asked32 result }
 {
     let low = shell_low(table, k);
     if shell_outer(table, k) {
@@ -287,7 +287,7 @@ fn home(job: &[u8], index: &[u32], c: Counts, table: &[u32], n: usize, k: usize)
 // The outer shell of each shell's lump, for n shells in order.
 pub fn nest(job: &[u8], index: &[u32], c: Counts, table: &mut [u32], n: usize) -> Nesting
     requires { Indexed job.now index.now c × (length table.old ≡ 1024) × (n ≤ 256) }
-    ensures { (boundaries members : List ℕ) → Shelled boundaries members n table.old → (nestedOf boundaries members table.new result ≡ nested (answersIn job.now index.now c) (shellsIn boundaries members n table.old)) × StillShelled boundaries members n table.new result }
+    ensures { (boundaries members : List ℕ) → Shelled boundaries members n table.old → (nested_of boundaries members table.new result ≡ nested (answers_in job.now index.now c) (shells_in boundaries members n table.old)) × StillShelled boundaries members n table.new result }
 {
     let mut k: usize = 0;
     while k < n {
@@ -331,7 +331,7 @@ fn label_face(
 // The selected faces labelled by lump, each by the lowest merged face of its outer shell.
 pub fn lump_labels(boundaries: &[u32], table: &[u32], labels: &mut [u32])
     requires { Lowest boundaries.now × (length labels.old ≡ length boundaries.now) × (length boundaries.now ≤ 256) }
-    ensures { (members : List ℕ) (n : ℕ) → Shelled boundaries.now members n table.now → labels.new ≡ lumpLabels boundaries.now (nestedIn boundaries.now members n table.now) }
+    ensures { (members : List ℕ) (n : ℕ) → Shelled boundaries.now members n table.now → labels.new ≡ lump_labels boundaries.now (nested_in boundaries.now members n table.now) }
 {
     let mut count: usize = 0;
     let mut f: usize = 0;

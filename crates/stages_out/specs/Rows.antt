@@ -3,72 +3,72 @@ use Rattle.std.specs.Prelude.{ℕ, zero, suc, ◌+◌, ◌*◌, ◌≡◌, refl,
 use Rattle.std.proofs.Common.{sym, ap}
 use mathlib.Core.List.{List, [], ◌∷◌, map, flat_map}
 use Rattle.lists.specs.Lists.{below}
-use Rattle.lists.specs.Rows.{flatMap-map}
+use Rattle.lists.specs.Rows.{flat_map_map}
 use Rattle.rules.specs.declared.Use.{Use}
 use Rattle.rules.specs.declared.KeptVertexLoop.{KeptVertexLoop}
 use Rattle.rules.specs.declared.Ending.{Ending}
-use Rattle.rules.specs.Groups.{labelOf}
-use Rattle.rules.specs.Merge.{Merged, mergedFaces, mergedFaceOf}
+use Rattle.rules.specs.Groups.{label_of}
+use Rattle.rules.specs.Merge.{Merged, merged_faces, merged_face_of}
 use Rattle.rules.specs.Walk.{successor}
 use Rattle.rules.specs.Sew.{Walked, Ends}
-use Rattle.rules.specs.Stage.{groupFields, keptFields, keptUses, walkFields, loopFields, stageBytes, useFields}
-use Rattle.rules.specs.Read.{useAt}
+use Rattle.rules.specs.Stage.{group_fields, kept_fields, kept_uses, walk_fields, loop_fields, stage_bytes, use_fields}
+use Rattle.rules.specs.Read.{use_at}
 
 -- a stage with these fields: its ending, and what the output holds after it
 abbrev pub Staged : List ℕ → List ℕ → List ℕ → Ending → Type 0
-Staged fields before after r = Ends (stageBytes (length before) fields) before after r
+Staged fields before after r = Ends (stage_bytes (length before) fields) before after r
 
 -- walk: use, successor and passed count of each kept use
-abbrev pub walkRow : List ℕ → List ℕ → ℕ → List ℕ
-walkRow ss ps h = h ∷ successor ss h ∷ get_or ps h 0 ∷ []
+abbrev pub walk_row : List ℕ → List ℕ → ℕ → List ℕ
+walk_row ss ps h = h ∷ successor ss h ∷ get_or ps h 0 ∷ []
 
-unfoldable pub walkRows : List Bool → List ℕ → List ℕ → List ℕ
-walkRows rm ss ps = flat_map (walkRow ss ps) (keptUses rm)
+unfoldable pub walk_rows : List Bool → List ℕ → List ℕ → List ℕ
+walk_rows rm ss ps = flat_map (walk_row ss ps) (kept_uses rm)
 
-pub walk-rows : (w : Walked) → walkRows w.merge.removed w.successors w.passed ≡ flat_map (walkFields w) (keptUses w.merge.removed)
-unfolding walkRows
-walk-rows w = refl
+pub walk_rows_lem : (w : Walked) → walk_rows w.merge.removed w.successors w.passed ≡ flat_map (walk_fields w) (kept_uses w.merge.removed)
+unfolding walk_rows
+walk_rows_lem w = refl
 
 -- merge: the labels of each selected face in the boundaries and in the merged groups
-abbrev pub pairRow : List ℕ → List ℕ → ℕ → List ℕ
-pairRow bs gs f = labelOf bs f ∷ labelOf gs f ∷ []
+abbrev pub pair_row : List ℕ → List ℕ → ℕ → List ℕ
+pair_row bs gs f = label_of bs f ∷ label_of gs f ∷ []
 
-unfoldable pub pairRows : List ℕ → List ℕ → List ℕ
-pairRows bs gs = flat_map (pairRow bs gs) (below (length bs))
+unfoldable pub pair_rows : List ℕ → List ℕ → List ℕ
+pair_rows bs gs = flat_map (pair_row bs gs) (below (length bs))
 
-pub pair-rows : (m : Merged) (faces : ℕ) → length m.boundaries ≡ faces → pairRows m.boundaries m.groups ≡ flat_map (groupFields m) (below faces)
-unfolding pairRows
-pair-rows m faces e = ap (λ n. flat_map (groupFields m) (below n)) e
+pub pair_rows_lem : (m : Merged) (faces : ℕ) → length m.boundaries ≡ faces → pair_rows m.boundaries m.groups ≡ flat_map (group_fields m) (below faces)
+unfolding pair_rows
+pair_rows_lem m faces e = ap (λ n. flat_map (group_fields m) (below n)) e
 
 -- vertex-loops: merged face and point of each kept vertex loop, which a table has side by side
-abbrev pub keptRow : List ℕ → ℕ → List ℕ
-keptRow t i = get_or t (2 * i) 0 ∷ get_or t (2 * i + 1) 0 ∷ []
+abbrev pub kept_row : List ℕ → ℕ → List ℕ
+kept_row t i = get_or t (2 * i) 0 ∷ get_or t (2 * i + 1) 0 ∷ []
 
-unfoldable pub keptRows : List ℕ → ℕ → List ℕ
-keptRows t k = flat_map (keptRow t) (below k)
+unfoldable pub kept_rows : List ℕ → ℕ → List ℕ
+kept_rows t k = flat_map (kept_row t) (below k)
 
-abbrev pub keptAt : List ℕ → ℕ → KeptVertexLoop
-keptAt t i = record { face = get_or t (2 * i) 0; point = get_or t (2 * i + 1) 0 }
+abbrev pub kept_at : List ℕ → ℕ → KeptVertexLoop
+kept_at t i = record { face = get_or t (2 * i) 0; point = get_or t (2 * i + 1) 0 }
 
-pub kept-rows : (t : List ℕ) (k : ℕ) → keptRows t k ≡ flat_map keptFields (map (keptAt t) (below k))
-unfolding keptRows
-kept-rows t k = sym (flatMap-map keptFields (keptAt t) (below k))
+pub kept_rows_lem : (t : List ℕ) (k : ℕ) → kept_rows t k ≡ flat_map kept_fields (map (kept_at t) (below k))
+unfolding kept_rows
+kept_rows_lem t k = sym (flat_map_map kept_fields (kept_at t) (below k))
 
 -- loops: merged face, number of uses and the uses of each loop
-abbrev pub roundRow : List Use → List ℕ → List ℕ → List ℕ
-roundRow us numbers hs = mergedFaceOf us numbers (get_or hs 0 0) ∷ length hs ∷ hs
+abbrev pub round_row : List Use → List ℕ → List ℕ → List ℕ
+round_row us numbers hs = merged_face_of us numbers (get_or hs 0 0) ∷ length hs ∷ hs
 
-unfoldable pub roundRows : List Use → List ℕ → List (List ℕ) → List ℕ
-roundRows us numbers ls = flat_map (roundRow us numbers) ls
+unfoldable pub round_rows : List Use → List ℕ → List (List ℕ) → List ℕ
+round_rows us numbers ls = flat_map (round_row us numbers) ls
 
-pub round-rows : (w : Walked) (ls : List (List ℕ)) → roundRows w.uses (mergedFaces w.merge) ls ≡ flat_map (loopFields w) ls
-unfolding roundRows
-round-rows w ls = refl
+pub round_rows_lem : (w : Walked) (ls : List (List ℕ)) → round_rows w.uses (merged_faces w.merge) ls ≡ flat_map (loop_fields w) ls
+unfolding round_rows
+round_rows_lem w ls = refl
 
 -- the place where the uses of the first k loops end, from their stretches
-unfoldable pub endOf : List ℕ → ℕ → ℕ
-endOf stretches zero = 0
-endOf stretches (suc k) = get_or stretches (2 * k + 1) 0
+unfoldable pub end_of : List ℕ → ℕ → ℕ
+end_of stretches zero = 0
+end_of stretches (suc k) = get_or stretches (2 * k + 1) 0
 
-abbrev pub useRow : List Use → ℕ → List ℕ
-useRow us h = useFields (useAt us h)
+abbrev pub use_row : List Use → ℕ → List ℕ
+use_row us h = use_fields (use_at us h)

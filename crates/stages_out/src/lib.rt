@@ -5,15 +5,15 @@
 
 ghost use Rattle.std.specs.Prelude.{◌≡◌, ◌+◌, ◌*◌, ◌<◌, ◌≤◌, ◌^◌, cond, not, length};
 ghost use mathlib.Core.List.{[], ◌∷◌, flat_map};
-ghost use Rattle.rules.specs.Fields.{fieldBytes};
-ghost use Rattle.rules.specs.Merge.{isRemoved};
-ghost use Rattle.rules.specs.Stage.{useFields, keptUses};
+ghost use Rattle.rules.specs.Fields.{field_bytes};
+ghost use Rattle.rules.specs.Merge.{is_removed};
+ghost use Rattle.rules.specs.Stage.{use_fields, kept_uses};
 ghost use Rattle.fields.specs.Wrote.{Wrote};
-ghost use Rattle.uses.specs.Table.{usesIn};
-ghost use Rattle.walk.specs.Walks.{loopsIn, Following};
-ghost use Rattle.stages_out.specs.Rows.{useRow};
+ghost use Rattle.uses.specs.Table.{uses_in};
+ghost use Rattle.walk.specs.Walks.{loops_in, Following};
+ghost use Rattle.stages_out.specs.Rows.{use_row};
 ghost use Rattle.stages_out.specs.Writing.{Rowed};
-ghost use Rattle.stages_out.specs.Rows.{Staged, walkRow, walkRows, pairRows, keptRows, roundRow, roundRows, endOf};
+ghost use Rattle.stages_out.specs.Rows.{Staged, walk_row, walk_rows, pair_rows, kept_rows, round_row, round_rows, end_of};
 
 use fields::{get, is_set, put_table, put_word};
 use rules::{Ending, Use};
@@ -23,7 +23,7 @@ use walk::successor;
 // Two numbers as fields at a place; gives the place after them.
 pub fn put_two(out: &mut [u8], at: usize, a: usize, b: usize) -> usize
     requires { at < 2 ^ 59 }
-    ensures { Wrote out.old at (fieldBytes (a ∷ b ∷ [])) out.new result }
+    ensures { Wrote out.old at (field_bytes (a ∷ b ∷ [])) out.new result }
 {
     let p = put_word(out, at, a);
     put_word(out, p, b)
@@ -39,7 +39,7 @@ fn wide(v: u32) -> usize
 // The fields of one use; gives the place after them.
 fn put_use(out: &mut [u8], at: usize, u: Use) -> usize
     requires { at < 2 ^ 58 }
-    ensures { Wrote out.old at (fieldBytes (useFields u)) out.new result }
+    ensures { Wrote out.old at (field_bytes (use_fields u)) out.new result }
 {
     let sense = u.sense;
     let p = put_two(out, at, wide(u.edge), wide(u.face));
@@ -49,7 +49,7 @@ fn put_use(out: &mut [u8], at: usize, u: Use) -> usize
 // The fields of the first n uses of the job, which are lent as a slice of records; gives the place after them.
 fn put_records(records: [Use; 2048], n: usize, out: &mut [u8]) -> usize
     requires { n ≤ 2048 }
-    ensures { Rowed (useRow records) 4 out.old out.new result n }
+    ensures { Rowed (use_row records) 4 out.old out.new result n }
 {
     let mut p: usize = 0;
     let mut h: usize = 0;
@@ -63,8 +63,8 @@ fn put_records(records: [Use; 2048], n: usize, out: &mut [u8]) -> usize
 
 // The fields of each use; gives the place after them.
 fn put_uses(uses: &[u32], out: &mut [u8]) -> usize
-    requires { length (usesIn uses.now) ≤ 2048 }
-    ensures { Wrote out.old 0 (fieldBytes (flat_map useFields (usesIn uses.now))) out.new result }
+    requires { length (uses_in uses.now) ≤ 2048 }
+    ensures { Wrote out.old 0 (field_bytes (flat_map use_fields (uses_in uses.now))) out.new result }
 {
     let records = records_of(uses);
     put_records(records, count(uses), out)
@@ -72,8 +72,8 @@ fn put_uses(uses: &[u32], out: &mut [u8]) -> usize
 
 // The stage `read`: edge, selected face, sense and old successor of each use.
 pub fn write_read(uses: &[u32], out: &mut [u8]) -> Ending
-    requires { length (usesIn uses.now) ≤ 2048 }
-    ensures { Staged (flat_map useFields (usesIn uses.now)) out.old out.new result }
+    requires { length (uses_in uses.now) ≤ 2048 }
+    ensures { Staged (flat_map use_fields (uses_in uses.now)) out.old out.new result }
 {
     let needed = 16 * count(uses);
     if out.len() < needed {
@@ -98,7 +98,7 @@ pub fn write_twins(twins: &[u32], out: &mut [u8]) -> Ending
 
 // 1 for a kept use, 0 for a removed one.
 fn kept_one(removed: &[bool], h: usize) -> usize
-    ensures { (result ≡ cond (not (isRemoved removed.now h)) 1 0) × (result ≤ 1) }
+    ensures { (result ≡ cond (not (is_removed removed.now h)) 1 0) × (result ≤ 1) }
 {
     if is_set(removed, h) {
         return 0;
@@ -109,7 +109,7 @@ fn kept_one(removed: &[bool], h: usize) -> usize
 // How many uses are kept.
 fn kept_count(removed: &[bool]) -> usize
     requires { length removed.now ≤ 2048 }
-    ensures { (result ≡ length (keptUses removed.now)) × (result ≤ 2048) }
+    ensures { (result ≡ length (kept_uses removed.now)) × (result ≤ 2048) }
 {
     let mut k: usize = 0;
     let mut h: usize = 0;
@@ -130,7 +130,7 @@ fn put_walked(
     at: usize,
 ) -> usize
     requires { at < 2 ^ 59 }
-    ensures { Wrote out.old at (fieldBytes (cond (not (isRemoved removed.now h)) (walkRow succ.now passed.now h) [])) out.new result }
+    ensures { Wrote out.old at (field_bytes (cond (not (is_removed removed.now h)) (walk_row succ.now passed.now h) [])) out.new result }
 {
     if is_set(removed, h) {
         return at;
@@ -144,7 +144,7 @@ fn put_walked(
 // The fields of each kept use; gives the place after them.
 fn put_walks(removed: &[bool], succ: &[u32], passed: &[u32], out: &mut [u8]) -> usize
     requires { length removed.now ≤ 2048 }
-    ensures { Wrote out.old 0 (fieldBytes (walkRows removed.now succ.now passed.now)) out.new result }
+    ensures { Wrote out.old 0 (field_bytes (walk_rows removed.now succ.now passed.now)) out.new result }
 {
     let mut p: usize = 0;
     let mut h: usize = 0;
@@ -158,7 +158,7 @@ fn put_walks(removed: &[bool], succ: &[u32], passed: &[u32], out: &mut [u8]) -> 
 // The stage `walk`: use, successor and passed count of each kept use.
 pub fn write_walk(removed: &[bool], succ: &[u32], passed: &[u32], out: &mut [u8]) -> Ending
     requires { length removed.now ≤ 2048 }
-    ensures { Staged (walkRows removed.now succ.now passed.now) out.old out.new result }
+    ensures { Staged (walk_rows removed.now succ.now passed.now) out.old out.new result }
 {
     let needed = 12 * kept_count(removed);
     if out.len() < needed {
@@ -171,7 +171,7 @@ pub fn write_walk(removed: &[bool], succ: &[u32], passed: &[u32], out: &mut [u8]
 // The entries of two tables, side by side; gives the place after them.
 fn put_pairs(boundaries: &[u32], groups: &[u32], out: &mut [u8]) -> usize
     requires { length boundaries.now ≤ 2048 }
-    ensures { Wrote out.old 0 (fieldBytes (pairRows boundaries.now groups.now)) out.new result }
+    ensures { Wrote out.old 0 (field_bytes (pair_rows boundaries.now groups.now)) out.new result }
 {
     let mut p: usize = 0;
     let mut f: usize = 0;
@@ -187,7 +187,7 @@ fn put_pairs(boundaries: &[u32], groups: &[u32], out: &mut [u8]) -> usize
 // The stage `merge`: lowest face of the boundary and of the merged group of each selected face.
 pub fn write_pairs(boundaries: &[u32], groups: &[u32], out: &mut [u8]) -> Ending
     requires { length boundaries.now ≤ 2048 }
-    ensures { Staged (pairRows boundaries.now groups.now) out.old out.new result }
+    ensures { Staged (pair_rows boundaries.now groups.now) out.old out.new result }
 {
     let needed = 8 * boundaries.len();
     if out.len() < needed {
@@ -200,7 +200,7 @@ pub fn write_pairs(boundaries: &[u32], groups: &[u32], out: &mut [u8]) -> Ending
 // The first k pairs of a table; gives the place after them.
 fn put_kept(kept: &[u32], k: usize, out: &mut [u8]) -> usize
     requires { k ≤ 2048 }
-    ensures { Wrote out.old 0 (fieldBytes (keptRows kept.now k)) out.new result }
+    ensures { Wrote out.old 0 (field_bytes (kept_rows kept.now k)) out.new result }
 {
     let mut p: usize = 0;
     let mut i: usize = 0;
@@ -216,7 +216,7 @@ fn put_kept(kept: &[u32], k: usize, out: &mut [u8]) -> usize
 // The stage `vertex-loops`: merged face and point of each of the k kept vertex loops.
 pub fn write_kept(kept: &[u32], k: usize, out: &mut [u8]) -> Ending
     requires { k ≤ 2048 }
-    ensures { Staged (keptRows kept.now k) out.old out.new result }
+    ensures { Staged (kept_rows kept.now k) out.old out.new result }
 {
     let needed = 8 * k;
     if out.len() < needed {
@@ -229,7 +229,7 @@ pub fn write_kept(kept: &[u32], k: usize, out: &mut [u8]) -> Ending
 // The place where the uses of the first k loops end.
 fn end_of(stretches: &[u32], k: usize) -> usize
     requires { k ≤ 2048 }
-    ensures { (result ≡ endOf stretches.now k) × (result < 4294967296) }
+    ensures { (result ≡ end_of stretches.now k) × (result < 4294967296) }
 {
     if k == 0 {
         return 0;
@@ -240,7 +240,7 @@ fn end_of(stretches: &[u32], k: usize) -> usize
 // The fields of one loop at a place; gives the place after them.
 fn put_loop(uses: &[u32], numbers: &[u32], part: &[u32], out: &mut [u8], at: usize) -> usize
     requires { (at < 2 ^ 58) × (length part.now < 2 ^ 50) }
-    ensures { Wrote out.old at (fieldBytes (roundRow (usesIn uses.now) numbers.now part.now)) out.new result }
+    ensures { Wrote out.old at (field_bytes (round_row (uses_in uses.now) numbers.now part.now)) out.new result }
 {
     let first = get(part, 0);
     let face = use_face(uses, first);
@@ -259,7 +259,7 @@ fn put_loops(
     out: &mut [u8],
 ) -> usize
     requires { Following k ways.now stretches.now × (k ≤ 2048) × (length ways.now ≤ 2048) }
-    ensures { Wrote out.old 0 (fieldBytes (roundRows (usesIn uses.now) numbers.now (loopsIn k ways.now stretches.now))) out.new result }
+    ensures { Wrote out.old 0 (field_bytes (round_rows (uses_in uses.now) numbers.now (loops_in k ways.now stretches.now))) out.new result }
 {
     let mut p: usize = 0;
     let mut i: usize = 0;
@@ -282,7 +282,7 @@ pub fn write_loops(
     out: &mut [u8],
 ) -> Ending
     requires { Following k ways.now stretches.now × (k ≤ 2048) × (length ways.now ≤ 2048) }
-    ensures { Staged (roundRows (usesIn uses.now) numbers.now (loopsIn k ways.now stretches.now)) out.old out.new result }
+    ensures { Staged (round_rows (uses_in uses.now) numbers.now (loops_in k ways.now stretches.now)) out.old out.new result }
 {
     let end = end_of(stretches, k);
     let needed = 8 * k + 4 * end;

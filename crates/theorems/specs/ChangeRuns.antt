@@ -1,7 +1,7 @@
 -- Runs of edge joining by what each change is, and how many corners have exactly two active edge ends.
 use Rattle.std.specs.Prelude.{◌≡◌, List, [], ◌∷◌, ℕ, length}
 use Rattle.lists.specs.Lists.{◌∈◌, keep}
-use Rattle.rules.specs.Join.{Joining, twoEnds}
+use Rattle.rules.specs.Join.{Joining, two_ends}
 use Rattle.theorems.specs.Demand3.{Change}
 use Rattle.theorems.specs.Changes.{Made}
 
@@ -16,4 +16,4 @@ Steps names s (c ∷ cs) t = (c.before ≡ s) × (c.corner ∈ names) × Made c.
 
 -- the fans of a list with exactly two ends
 abbrev pub twos : Joining → List ℕ → ℕ
-twos s names = length (keep (twoEnds s.edges) names)
+twos s names = length (keep (two_ends s.edges) names)

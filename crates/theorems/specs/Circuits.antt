@@ -3,7 +3,7 @@ use Rattle.std.specs.Prelude.{ℕ, suc, ◌≡◌, Bool, length}
 use mathlib.Core.List.{List, flat_map}
 use Rattle.lists.specs.Lists.{◌∈◌, Nodup, iterate, orbit}
 use Rattle.lists.specs.Orbits.{Perm}
-use Rattle.rules.specs.Walk.{successor, Circuit, closes, circuitUses}
+use Rattle.rules.specs.Walk.{successor, Circuit, closes, circuit_uses}
 use Rattle.theorems.specs.Successors.{Kept}
 
 -- a circuit runs from a kept use along successors until they lead back to it
@@ -16,7 +16,7 @@ pub record Closed (n : ℕ) (rm : List Bool) (ss : List ℕ) (c : Circuit) : Typ
 
 -- loops that close, and in which no use stands twice
 pub record Parting (n : ℕ) (rm : List Bool) (ss : List ℕ) (cs : List Circuit) : Type 0 where
-  pub once : Nodup (flat_map circuitUses cs)
+  pub once : Nodup (flat_map circuit_uses cs)
   pub closed : (c : Circuit) → c ∈ cs → Closed n rm ss c
 
 -- successors of n uses that permute the kept ones

@@ -5,11 +5,11 @@ use mathlib.Core.List.{List}
 use Rattle.std.proofs.Math.ListN.{length}
 use Rattle.rules.specs.declared.Edge.{Edge}
 use Rattle.rules.specs.declared.Use.{Use}
-use Rattle.rules.specs.Read.{faceOfUse}
-use Rattle.rules.specs.Pair.{twinOf}
-use Rattle.rules.specs.Merge.{otherFace}
+use Rattle.rules.specs.Read.{face_of_use}
+use Rattle.rules.specs.Pair.{twin_of}
+use Rattle.rules.specs.Merge.{other_face}
 use Rattle.rules.specs.Walk.{successor}
-use Rattle.rules.specs.Fans.{keptWithEnds}
+use Rattle.rules.specs.Fans.{kept_with_ends}
 
 -- a and b are connected by pairs of P: the least equivalence that has them
 pub data Connected (P : ℕ → ℕ → Type 0) : ℕ → ℕ → Type 0 where
@@ -27,10 +27,10 @@ pub record Equivalence (E : ℕ → ℕ → Type 0) : Type 0 where
 
 -- the selected faces of a use and its twin
 abbrev pub TwinFaces : List Use → List ℕ → ℕ → ℕ → Type 0
-TwinFaces us ts a b = (h : ℕ) × (h < length us) × (faceOfUse us h ≡ a) × (otherFace us ts h ≡ b)
+TwinFaces us ts a b = (h : ℕ) × (h < length us) × (face_of_use us h ≡ a) × (other_face us ts h ≡ b)
 
 -- FANS
 
 -- the new successor and the twin of a kept use with ends
 abbrev pub RoundCorner : List Edge → List Use → List ℕ → List Bool → List ℕ → ℕ → ℕ → Type 0
-RoundCorner es us ts rm ss a b = (h : ℕ) × (h < length us) × (keptWithEnds es us rm h ≡ true) × (successor ss h ≡ a) × (twinOf ts h ≡ b)
+RoundCorner es us ts rm ss a b = (h : ℕ) × (h < length us) × (kept_with_ends es us rm h ≡ true) × (successor ss h ≡ a) × (twin_of ts h ≡ b)

@@ -2,35 +2,35 @@
 -- Nothing in it is bounded by a budget of the definitions: what "never" and "back" mean is said by numbers of any size.
 use Rattle.std.specs.Prelude.{ℕ, suc, ◌+◌, ◌*◌, ◌<◌, ◌≡◌, Bool, true, false, ◌&&◌, not, length, get_or, eqb, pos, ◌+ℤ◌}
 use mathlib.Core.List.{List, [], ◌∷◌, flat_map}
-use Rattle.lists.specs.Lists.{below, ◌∈◌, times, some, keep, sumOf, iterate, orbit, Neighbours, neighbours}
+use Rattle.lists.specs.Lists.{below, ◌∈◌, times, some, keep, sum_of, iterate, orbit, Neighbours, neighbours}
 use Rattle.rules.specs.declared.Item.{Item}
 use Rattle.rules.specs.declared.EdgeData.{EdgeData}
 use Rattle.rules.specs.Outcome.{Outcome, ok, refuse}
 use Rattle.rules.specs.Fields.{le16, le32}
 use Rattle.rules.specs.Job.{unset, Answer, Job}
 use Rattle.rules.specs.Load.{loaded}
-use Rattle.rules.specs.Read.{usesOf, faceOfUse, oldSuccessor}
-use Rattle.rules.specs.Groups.{labelOf}
+use Rattle.rules.specs.Read.{uses_of, face_of_use, old_successor}
+use Rattle.rules.specs.Groups.{label_of}
 use Rattle.rules.specs.Pair.{pair}
-use Rattle.rules.specs.Rules.{Table, Rules, anyContact, allChanges}
-use Rattle.rules.specs.Merge.{mergeFaces, mergedFaces, isRemoved}
-use Rattle.rules.specs.VertexLoops.{vertexLoops}
-use Rattle.rules.specs.Walk.{turn, meets, passing, successor, Circuit, closes, circuitUses, loopsOf}
-use Rattle.rules.specs.Fans.{fanPoint}
+use Rattle.rules.specs.Rules.{Table, Rules, any_contact, all_changes}
+use Rattle.rules.specs.Merge.{merge_faces, merged_faces, is_removed}
+use Rattle.rules.specs.VertexLoops.{vertex_loops}
+use Rattle.rules.specs.Walk.{turn, meets, passing, successor, Circuit, closes, circuit_uses, loops_of}
+use Rattle.rules.specs.Fans.{fan_point}
 use Rattle.rules.specs.Edges.{FaceLoop}
-use Rattle.rules.specs.Join.{Joining, endsAt, cornersLessEdges, itemEnd, isPlace, placeIn, Tried, unchanged, changed, atCorner, sweep}
-use Rattle.rules.specs.Body.{bodyKind}
-use Rattle.rules.specs.Sew.{Walked, walksOf, Fanned, fansOf, unjoined, throughJoining, sewn}
-use Rattle.rules.specs.Stage.{keptUses}
+use Rattle.rules.specs.Join.{Joining, ends_at, corners_less_edges, item_end, is_place, place_in, Tried, unchanged, changed, at_corner, sweep}
+use Rattle.rules.specs.Body.{body_kind}
+use Rattle.rules.specs.Sew.{Walked, walks_of, Fanned, fans_of, unjoined, through_joining, sewn}
+use Rattle.rules.specs.Stage.{kept_uses}
 
 -- USES
 
 -- h is a removed use; h is a kept use
 abbrev pub RemovedUse : Walked → ℕ → Type 0
-RemovedUse w h = (h < length w.uses) × (isRemoved w.merge.removed h ≡ true)
+RemovedUse w h = (h < length w.uses) × (is_removed w.merge.removed h ≡ true)
 
 abbrev pub KeptUse : Walked → ℕ → Type 0
-KeptUse w h = (h < length w.uses) × (isRemoved w.merge.removed h ≡ false)
+KeptUse w h = (h < length w.uses) × (is_removed w.merge.removed h ≡ false)
 
 -- the turn of h holds a kept use, however far on
 abbrev pub HoldsKept : Walked → ℕ → Type 0
@@ -39,20 +39,20 @@ HoldsKept w h = (k : ℕ) × KeptUse w (turn w.uses w.twins h k)
 -- PASSED COUNTS
 
 -- the passed counts of the walk stage, summed over all kept uses
-abbrev pub passedSum : Walked → ℕ
-passedSum w = sumOf (λ h. get_or w.passed h 0) (keptUses w.merge.removed)
+abbrev pub passed_sum : Walked → ℕ
+passed_sum w = sum_of (λ h. get_or w.passed h 0) (kept_uses w.merge.removed)
 
 -- the turn of h holds a kept use among its first uses, as many as there are uses
-abbrev pub holdsKept : Walked → ℕ → Bool
-holdsKept w h = some (λ k. not (isRemoved w.merge.removed (turn w.uses w.twins h k))) (below (length w.uses))
+abbrev pub holds_kept : Walked → ℕ → Bool
+holds_kept w h = some (λ k. not (is_removed w.merge.removed (turn w.uses w.twins h k))) (below (length w.uses))
 
 -- the removed uses whose turn holds a kept use
 unfoldable pub reached : Walked → List ℕ
-reached w = keep (λ h. isRemoved w.merge.removed h && holdsKept w h) (below (length w.uses))
+reached w = keep (λ h. is_removed w.merge.removed h && holds_kept w h) (below (length w.uses))
 
 -- the sum equals the number of removed uses whose turn holds a kept use; `reached` lists exactly these
 pub record PassedCounted (w : Walked) : Type 0 where
-  pub counted : passedSum w ≡ length (reached w)
+  pub counted : passed_sum w ≡ length (reached w)
   pub all : (h : ℕ) → RemovedUse w h → HoldsKept w h → h ∈ reached w
   pub only : (h : ℕ) → h ∈ reached w → RemovedUse w h × HoldsKept w h
 
@@ -60,26 +60,26 @@ pub record PassedCounted (w : Walked) : Type 0 where
 
 -- each kept use stands in exactly one loop, once there: over all loops it stands once
 abbrev pub EachOnce : Walked → Type 0
-EachOnce w = (h : ℕ) → KeptUse w h → sumOf (times h) (loopsOf w.circuits) ≡ 1
+EachOnce w = (h : ℕ) → KeptUse w h → sum_of (times h) (loops_of w.circuits) ≡ 1
 
 -- the merged group of a use's face
-abbrev pub groupOf : Walked → ℕ → ℕ
-groupOf w h = labelOf w.merge.groups (faceOfUse w.uses h)
+abbrev pub group_of : Walked → ℕ → ℕ
+group_of w h = label_of w.merge.groups (face_of_use w.uses h)
 
 -- all uses of a loop lie in one merged face
 abbrev pub OneFace : Walked → Type 0
-OneFace w = (c : Circuit) → c ∈ w.circuits → (h k : ℕ) → h ∈ circuitUses c → k ∈ circuitUses c → groupOf w h ≡ groupOf w k
+OneFace w = (c : Circuit) → c ∈ w.circuits → (h k : ℕ) → h ∈ circuit_uses c → k ∈ circuit_uses c → group_of w h ≡ group_of w k
 
 -- NO WALK BREAKS
 
 -- passing over meets a kept use: in the turn of the old successor, after some removed uses; and this is what the walk stage has for h
 pub record Meets (w : Walked) (h : ℕ) : Type 0 where
   pub passings : ℕ
-  pub over : (i : ℕ) → i < passings → RemovedUse w (turn w.uses w.twins (oldSuccessor w.uses h) i)
-  pub kept : KeptUse w (turn w.uses w.twins (oldSuccessor w.uses h) passings)
-  pub met : passing w.uses w.twins w.merge.removed h ≡ meets (turn w.uses w.twins (oldSuccessor w.uses h) passings) passings
-  pub successor-is : successor w.successors h ≡ turn w.uses w.twins (oldSuccessor w.uses h) passings
-  pub passed-is : get_or w.passed h 0 ≡ passings
+  pub over : (i : ℕ) → i < passings → RemovedUse w (turn w.uses w.twins (old_successor w.uses h) i)
+  pub kept : KeptUse w (turn w.uses w.twins (old_successor w.uses h) passings)
+  pub met : passing w.uses w.twins w.merge.removed h ≡ meets (turn w.uses w.twins (old_successor w.uses h) passings) passings
+  pub successor_is : successor w.successors h ≡ turn w.uses w.twins (old_successor w.uses h) passings
+  pub passed_is : get_or w.passed h 0 ≡ passings
 
 -- successors lead from s back to s
 abbrev pub LeadsBack : Walked → ℕ → Type 0
@@ -107,124 +107,124 @@ pub record Change : Type 0 where
   pub after : Joining
 
 -- the corner where a sweep makes its change, the first that is not left unchanged
-abbrev pub cornerIf : Outcome Tried → ℕ → List ℕ → List ℕ
-cornerIf (ok unchanged) v later = later
-cornerIf (ok (changed s)) v later = v ∷ []
-cornerIf (refuse n p) v later = []
+abbrev pub corner_if : Outcome Tried → ℕ → List ℕ → List ℕ
+corner_if (ok unchanged) v later = later
+corner_if (ok (changed s)) v later = v ∷ []
+corner_if (refuse n p) v later = []
 
-unfoldable pub changedCorner : List Answer → List ℕ → Joining → List ℕ → List ℕ
-changedCorner answers starts s [] = []
-changedCorner answers starts s (v ∷ vs) = cornerIf (atCorner answers (fanPoint starts v) s v (endsAt s.edges v)) v (changedCorner answers starts s vs)
+unfoldable pub changed_corner : List Answer → List ℕ → Joining → List ℕ → List ℕ
+changed_corner answers starts s [] = []
+changed_corner answers starts s (v ∷ vs) = corner_if (at_corner answers (fan_point starts v) s v (ends_at s.edges v)) v (changed_corner answers starts s vs)
 
 -- edge joining makes the changes of a list, one sweep for each, and then a sweep changes nothing
 abbrev pub Run : List Answer → Fanned → Joining → List Change → Joining → Type 0
 Run answers f s [] t = (sweep answers f.starts s f.names ≡ ok unchanged) × (s ≡ t)
 Run answers f s (c ∷ cs) t =
     (c.before ≡ s)
-    × (changedCorner answers f.starts s f.names ≡ c.corner ∷ [])
+    × (changed_corner answers f.starts s f.names ≡ c.corner ∷ [])
     × (sweep answers f.starts s f.names ≡ ok (changed c.after))
     × Run answers f c.after cs t
 
 -- a change turns an edge into a ring where the two active edge ends at its corner are of one edge; else it is a join
-abbrev pub endsOf : Change → List ℕ
-endsOf c = endsAt c.before.edges c.corner
+abbrev pub ends_of : Change → List ℕ
+ends_of c = ends_at c.before.edges c.corner
 
-abbrev pub isRing : Change → Bool
-isRing c = eqb (get_or (endsOf c) 0 0) (get_or (endsOf c) 1 0)
+abbrev pub is_ring : Change → Bool
+is_ring c = eqb (get_or (ends_of c) 0 0) (get_or (ends_of c) 1 0)
 
 -- the number of edges turned into rings, and of joins
-abbrev pub ringsOf : List Change → ℕ
-ringsOf cs = length (keep isRing cs)
+abbrev pub rings_of : List Change → ℕ
+rings_of cs = length (keep is_ring cs)
 
-abbrev pub joinsOf : List Change → ℕ
-joinsOf cs = length (keep (λ c. not (isRing c)) cs)
+abbrev pub joins_of : List Change → ℕ
+joins_of cs = length (keep (λ c. not (is_ring c)) cs)
 
 -- an active edge is a ring: 4,294,967,295 in both ends
-abbrev pub isActiveRing : EdgeData → Bool
-isActiveRing e = e.active && (eqb e.start unset && eqb e.end unset)
+abbrev pub is_active_ring : EdgeData → Bool
+is_active_ring e = e.active && (eqb e.start unset && eqb e.end unset)
 
 -- the active edges that are rings
-abbrev pub activeRings : List EdgeData → List EdgeData
-activeRings es = keep isActiveRing es
+abbrev pub active_rings : List EdgeData → List EdgeData
+active_rings es = keep is_active_ring es
 
 -- LOOP PLACES
 
 -- Joining, the term "loop place" at corner v: an item ending there, with its next item
-abbrev pub isLoopPlace : List EdgeData → ℕ → Neighbours Item → Bool
-isLoopPlace es v p = eqb (itemEnd es p.here) v
+abbrev pub is_loop_place : List EdgeData → ℕ → Neighbours Item → Bool
+is_loop_place es v p = eqb (item_end es p.here) v
 
 -- the loop places at corner v of all loops
-abbrev pub placesAt : List EdgeData → ℕ → List FaceLoop → List (Neighbours Item)
-placesAt es v ls = flat_map (λ l. keep (isLoopPlace es v) (neighbours l.items)) ls
+abbrev pub places_at : List EdgeData → ℕ → List FaceLoop → List (Neighbours Item)
+places_at es v ls = flat_map (λ l. keep (is_loop_place es v) (neighbours l.items)) ls
 
 -- the loops in which the join of edges a and b at corner v finds a place
-abbrev pub foundIn : List EdgeData → ℕ → ℕ → ℕ → List FaceLoop → List FaceLoop
-foundIn es v a b ls = keep (λ l. not (eqb (placeIn es v a b l.items) (length l.items))) ls
+abbrev pub found_in : List EdgeData → ℕ → ℕ → ℕ → List FaceLoop → List FaceLoop
+found_in es v a b ls = keep (λ l. not (eqb (place_in es v a b l.items) (length l.items))) ls
 
 -- the items of edge e in all loops
-abbrev pub itemsWith : ℕ → List FaceLoop → List Item
-itemsWith e ls = flat_map (λ l. keep (λ x. eqb x.edge e) l.items) ls
+abbrev pub items_with : ℕ → List FaceLoop → List Item
+items_with e ls = flat_map (λ l. keep (λ x. eqb x.edge e) l.items) ls
 
 -- a join finds exactly two loop places: there are two at its corner, it finds one in two loops, and afterwards the new edge, numbered last, stands at two
 pub record TwoPlaces (c : Change) : Type 0 where
-  pub places : length (placesAt c.before.edges c.corner c.before.loops) ≡ 2
-  pub found : length (foundIn c.before.edges c.corner (get_or (endsOf c) 0 0) (get_or (endsOf c) 1 0) c.before.loops) ≡ 2
-  pub replaced : length (itemsWith (length c.before.edges) c.after.loops) ≡ 2
+  pub places : length (places_at c.before.edges c.corner c.before.loops) ≡ 2
+  pub found : length (found_in c.before.edges c.corner (get_or (ends_of c) 0 0) (get_or (ends_of c) 1 0) c.before.loops) ≡ 2
+  pub replaced : length (items_with (length c.before.edges) c.after.loops) ≡ 2
   -- of any item of a loop and its next, the test that finds the places of the join says just whether they are a loop place
   pub agrees : (l : FaceLoop) → l ∈ c.before.loops → (p : Neighbours Item) → p ∈ neighbours l.items
-      → isPlace c.before.edges c.corner (get_or (endsOf c) 0 0) (get_or (endsOf c) 1 0) p ≡ isLoopPlace c.before.edges c.corner p
+      → is_place c.before.edges c.corner (get_or (ends_of c) 0 0) (get_or (ends_of c) 1 0) p ≡ is_loop_place c.before.edges c.corner p
 
 -- each join finds exactly two loop places
 abbrev pub EachJoin : List Change → Type 0
-EachJoin cs = (c : Change) → c ∈ cs → isRing c ≡ false → TwoPlaces c
+EachJoin cs = (c : Change) → c ∈ cs → is_ring c ≡ false → TwoPlaces c
 
 -- THE BODY
 
 -- field i of the Body record, the first of the bytes written
-abbrev pub bodyField : List ℕ → ℕ → ℕ
-bodyField bytes i = le32 bytes (6 + 4 * i)
+abbrev pub body_field : List ℕ → ℕ → ℕ
+body_field bytes i = le32 bytes (6 + 4 * i)
 
 -- the body reports the sum of the passed counts, the number of joins and that number of rings, beside its kind, uses and removed uses
 pub record Reports (j : Job) (w : Walked) (cs : List Change) (bytes : List ℕ) : Type 0 where
   pub kind : le16 bytes 4 ≡ 21
-  pub solid : bodyField bytes 0 ≡ bodyKind (not (eqb (length j.faces) 0))
-  pub uses : bodyField bytes 1 ≡ length w.uses
-  pub removed : bodyField bytes 2 ≡ length (keep (isRemoved w.merge.removed) (below (length w.uses)))
-  pub passed : bodyField bytes 3 ≡ passedSum w
-  pub joins : bodyField bytes 4 ≡ joinsOf cs
-  pub rings : bodyField bytes 5 ≡ ringsOf cs
+  pub solid : body_field bytes 0 ≡ body_kind (not (eqb (length j.faces) 0))
+  pub uses : body_field bytes 1 ≡ length w.uses
+  pub removed : body_field bytes 2 ≡ length (keep (is_removed w.merge.removed) (below (length w.uses)))
+  pub passed : body_field bytes 3 ≡ passed_sum w
+  pub joins : body_field bytes 4 ≡ joins_of cs
+  pub rings : body_field bytes 5 ≡ rings_of cs
 
 -- THE STATEMENT
 
 -- document 01's rules, with a joining table
-abbrev pub withTable : Table → Rules
-withTable t = record { table = t; profile = anyContact; changes = allChanges }
+abbrev pub with_table : Table → Rules
+with_table t = record { table = t; profile = any_contact; changes = all_changes }
 
 -- the job pairs fully, its surface and vertex-loop questions are answered and decided, no normal vanishes; w is what the walk stage makes of it
 pub record Settled (t : Table) (j : Job) (w : Walked) : Type 0 where
-  pub pairs : pair j.answers (usesOf j) (length j.edges) ≡ ok w.twins
-  pub surfaces : mergeFaces t j.answers j.faces (usesOf j) w.twins ≡ ok w.merge
-  pub vertices : vertexLoops j.answers j.points (mergedFaces w.merge) j.loops ≡ ok w.vertexLoops
-  pub walks : w ≡ walksOf (usesOf j) w.twins w.merge w.vertexLoops
+  pub pairs : pair j.answers (uses_of j) (length j.edges) ≡ ok w.twins
+  pub surfaces : merge_faces t j.answers j.faces (uses_of j) w.twins ≡ ok w.merge
+  pub vertices : vertex_loops j.answers j.points (merged_faces w.merge) j.loops ≡ ok w.vertex_loops
+  pub walks : w ≡ walks_of (uses_of j) w.twins w.merge w.vertex_loops
 
 -- what holds of the walks
 pub record WalksHold (w : Walked) : Type 0 where
   pub passed : PassedCounted w
   pub once : EachOnce w
-  pub oneFace : OneFace w
+  pub one_face : OneFace w
   pub unbroken : NeverBreaks w
 
 -- what holds of edge joining and of the bytes written for an accepted job: its changes, and the edges and loops where they end
 pub record JoiningHolds (t : Table) (j : Job) (w : Walked) (bytes : List ℕ) : Type 0 where
   pub changes : List Change
   pub ending : Joining
-  pub joined : throughJoining (withTable t) j ≡ ok (record { fan = fansOf j w; joining = ending })
-  pub run : Run j.answers (fansOf j w) (unjoined j (fansOf j w)) changes ending
+  pub joined : through_joining (with_table t) j ≡ ok (record { fan = fans_of j w; joining = ending })
+  pub run : Run j.answers (fans_of j w) (unjoined j (fans_of j w)) changes ending
   pub balance :
-      cornersLessEdges (unjoined j (fansOf j w)).edges (fansOf j w).names
-      ≡ cornersLessEdges ending.edges (fansOf j w).names +ℤ pos (ringsOf changes)
+      corners_less_edges (unjoined j (fans_of j w)).edges (fans_of j w).names
+      ≡ corners_less_edges ending.edges (fans_of j w).names +ℤ pos (rings_of changes)
   -- where joining ends there are more active rings than where it starts, by the number of edges turned into rings
-  pub rings : length (activeRings ending.edges) ≡ length (activeRings (unjoined j (fansOf j w)).edges) + ringsOf changes
+  pub rings : length (active_rings ending.edges) ≡ length (active_rings (unjoined j (fans_of j w)).edges) + rings_of changes
   pub places : EachJoin changes
   pub reports : Reports j w changes bytes
 
@@ -232,4 +232,4 @@ pub record JoiningHolds (t : Table) (j : Job) (w : Walked) (bytes : List ℕ) : 
 abbrev pub Demand3 : Table → List ℕ → Type 0
 Demand3 t job =
     (j : Job) (w : Walked) → loaded job ≡ ok j → Settled t j w
-    → WalksHold w × ((room : ℕ) (bytes : List ℕ) → sewn (withTable t) job room ≡ ok bytes → JoiningHolds t j w bytes)
+    → WalksHold w × ((room : ℕ) (bytes : List ℕ) → sewn (with_table t) job room ≡ ok bytes → JoiningHolds t j w bytes)

@@ -2,43 +2,43 @@
 use Rattle.std.specs.Prelude.{ℕ, List, [], ◌∷◌, ◌++◌, Bool, false, length}
 use Rattle.lists.specs.Lists.{same, keep}
 use Rattle.rules.specs.Outcome.{Outcome, ok, refuse, ◌>>=◌}
-use Rattle.rules.specs.Frame.{Record, framedAll}
+use Rattle.rules.specs.Frame.{Record, framed_all}
 use Rattle.rules.specs.Load.{loaded}
 use Rattle.rules.specs.Rules.{ordinary}
-use Rattle.rules.specs.Join.{Joining, corners, activeEdges}
+use Rattle.rules.specs.Join.{Joining, corners, active_edges}
 use Rattle.rules.specs.Body.{rec}
-use Rattle.rules.specs.Sew.{Walked, walked, Fanned, fansOf, unjoined, throughJoining}
+use Rattle.rules.specs.Sew.{Walked, walked, Fanned, fans_of, unjoined, through_joining}
 use Rattle.rules.specs.Parts.{P3, P7, P8, P9}
-use Rattle.theorems.specs.Demand3.{passedSum, reached}
+use Rattle.theorems.specs.Demand3.{passed_sum, reached}
 
 -- uses, removed uses, the sum of the passed counts, the removed uses whose turn holds a kept one
-abbrev pub walkFigures : Walked → List ℕ
-walkFigures w = length w.uses ∷ length (keep (λ gone. gone) w.merge.removed) ∷ passedSum w ∷ length (reached w) ∷ []
+abbrev pub walk_figures : Walked → List ℕ
+walk_figures w = length w.uses ∷ length (keep (λ gone. gone) w.merge.removed) ∷ passed_sum w ∷ length (reached w) ∷ []
 
 -- corners and edges before joining, corners and edges after it, joins, rings
-abbrev pub joinFigures : Fanned → Joining → Joining → List ℕ
-joinFigures f before after =
-    length (corners before.edges f.names) ∷ length (activeEdges before.edges) ∷
-    length (corners after.edges f.names) ∷ length (activeEdges after.edges) ∷
+abbrev pub join_figures : Fanned → Joining → Joining → List ℕ
+join_figures f before after =
+    length (corners before.edges f.names) ∷ length (active_edges before.edges) ∷
+    length (corners after.edges f.names) ∷ length (active_edges after.edges) ∷
     after.joins ∷ after.rings ∷ []
 
 unfoldable pub figures : List Record → Outcome (List ℕ)
-figures records = loaded (framedAll records) >>= λ j. walked ordinary j >>= λ w.
-    let f = fansOf j w in
-    throughJoining ordinary j >>= λ x.
-    ok (walkFigures w ++ joinFigures f (unjoined j f) x.joining)
+figures records = loaded (framed_all records) >>= λ j. walked ordinary j >>= λ w.
+    let f = fans_of j w in
+    through_joining ordinary j >>= λ x.
+    ok (walk_figures w ++ join_figures f (unjoined j f) x.joining)
 
 -- a job with the figures that it has
 pub record Figured : Type 0 where
   pub job : List Record
   pub have : List ℕ
 
-abbrev pub haveThem : Outcome (List ℕ) → List ℕ → Bool
-haveThem (ok a) b = same a b
-haveThem (refuse n p) b = false
+abbrev pub have_them : Outcome (List ℕ) → List ℕ → Bool
+have_them (ok a) b = same a b
+have_them (refuse n p) b = false
 
 abbrev pub right : Figured → Bool
-right r = haveThem (figures r.job) r.have
+right r = have_them (figures r.job) r.have
 
 -- a cylinder: the seam goes, and two edges become rings
 unfoldable pub cylinder : List Record
@@ -50,8 +50,8 @@ cylinder =
     rec 8 (0 ∷ 0 ∷ []) ∷ rec 8 (2 ∷ 0 ∷ []) ∷ rec 11 (5 ∷ 0 ∷ 1 ∷ 0 ∷ 0 ∷ []) ∷ rec 11 (6 ∷ 0 ∷ 2 ∷ 1 ∷ 0 ∷ []) ∷ []
 
 -- four edges round two faces become one ring
-unfoldable pub fourEdges : List Record
-fourEdges =
+unfoldable pub four_edges : List Record
+four_edges =
     rec 1 (1 ∷ []) ∷ rec 2 (0 ∷ []) ∷ rec 2 (1 ∷ []) ∷ rec 2 (2 ∷ []) ∷ rec 2 (3 ∷ []) ∷
     rec 3 (5 ∷ 0 ∷ 0 ∷ 1 ∷ []) ∷ rec 3 (5 ∷ 0 ∷ 1 ∷ 2 ∷ []) ∷ rec 3 (5 ∷ 0 ∷ 2 ∷ 3 ∷ []) ∷ rec 3 (5 ∷ 0 ∷ 3 ∷ 0 ∷ []) ∷
     rec 4 (7 ∷ 0 ∷ 0 ∷ 0 ∷ 0 ∷ []) ∷ rec 5 (0 ∷ 0 ∷ 1 ∷ 0 ∷ 2 ∷ 0 ∷ 3 ∷ 0 ∷ []) ∷
@@ -86,6 +86,6 @@ table =
     record { job = P8.job; have = 4 ∷ 0 ∷ 0 ∷ 0 ∷ 2 ∷ 2 ∷ 1 ∷ 1 ∷ 1 ∷ 0 ∷ [] } ∷
     record { job = P9.job; have = 6 ∷ 2 ∷ 2 ∷ 2 ∷ 2 ∷ 2 ∷ 2 ∷ 2 ∷ 0 ∷ 0 ∷ [] } ∷
     record { job = cylinder; have = 6 ∷ 2 ∷ 2 ∷ 2 ∷ 2 ∷ 2 ∷ 0 ∷ 2 ∷ 0 ∷ 2 ∷ [] } ∷
-    record { job = fourEdges; have = 8 ∷ 0 ∷ 0 ∷ 0 ∷ 4 ∷ 4 ∷ 0 ∷ 1 ∷ 3 ∷ 1 ∷ [] } ∷
+    record { job = four_edges; have = 8 ∷ 0 ∷ 0 ∷ 0 ∷ 4 ∷ 4 ∷ 0 ∷ 1 ∷ 3 ∷ 1 ∷ [] } ∷
     record { job = pentagon; have = 14 ∷ 4 ∷ 4 ∷ 4 ∷ 5 ∷ 5 ∷ 5 ∷ 5 ∷ 0 ∷ 0 ∷ [] } ∷
     record { job = spur; have = 4 ∷ 2 ∷ 2 ∷ 2 ∷ 1 ∷ 1 ∷ 0 ∷ 1 ∷ 0 ∷ 1 ∷ [] } ∷ []

@@ -6,8 +6,8 @@ use Rattle.lists.specs.Lists.{◌∈◌}
 use Rattle.rules.specs.declared.Kind.{Kind}
 use Rattle.rules.specs.declared.Counts.{Counts}
 use Rattle.rules.specs.Job.{Loop, Job}
-use Rattle.rules.specs.Kinds.{rightPosition, limitPassed, fieldsPermitted}
-use Rattle.rules.specs.Load.{selectedBefore, rightJoints}
+use Rattle.rules.specs.Kinds.{right_position, limit_passed, fields_permitted}
+use Rattle.rules.specs.Load.{selected_before, right_joints}
 use Rattle.theorems.specs.Sound.{Counted, Limited, Sound}
 
 -- the counts and the limits hold, the job is sound, loops come in part 4 and after a face
@@ -20,8 +20,8 @@ pub record Fit (c : Counts) (j : Job) : Type 0 where
 
 -- what a record of kind k with fields x must have to be taken
 pub record Taken (k : Kind) (x : List ℕ) (c : Counts) (j : Job) : Type 0 where
-  pub position : rightPosition k c.part ≡ true
-  pub limit : limitPassed k c (length x) ≡ false
-  pub permitted : fieldsPermitted k c x ≡ true
-  pub new : selectedBefore k j.faces x ≡ false
-  pub joints : rightJoints k j.points j.edges x ≡ true
+  pub position : right_position k c.part ≡ true
+  pub limit : limit_passed k c (length x) ≡ false
+  pub permitted : fields_permitted k c x ≡ true
+  pub new : selected_before k j.faces x ≡ false
+  pub joints : right_joints k j.points j.edges x ≡ true

@@ -5,31 +5,31 @@ use mathlib.Core.List.{List}
 use Rattle.rules.specs.declared.Edge.{Edge}
 use Rattle.rules.specs.declared.Item.{Item}
 use Rattle.rules.specs.declared.Use.{Use}
-use Rattle.rules.specs.Job.{ring, ofRing, endBy, pointAt, startPoint, endPoint}
-use Rattle.rules.specs.Read.{useAt, oldSuccessor, edgeOfUse, useStart}
+use Rattle.rules.specs.Job.{ring, of_ring, end_by, point_at, start_point, end_point}
+use Rattle.rules.specs.Read.{use_at, old_successor, edge_of_use, use_start}
 
 -- JOINTS OF ITEMS
 
 -- an item meets another: neither is of a ring, and the one ends at the point where the other starts
 pub record Meeting (points : List ℕ) (es : List Edge) (x y : Item) : Type 0 where
-  pub here : ofRing es x ≡ false
-  pub next : ofRing es y ≡ false
-  pub point : endPoint points es x ≡ startPoint points es y
+  pub here : of_ring es x ≡ false
+  pub next : of_ring es y ≡ false
+  pub point : end_point points es x ≡ start_point points es y
 
 -- JOINTS OF USES
 
 -- the vertex where a use ends
-abbrev pub useEnd : List Edge → Use → ℕ
-useEnd es u = endBy u.sense (edgeOfUse es u)
+abbrev pub use_end : List Edge → Use → ℕ
+use_end es u = end_by u.sense (edge_of_use es u)
 
 -- a use of a ring is its own old successor
 pub record RingNext (es : List Edge) (us : List Use) (h : ℕ) : Type 0 where
-  pub here : ring (edgeOfUse es (useAt us h)) ≡ true
-  pub next : ring (edgeOfUse es (useAt us (oldSuccessor us h))) ≡ true
-  pub alone : oldSuccessor us h ≡ h
+  pub here : ring (edge_of_use es (use_at us h)) ≡ true
+  pub next : ring (edge_of_use es (use_at us (old_successor us h))) ≡ true
+  pub alone : old_successor us h ≡ h
 
 -- a use with ends ends at the point where its old successor starts
 pub record EndsNext (points : List ℕ) (es : List Edge) (us : List Use) (h : ℕ) : Type 0 where
-  pub here : ring (edgeOfUse es (useAt us h)) ≡ false
-  pub next : ring (edgeOfUse es (useAt us (oldSuccessor us h))) ≡ false
-  pub point : pointAt points (useStart es (useAt us (oldSuccessor us h))) ≡ pointAt points (useEnd es (useAt us h))
+  pub here : ring (edge_of_use es (use_at us h)) ≡ false
+  pub next : ring (edge_of_use es (use_at us (old_successor us h))) ≡ false
+  pub point : point_at points (use_start es (use_at us (old_successor us h))) ≡ point_at points (use_end es (use_at us h))

@@ -6,9 +6,9 @@ use Rattle.rules.specs.Join.{Joining}
 use Rattle.theorems.specs.Linked.{LoopsSound}
 
 -- the items of the loops
-abbrev pub itemsOf : List FaceLoop → List (List Item)
-itemsOf ls = map (λ l. l.items) ls
+abbrev pub items_of : List FaceLoop → List (List Item)
+items_of ls = map (λ l. l.items) ls
 
 -- the loops of a state are sound
 abbrev pub SoundLoops : Joining → Type 0
-SoundLoops s = LoopsSound s.edges (itemsOf s.loops)
+SoundLoops s = LoopsSound s.edges (items_of s.loops)

@@ -6,11 +6,11 @@ use Rattle.rules.specs.declared.Face.{Face}
 use Rattle.rules.specs.declared.Use.{Use}
 use Rattle.rules.specs.Outcome.{Outcome, ok, ◌>>=◌}
 use Rattle.rules.specs.Job.{Answer}
-use Rattle.rules.specs.Questions.{surfaceAnswer, ask}
-use Rattle.rules.specs.Read.{faceOfUse}
+use Rattle.rules.specs.Questions.{surface_answer, ask}
+use Rattle.rules.specs.Read.{face_of_use}
 use Rattle.rules.specs.Groups.{Grouping}
 use Rattle.rules.specs.Rules.{Table}
-use Rattle.rules.specs.Merge.{otherFace, joinsFaces, equalSenses, unasked, Merged}
+use Rattle.rules.specs.Merge.{other_face, joins_faces, equal_senses, unasked, Merged}
 
 -- MERGED GROUPS
 
@@ -19,16 +19,16 @@ abbrev pub Told : Grouping → Grouping → Type 0
 Told s s' = (s' ≡ s) ⊎ ((s'.groups ≡ s.groups → ⊥) × (s'.joins ≡ suc s.joins))
 
 -- whether the answer to the surface question of use h joins the groups
-abbrev pub surfaceJoins : Table → List Answer → List Face → List Use → List ℕ → ℕ → Outcome Bool
-surfaceJoins t answers fs us ts h = ask answers 8 (h ∷ []) >>= λ v. joinsFaces t (equalSenses fs us ts h) (surfaceAnswer v)
+abbrev pub surface_joins : Table → List Answer → List Face → List Use → List ℕ → ℕ → Outcome Bool
+surface_joins t answers fs us ts h = ask answers 8 (h ∷ []) >>= λ v. joins_faces t (equal_senses fs us ts h) (surface_answer v)
 
 -- the faces of a twin pair that was asked for and that its answer joins
 abbrev pub SameSurface : Table → List Answer → List Face → List Use → List ℕ → ℕ → ℕ → Type 0
 SameSurface t answers fs us ts a b =
-    (h : ℕ) × (h < length us) × (unasked us ts h ≡ false) × (surfaceJoins t answers fs us ts h ≡ ok true) × (faceOfUse us h ≡ a) × (otherFace us ts h ≡ b)
+    (h : ℕ) × (h < length us) × (unasked us ts h ≡ false) × (surface_joins t answers fs us ts h ≡ ok true) × (face_of_use us h ≡ a) × (other_face us ts h ≡ b)
 
 -- MERGING, WHOLE
 
 -- the groups that merging ends with, and their count
-abbrev pub merge-grouping : Merged → Grouping
-merge-grouping m = record { groups = m.groups; joins = m.joins }
+abbrev pub merge_grouping : Merged → Grouping
+merge_grouping m = record { groups = m.groups; joins = m.joins }

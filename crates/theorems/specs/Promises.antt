@@ -11,8 +11,8 @@ pub record Promises (t : Table) (job : List ℕ) : Type 0 where
   -- demand 3 of document 01
   pub demand3 : Demand3 t job
   -- request Six of document 02
-  pub faceJoins : FaceJoins t job
+  pub face_joins : FaceJoins t job
   -- request Seven of document 02
-  pub faceMembers : FaceMembers t job
+  pub face_members : FaceMembers t job
   -- request Eight of document 02
-  pub facesDistinct : FacesDistinct job
+  pub faces_distinct : FacesDistinct job

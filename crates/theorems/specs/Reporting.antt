@@ -6,9 +6,9 @@ use Rattle.rules.specs.Fields.{le16}
 use Rattle.rules.specs.Job.{Job}
 use Rattle.rules.specs.Rules.{Rules}
 use Rattle.rules.specs.Shells.{Shell, Nested, nested}
-use Rattle.rules.specs.Body.{Totals, Body, bodyKind}
-use Rattle.rules.specs.Sew.{Joined, throughJoining, shellsOf, bodyOf}
-use Rattle.theorems.specs.Demand3.{bodyField}
+use Rattle.rules.specs.Body.{Totals, Body, body_kind}
+use Rattle.rules.specs.Sew.{Joined, through_joining, shells_of, body_of}
+use Rattle.theorems.specs.Demand3.{body_field}
 
 -- FIELDS READ BACK
 
@@ -19,18 +19,18 @@ pub record Small (t : Totals) : Type 0 where
   pub passed : t.passed ≤ 2048
   pub joins : t.joins ≤ 2048
   pub rings : t.rings ≤ 2048
-  pub faceJoins : t.faceJoins ≤ 2048
+  pub face_joins : t.face_joins ≤ 2048
 
 -- the bytes begin with the Body record of totals
 pub record Begins (bytes : List ℕ) (t : Totals) : Type 0 where
   pub kind : le16 bytes 4 ≡ 21
-  pub solid : bodyField bytes 0 ≡ bodyKind t.solid
-  pub uses : bodyField bytes 1 ≡ t.uses
-  pub removed : bodyField bytes 2 ≡ t.removed
-  pub passed : bodyField bytes 3 ≡ t.passed
-  pub joins : bodyField bytes 4 ≡ t.joins
-  pub rings : bodyField bytes 5 ≡ t.rings
-  pub faceJoins : bodyField bytes 6 ≡ t.faceJoins
+  pub solid : body_field bytes 0 ≡ body_kind t.solid
+  pub uses : body_field bytes 1 ≡ t.uses
+  pub removed : body_field bytes 2 ≡ t.removed
+  pub passed : body_field bytes 3 ≡ t.passed
+  pub joins : body_field bytes 4 ≡ t.joins
+  pub rings : body_field bytes 5 ≡ t.rings
+  pub face_joins : body_field bytes 6 ≡ t.face_joins
 
 -- THE BODY OF AN ACCEPTED JOB
 
@@ -39,7 +39,7 @@ pub record Solid (rules : Rules) (j : Job) (b : Body) : Type 0 where
   pub joined : Joined
   pub oriented : List Shell
   pub nests : List Nested
-  pub joining : throughJoining rules j ≡ ok joined
-  pub shells : shellsOf j joined.fan.walk ≡ ok oriented
+  pub joining : through_joining rules j ≡ ok joined
+  pub shells : shells_of j joined.fan.walk ≡ ok oriented
   pub nesting : nested j.answers oriented ≡ ok nests
-  pub body : b ≡ bodyOf j joined nests
+  pub body : b ≡ body_of j joined nests

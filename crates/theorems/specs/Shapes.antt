@@ -6,7 +6,7 @@ use Rattle.std.proofs.Math.ListN.{length, get_or}
 use Rattle.lists.specs.Lists.{◌∈◌}
 use Rattle.rules.specs.declared.EdgeData.{EdgeData}
 use Rattle.rules.specs.Edges.{FaceLoop}
-use Rattle.rules.specs.Stage.{edgeFields, faceLoopFields}
+use Rattle.rules.specs.Stage.{edge_fields, face_loop_fields}
 use Rattle.theorems.specs.Narrow.{Below}
 
 -- a row of `fixed` fields and `counted` more for each that its second field counts, all of four bytes
@@ -34,5 +34,5 @@ pub record Laid (rows : List (List ℕ)) : Type 0 where
 pub record Fresh (rows : List (List ℕ)) : Type 0 where
   pub edges : List EdgeData
   pub loops : List FaceLoop
-  pub rows-are : rows ≡ (0 ∷ 0 ∷ length edges ∷ []) ∷ (map edgeFields edges ++ map faceLoopFields loops)
+  pub rows_are : rows ≡ (0 ∷ 0 ∷ length edges ∷ []) ∷ (map edge_fields edges ++ map face_loop_fields loops)
   pub active : (e : EdgeData) → e ∈ edges → e.active ≡ true

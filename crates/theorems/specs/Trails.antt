@@ -3,14 +3,14 @@ use Rattle.std.specs.Prelude.{◌≡◌, true, List, ℕ, ◌≤◌, length, eqb
 use Rattle.lists.specs.Lists.{◌∈◌, keep}
 use Rattle.rules.specs.declared.Item.{Item}
 use Rattle.rules.specs.declared.EdgeData.{EdgeData}
-use Rattle.rules.specs.Join.{edgeDataAt, itemStart, itemEnd}
+use Rattle.rules.specs.Join.{edge_data_at, item_start, item_end}
 use Rattle.theorems.specs.Linked.{Trail}
 
 -- SENSES AND ITEMS
 
 -- how often an edge stands in some items, in either sense
-abbrev pub edgeTimes : ℕ → List Item → ℕ
-edgeTimes e l = length (keep (λ x. eqb x.edge e) l)
+abbrev pub edge_times : ℕ → List Item → ℕ
+edge_times e l = length (keep (λ x. eqb x.edge e) l)
 
 -- TRAILS
 
@@ -20,12 +20,12 @@ Closed es l = (x : ℕ) × Trail es x l x
 
 -- items start and end at the same fans with other edges
 abbrev pub SameFans : List EdgeData → List EdgeData → List Item → Type 0
-SameFans es es' l = (x : Item) → x ∈ l → (itemStart es' x ≡ itemStart es x) × (itemEnd es' x ≡ itemEnd es x)
+SameFans es es' l = (x : Item) → x ∈ l → (item_start es' x ≡ item_start es x) × (item_end es' x ≡ item_end es x)
 
 -- ONE LOOP
 
 -- a loop leads back to its start, its edges are active, and none stands in it twice
 pub record LoopSound (es : List EdgeData) (l : List Item) : Type 0 where
   pub closed : Closed es l
-  pub actives : (x : Item) → x ∈ l → (edgeDataAt es x.edge).active ≡ true
-  pub apart : (e : ℕ) → edgeTimes e l ≤ 1
+  pub actives : (x : Item) → x ∈ l → (edge_data_at es x.edge).active ≡ true
+  pub apart : (e : ℕ) → edge_times e l ≤ 1

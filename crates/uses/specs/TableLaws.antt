@@ -12,164 +12,164 @@ use Rattle.std.proofs.Math.Seq.{get_or-set_same, get_or-set_other}
 use Rattle.std.proofs.Math.Dec.{ltb}
 use borrow.Author.Tests.{lt-ltb, le-ltb, ltb-true, ltb-false}
 use Rattle.lists.specs.Lists.{below}
-use Rattle.lists.specs.Tests.{both-ways}
-use Rattle.lists.specs.Runs.{length-table, getD-table}
+use Rattle.lists.specs.Tests.{both_ways}
+use Rattle.lists.specs.Runs.{length_table, get_or_table}
 use Rattle.rules.specs.declared.Sense.{Sense}
 use Rattle.rules.specs.declared.Sense.TheVariants.{Same, Reversed}
 use Rattle.rules.specs.declared.Use.{Use}
-use Rattle.rules.specs.Sense.{senseOf, senseNumber}
-use Rattle.rules.specs.Read.{noUse, useAt}
-use Rattle.uses.specs.Table.{fieldOf, useIn, usesIn, withUse, Records}
+use Rattle.rules.specs.Sense.{sense_of, sense_number}
+use Rattle.rules.specs.Read.{no_use, use_at}
+use Rattle.uses.specs.Table.{field_of, use_in, uses_in, with_use, Records}
 
-pub length-uses : (t : List ℕ) → length (usesIn t) ≡ length t / 4
-unfolding usesIn
-length-uses t = length-table (useIn t) (length t / 4)
+pub length_uses : (t : List ℕ) → length (uses_in t) ≡ length t / 4
+unfolding uses_in
+length_uses t = length_table (use_in t) (length t / 4)
 
 -- a table of 4 n numbers has n uses
-pub count-uses : (t : List ℕ) (n : ℕ) → length t ≡ 4 * n → length (usesIn t) ≡ n
-count-uses t n e = length-uses t ∙ omega (arith, e)
+pub count_uses : (t : List ℕ) (n : ℕ) → length t ≡ 4 * n → length (uses_in t) ≡ n
+count_uses t n e = length_uses t ∙ omega (arith, e)
 
 -- past the end every field is 0
-past-end : (t : List ℕ) (h k : ℕ) → length t / 4 ≤ h → fieldOf t h k ≡ 0
-unfolding fieldOf
-past-end t h k p = rw (le-ltb h (length t / 4) p)
+past_end : (t : List ℕ) (h k : ℕ) → length t / 4 ≤ h → field_of t h k ≡ 0
+unfolding field_of
+past_end t h k p = rw (le-ltb h (length t / 4) p)
 
-none-past : (t : List ℕ) (h : ℕ) → length t / 4 ≤ h → useIn t h ≡ noUse
-unfolding useIn
-none-past t h p = λ i. record { edge = past-end t h 0 p i; face = past-end t h 1 p i; sense = senseOf (past-end t h 2 p i); next = past-end t h 3 p i }
+none_past : (t : List ℕ) (h : ℕ) → length t / 4 ≤ h → use_in t h ≡ no_use
+unfolding use_in
+none_past t h p = λ i. record { edge = past_end t h 0 p i; face = past_end t h 1 p i; sense = sense_of (past_end t h 2 p i); next = past_end t h 3 p i }
 
 -- use h of the table, also past its end
-pub use-is : (t : List ℕ) (h : ℕ) → useAt (usesIn t) h ≡ useIn t h
-unfolding usesIn
-use-is t h =
+pub use_is : (t : List ℕ) (h : ℕ) → use_at (uses_in t) h ≡ use_in t h
+unfolding uses_in
+use_is t h =
     ⊎_elim
-    (λ e. getD-table (useIn t) (length t / 4) h noUse (ltb-true h (length t / 4) e))
+    (λ e. get_or_table (use_in t) (length t / 4) h no_use (ltb-true h (length t / 4) e))
     (λ e.
     let p = ltb-false h (length t / 4) e in
-    get_or-eq_default (map (useIn t) (below (length t / 4))) noUse (omega (arith, length-table (useIn t) (length t / 4))) ∙ sym (none-past t h p))
-    (both-ways (ltb h (length t / 4)))
+    get_or-eq_default (map (use_in t) (below (length t / 4))) no_use (omega (arith, length_table (use_in t) (length t / 4))) ∙ sym (none_past t h p))
+    (both_ways (ltb h (length t / 4)))
 
 -- the fields of use h
-pub edge-is : (t : List ℕ) (h : ℕ) → (useAt (usesIn t) h).edge ≡ fieldOf t h 0
-unfolding useIn
-edge-is t h = ap (λ u. u.edge) (use-is t h)
+pub edge_is : (t : List ℕ) (h : ℕ) → (use_at (uses_in t) h).edge ≡ field_of t h 0
+unfolding use_in
+edge_is t h = ap (λ u. u.edge) (use_is t h)
 
-pub face-is : (t : List ℕ) (h : ℕ) → (useAt (usesIn t) h).face ≡ fieldOf t h 1
-unfolding useIn
-face-is t h = ap (λ u. u.face) (use-is t h)
+pub face_is : (t : List ℕ) (h : ℕ) → (use_at (uses_in t) h).face ≡ field_of t h 1
+unfolding use_in
+face_is t h = ap (λ u. u.face) (use_is t h)
 
-pub sense-is : (t : List ℕ) (h : ℕ) → (useAt (usesIn t) h).sense ≡ senseOf (fieldOf t h 2)
-unfolding useIn
-sense-is t h = ap (λ u. u.sense) (use-is t h)
+pub sense_is : (t : List ℕ) (h : ℕ) → (use_at (uses_in t) h).sense ≡ sense_of (field_of t h 2)
+unfolding use_in
+sense_is t h = ap (λ u. u.sense) (use_is t h)
 
 -- use h put together from its fields
-pub record-is : (t : List ℕ) (h e f : ℕ) (s : Sense) (n : ℕ) → e ≡ fieldOf t h 0 → f ≡ fieldOf t h 1 → s ≡ (useAt (usesIn t) h).sense → n ≡ fieldOf t h 3
-    → record { edge = e; face = f; sense = s; next = n } ≡ useAt (usesIn t) h
-unfolding useIn
-record-is t h e f s n ee ef es en = (λ i. record { edge = ee i; face = ef i; sense = (es ∙ sense-is t h) i; next = en i }) ∙ sym (use-is t h)
+pub record_is : (t : List ℕ) (h e f : ℕ) (s : Sense) (n : ℕ) → e ≡ field_of t h 0 → f ≡ field_of t h 1 → s ≡ (use_at (uses_in t) h).sense → n ≡ field_of t h 3
+    → record { edge = e; face = f; sense = s; next = n } ≡ use_at (uses_in t) h
+unfolding use_in
+record_is t h e f s n ee ef es en = (λ i. record { edge = ee i; face = ef i; sense = (es ∙ sense_is t h) i; next = en i }) ∙ sym (use_is t h)
 
-pub next-is : (t : List ℕ) (h : ℕ) → (useAt (usesIn t) h).next ≡ fieldOf t h 3
-unfolding useIn
-next-is t h = ap (λ u. u.next) (use-is t h)
+pub next_is : (t : List ℕ) (h : ℕ) → (use_at (uses_in t) h).next ≡ field_of t h 3
+unfolding use_in
+next_is t h = ap (λ u. u.next) (use_is t h)
 
 -- STORES
 
 -- four stores one after the other
-pub four-puts : (t a b c d : List ℕ) (h : ℕ) (u : Use) (s : ℕ) → a ≡ set t (4 * h) u.edge → b ≡ set a (4 * h + 1) u.face → c ≡ set b (4 * h + 2) s → d ≡ set c (4 * h + 3) u.next
-    → s ≡ senseNumber u.sense → d ≡ withUse t h u
-unfolding withUse
-four-puts t a b c d h u s ea eb ec ed es =
+pub four_puts : (t a b c d : List ℕ) (h : ℕ) (u : Use) (s : ℕ) → a ≡ set t (4 * h) u.edge → b ≡ set a (4 * h + 1) u.face → c ≡ set b (4 * h + 2) s → d ≡ set c (4 * h + 3) u.next
+    → s ≡ sense_number u.sense → d ≡ with_use t h u
+unfolding with_use
+four_puts t a b c d h u s ea eb ec ed es =
     ed ∙ (λ i. set (ec i) (4 * h + 3) u.next) ∙ (λ i. set (set (eb i) (4 * h + 2) (es i)) (4 * h + 3) u.next)
-    ∙ (λ i. set (set (set (ea i) (4 * h + 1) u.face) (4 * h + 2) (senseNumber u.sense)) (4 * h + 3) u.next)
+    ∙ (λ i. set (set (set (ea i) (4 * h + 1) u.face) (4 * h + 2) (sense_number u.sense)) (4 * h + 3) u.next)
 
-pub length-with : (t : List ℕ) (h : ℕ) (u : Use) → length (withUse t h u) ≡ length t
-unfolding withUse
-length-with t h u = simp length-set
+pub length_with : (t : List ℕ) (h : ℕ) (u : Use) → length (with_use t h u) ≡ length t
+unfolding with_use
+length_with t h u = simp length-set
 
-sense-back : (s : Sense) → senseOf (senseNumber s) ≡ s
-sense-back Same = refl
-sense-back Reversed = refl
+sense_back : (s : Sense) → sense_of (sense_number s) ≡ s
+sense_back Same = refl
+sense_back Reversed = refl
 
 -- field k of use g after use h was stored
 module _ (t : List ℕ) (h : ℕ) (u : Use) where
-  other : (p : ℕ) → (p ≡ 4 * h → ⊥) → (p ≡ 4 * h + 1 → ⊥) → (p ≡ 4 * h + 2 → ⊥) → (p ≡ 4 * h + 3 → ⊥) → get_or (withUse t h u) p 0 ≡ get_or t p 0
-  unfolding withUse
+  other : (p : ℕ) → (p ≡ 4 * h → ⊥) → (p ≡ 4 * h + 1 → ⊥) → (p ≡ 4 * h + 2 → ⊥) → (p ≡ 4 * h + 3 → ⊥) → get_or (with_use t h u) p 0 ≡ get_or t p 0
+  unfolding with_use
   other p a b c d =
-      get_or-set_other (set (set (set t (4 * h) u.edge) (4 * h + 1) u.face) (4 * h + 2) (senseNumber u.sense)) (4 * h + 3) p u.next 0 d
-      ∙ get_or-set_other (set (set t (4 * h) u.edge) (4 * h + 1) u.face) (4 * h + 2) p (senseNumber u.sense) 0 c
+      get_or-set_other (set (set (set t (4 * h) u.edge) (4 * h + 1) u.face) (4 * h + 2) (sense_number u.sense)) (4 * h + 3) p u.next 0 d
+      ∙ get_or-set_other (set (set t (4 * h) u.edge) (4 * h + 1) u.face) (4 * h + 2) p (sense_number u.sense) 0 c
       ∙ get_or-set_other (set t (4 * h) u.edge) (4 * h + 1) p u.face 0 b ∙ get_or-set_other t (4 * h) p u.edge 0 a
 
-  at-edge : 4 * h + 4 ≤ length t → get_or (withUse t h u) (4 * h) 0 ≡ u.edge
-  unfolding withUse
-  at-edge r =
-      get_or-set_other (set (set (set t (4 * h) u.edge) (4 * h + 1) u.face) (4 * h + 2) (senseNumber u.sense)) (4 * h + 3) (4 * h) u.next 0 (λ (e : 4 * h ≡ 4 * h + 3). omega arith)
-      ∙ get_or-set_other (set (set t (4 * h) u.edge) (4 * h + 1) u.face) (4 * h + 2) (4 * h) (senseNumber u.sense) 0 (λ (e : 4 * h ≡ 4 * h + 2). omega arith)
+  at_edge : 4 * h + 4 ≤ length t → get_or (with_use t h u) (4 * h) 0 ≡ u.edge
+  unfolding with_use
+  at_edge r =
+      get_or-set_other (set (set (set t (4 * h) u.edge) (4 * h + 1) u.face) (4 * h + 2) (sense_number u.sense)) (4 * h + 3) (4 * h) u.next 0 (λ (e : 4 * h ≡ 4 * h + 3). omega arith)
+      ∙ get_or-set_other (set (set t (4 * h) u.edge) (4 * h + 1) u.face) (4 * h + 2) (4 * h) (sense_number u.sense) 0 (λ (e : 4 * h ≡ 4 * h + 2). omega arith)
       ∙ get_or-set_other (set t (4 * h) u.edge) (4 * h + 1) (4 * h) u.face 0 (λ (e : 4 * h ≡ 4 * h + 1). omega arith)
       ∙ get_or-set_same t (4 * h) u.edge 0 (omega arith)
 
-  at-face : 4 * h + 4 ≤ length t → get_or (withUse t h u) (4 * h + 1) 0 ≡ u.face
-  unfolding withUse
-  at-face r =
-      get_or-set_other (set (set (set t (4 * h) u.edge) (4 * h + 1) u.face) (4 * h + 2) (senseNumber u.sense)) (4 * h + 3) (4 * h + 1) u.next 0 (λ (e : 4 * h + 1 ≡ 4 * h + 3). omega arith)
-      ∙ get_or-set_other (set (set t (4 * h) u.edge) (4 * h + 1) u.face) (4 * h + 2) (4 * h + 1) (senseNumber u.sense) 0 (λ (e : 4 * h + 1 ≡ 4 * h + 2). omega arith)
+  at_face : 4 * h + 4 ≤ length t → get_or (with_use t h u) (4 * h + 1) 0 ≡ u.face
+  unfolding with_use
+  at_face r =
+      get_or-set_other (set (set (set t (4 * h) u.edge) (4 * h + 1) u.face) (4 * h + 2) (sense_number u.sense)) (4 * h + 3) (4 * h + 1) u.next 0 (λ (e : 4 * h + 1 ≡ 4 * h + 3). omega arith)
+      ∙ get_or-set_other (set (set t (4 * h) u.edge) (4 * h + 1) u.face) (4 * h + 2) (4 * h + 1) (sense_number u.sense) 0 (λ (e : 4 * h + 1 ≡ 4 * h + 2). omega arith)
       ∙ get_or-set_same (set t (4 * h) u.edge) (4 * h + 1) u.face 0 (simp length-set (omega arith))
 
-  at-sense : 4 * h + 4 ≤ length t → get_or (withUse t h u) (4 * h + 2) 0 ≡ senseNumber u.sense
-  unfolding withUse
-  at-sense r =
-      get_or-set_other (set (set (set t (4 * h) u.edge) (4 * h + 1) u.face) (4 * h + 2) (senseNumber u.sense)) (4 * h + 3) (4 * h + 2) u.next 0 (λ (e : 4 * h + 2 ≡ 4 * h + 3). omega arith)
-      ∙ get_or-set_same (set (set t (4 * h) u.edge) (4 * h + 1) u.face) (4 * h + 2) (senseNumber u.sense) 0 (simp length-set (omega arith))
+  at_sense : 4 * h + 4 ≤ length t → get_or (with_use t h u) (4 * h + 2) 0 ≡ sense_number u.sense
+  unfolding with_use
+  at_sense r =
+      get_or-set_other (set (set (set t (4 * h) u.edge) (4 * h + 1) u.face) (4 * h + 2) (sense_number u.sense)) (4 * h + 3) (4 * h + 2) u.next 0 (λ (e : 4 * h + 2 ≡ 4 * h + 3). omega arith)
+      ∙ get_or-set_same (set (set t (4 * h) u.edge) (4 * h + 1) u.face) (4 * h + 2) (sense_number u.sense) 0 (simp length-set (omega arith))
 
-  at-next : 4 * h + 4 ≤ length t → get_or (withUse t h u) (4 * h + 3) 0 ≡ u.next
-  unfolding withUse
-  at-next r =
-      get_or-set_same (set (set (set t (4 * h) u.edge) (4 * h + 1) u.face) (4 * h + 2) (senseNumber u.sense)) (4 * h + 3) u.next 0 (simp length-set (omega arith))
+  at_next : 4 * h + 4 ≤ length t → get_or (with_use t h u) (4 * h + 3) 0 ≡ u.next
+  unfolding with_use
+  at_next r =
+      get_or-set_same (set (set (set t (4 * h) u.edge) (4 * h + 1) u.face) (4 * h + 2) (sense_number u.sense)) (4 * h + 3) u.next 0 (simp length-set (omega arith))
 
   -- use h is the one stored
-  pub stored : 4 * h + 4 ≤ length t → useAt (usesIn (withUse t h u)) h ≡ u
-  unfolding useIn fieldOf
+  pub stored : 4 * h + 4 ≤ length t → use_at (uses_in (with_use t h u)) h ≡ u
+  unfolding use_in field_of
   stored r =
-      let e : ltb h (length (withUse t h u) / 4) ≡ true = lt-ltb h (length (withUse t h u) / 4) (omega (arith, length-with t h u)) in
+      let e : ltb h (length (with_use t h u) / 4) ≡ true = lt-ltb h (length (with_use t h u) / 4) (omega (arith, length_with t h u)) in
       let z : 4 * h + 0 ≡ 4 * h = omega arith in
-      use-is (withUse t h u) h
+      use_is (with_use t h u) h
       ∙ rw e (λ i. record {
-        edge = (ap (λ k. get_or (withUse t h u) k 0) z ∙ at-edge r) i;
-        face = at-face r i;
-        sense = (ap senseOf (at-sense r) ∙ sense-back u.sense) i;
-        next = at-next r i;
+        edge = (ap (λ k. get_or (with_use t h u) k 0) z ∙ at_edge r) i;
+        face = at_face r i;
+        sense = (ap sense_of (at_sense r) ∙ sense_back u.sense) i;
+        next = at_next r i;
       })
 
-  same-field : (g k : ℕ) → (g ≡ h → ⊥) → k < 4 → fieldOf (withUse t h u) g k ≡ fieldOf t g k
-  unfolding fieldOf
-  same-field g k n lt =
-      (λ i. cond (ltb g (length-with t h u i / 4)) (get_or (withUse t h u) (4 * g + k) 0) 0)
+  same_field : (g k : ℕ) → (g ≡ h → ⊥) → k < 4 → field_of (with_use t h u) g k ≡ field_of t g k
+  unfolding field_of
+  same_field g k n lt =
+      (λ i. cond (ltb g (length_with t h u i / 4)) (get_or (with_use t h u) (4 * g + k) 0) 0)
       ∙ ap (λ x. cond (ltb g (length t / 4)) x 0) (other (4 * g + k) (λ (e : 4 * g + k ≡ 4 * h). omega arith) (λ (e : 4 * g + k ≡ 4 * h + 1). omega arith) (λ (e : 4 * g + k ≡ 4 * h + 2). omega arith) (λ (e : 4 * g + k ≡ 4 * h + 3). omega arith))
 
   -- any other use is as it was
-  pub unstored : (g : ℕ) → (g ≡ h → ⊥) → useAt (usesIn (withUse t h u)) g ≡ useAt (usesIn t) g
-  unfolding useIn
+  pub unstored : (g : ℕ) → (g ≡ h → ⊥) → use_at (uses_in (with_use t h u)) g ≡ use_at (uses_in t) g
+  unfolding use_in
   unstored g n =
-      use-is (withUse t h u) g
+      use_is (with_use t h u) g
       ∙ (λ i. record {
-        edge = same-field g 0 n (omega arith) i;
-        face = same-field g 1 n (omega arith) i;
-        sense = senseOf (same-field g 2 n (omega arith) i);
-        next = same-field g 3 n (omega arith) i;
+        edge = same_field g 0 n (omega arith) i;
+        face = same_field g 1 n (omega arith) i;
+        sense = sense_of (same_field g 2 n (omega arith) i);
+        next = same_field g 3 n (omega arith) i;
       })
-      ∙ sym (use-is t g)
+      ∙ sym (use_is t g)
 
 -- THE USES AS RECORDS
 
-pub records-none : (us : List Use) (u : Use) → Records us (replicate 2048 u) 0
-records-none us u = record { size = length-replicate 2048 u; same = λ h p. absurd (not-suc-le-zero p) }
+pub records_none : (us : List Use) (u : Use) → Records us (replicate 2048 u) 0
+records_none us u = record { size = length-replicate 2048 u; same = λ h p. absurd (not-suc-le-zero p) }
 
 -- one record more
-pub records-more : (us rs rs' : List Use) (h : ℕ) (u : Use) → Records us rs h → h < 2048 → u ≡ useAt us h → rs' ≡ set rs h u → Records us rs' (h + 1)
-records-more us rs rs' h u w inside eu er = record {
+pub records_more : (us rs rs' : List Use) (h : ℕ) (u : Use) → Records us rs h → h < 2048 → u ≡ use_at us h → rs' ≡ set rs h u → Records us rs' (h + 1)
+records_more us rs rs' h u w inside eu er = record {
   size = ap length er ∙ length-set rs h u ∙ w.size;
   same = λ j p.
       elim (ℕ_discrete j h) [
-        | yes e ↦ ap (λ l. useAt l j) er ∙ ap (λ i. useAt (set rs h u) i) e ∙ get_or-set_same rs h u noUse (omega (arith, w.size)) ∙ eu ∙ ap (useAt us) (sym e)
-        | no n ↦ ap (λ l. useAt l j) er ∙ get_or-set_other rs h j u noUse n ∙ w.same j (omega (arith, n))
+        | yes e ↦ ap (λ l. use_at l j) er ∙ ap (λ i. use_at (set rs h u) i) e ∙ get_or-set_same rs h u no_use (omega (arith, w.size)) ∙ eu ∙ ap (use_at us) (sym e)
+        | no n ↦ ap (λ l. use_at l j) er ∙ get_or-set_other rs h j u no_use n ∙ w.same j (omega (arith, n))
       ];
 }

@@ -4,16 +4,16 @@
 
 ghost use Rattle.std.specs.Prelude.{◌≡◌, [], ◌∷◌, ◌+◌, ◌*◌, ◌/◌, ◌<◌, ◌≤◌, length, get_or};
 ghost use Rattle.rules.specs.Job.{ring};
-ghost use Rattle.rules.specs.Read.{useAt, faceOfUse, oldSuccessor, edgeOfUse, useStart};
-ghost use Rattle.job.specs.Lists.{pointsIn, edgesIn};
-ghost use Rattle.uses.specs.Table.{fieldOf, usesIn, withUse, Records};
+ghost use Rattle.rules.specs.Read.{use_at, face_of_use, old_successor, edge_of_use, use_start};
+ghost use Rattle.job.specs.Lists.{points_in, edges_in};
+ghost use Rattle.uses.specs.Table.{field_of, uses_in, with_use, Records};
 
 use fields::{UNSET, get, put};
 use rules::{Counts, Sense, Use};
 
 // How many uses a table has.
 pub fn count(uses: &[u32]) -> usize
-    ensures { result ≡ length (usesIn uses.now) }
+    ensures { result ≡ length (uses_in uses.now) }
 {
     uses.len() / 4
 }
@@ -21,7 +21,7 @@ pub fn count(uses: &[u32]) -> usize
 // Field k of use h.
 fn field_of(uses: &[u32], h: usize, k: usize) -> usize
     requires { k < 4 }
-    ensures { (result ≡ fieldOf uses.now h k) × (result < 4294967296) }
+    ensures { (result ≡ field_of uses.now h k) × (result < 4294967296) }
 {
     if h < uses.len() / 4 {
         return get(uses, 4 * h + k);
@@ -30,26 +30,26 @@ fn field_of(uses: &[u32], h: usize, k: usize) -> usize
 }
 
 pub fn use_edge(uses: &[u32], h: usize) -> usize
-    ensures { (result ≡ (useAt (usesIn uses.now) h).edge) × (result < 4294967296) }
+    ensures { (result ≡ (use_at (uses_in uses.now) h).edge) × (result < 4294967296) }
 {
     field_of(uses, h, 0)
 }
 
 pub fn use_face(uses: &[u32], h: usize) -> usize
-    ensures { (result ≡ faceOfUse (usesIn uses.now) h) × (result < 4294967296) }
+    ensures { (result ≡ face_of_use (uses_in uses.now) h) × (result < 4294967296) }
 {
     field_of(uses, h, 1)
 }
 
 pub fn use_sense(uses: &[u32], h: usize) -> Sense
-    ensures { result ≡ (useAt (usesIn uses.now) h).sense }
+    ensures { result ≡ (use_at (uses_in uses.now) h).sense }
 {
     job::sense_of(field_of(uses, h, 2))
 }
 
 // The old successor.
 pub fn use_next(uses: &[u32], h: usize) -> usize
-    ensures { (result ≡ oldSuccessor (usesIn uses.now) h) × (result < 4294967296) }
+    ensures { (result ≡ old_successor (uses_in uses.now) h) × (result < 4294967296) }
 {
     field_of(uses, h, 3)
 }
@@ -57,7 +57,7 @@ pub fn use_next(uses: &[u32], h: usize) -> usize
 // The use's edge has no vertices.
 pub fn is_ring(job: &[u8], c: Counts, uses: &[u32], h: usize) -> bool
     requires { (c.vertices ≤ 1024) × (c.edges ≤ 1024) }
-    ensures { result ≡ ring (edgeOfUse (edgesIn job.now c) (useAt (usesIn uses.now) h)) }
+    ensures { result ≡ ring (edge_of_use (edges_in job.now c) (use_at (uses_in uses.now) h)) }
 {
     let e = use_edge(uses, h);
     job::edge_start(job, c, e) == UNSET
@@ -66,7 +66,7 @@ pub fn is_ring(job: &[u8], c: Counts, uses: &[u32], h: usize) -> bool
 // The point of the vertex where a use starts.
 pub fn start_point(job: &[u8], c: Counts, uses: &[u32], h: usize) -> usize
     requires { (c.vertices ≤ 1024) × (c.edges ≤ 1024) }
-    ensures { (result ≡ get_or (pointsIn job.now c) (useStart (edgesIn job.now c) (useAt (usesIn uses.now) h)) 0) × (result < 4294967296) }
+    ensures { (result ≡ get_or (points_in job.now c) (use_start (edges_in job.now c) (use_at (uses_in uses.now) h)) 0) × (result < 4294967296) }
 {
     let e = use_edge(uses, h);
     let s = use_sense(uses, h);
@@ -77,7 +77,7 @@ pub fn start_point(job: &[u8], c: Counts, uses: &[u32], h: usize) -> usize
 // Use h is stored.
 pub fn put_use(uses: &mut [u32], h: usize, edge: usize, face: usize, sense: Sense, next: usize)
     requires { (h < 2048) × (edge < 4294967296) × (face < 4294967296) × (next < 4294967296) }
-    ensures { uses.new ≡ withUse uses.old h (record { edge = edge; face = face; sense = sense; next = next }) }
+    ensures { uses.new ≡ with_use uses.old h (record { edge = edge; face = face; sense = sense; next = next }) }
 {
     put(uses, 4 * h, edge);
     put(uses, 4 * h + 1, face);
@@ -90,14 +90,14 @@ pub fn put_use(uses: &mut [u32], h: usize, edge: usize, face: usize, sense: Sens
 // Use h: its edge, face, sense and old successor.
 pub fn use_at(uses: &[Use], h: usize) -> Use
     requires { h < length uses.now }
-    ensures { result ≡ useAt uses.now h }
+    ensures { result ≡ use_at uses.now h }
 {
     uses[h]
 }
 
 // Use h of the table as a record.
 fn record_of(uses: &[u32], h: usize) -> Use
-    ensures { result ≡ useAt (usesIn uses.now) h }
+    ensures { result ≡ use_at (uses_in uses.now) h }
 {
     Use {
         edge: field_of(uses, h, 0) as u32,
@@ -109,8 +109,8 @@ fn record_of(uses: &[u32], h: usize) -> Use
 
 // All uses of the table as records, and after them records that are all zeros.
 pub fn records_of(uses: &[u32]) -> [Use; 2048]
-    requires { length (usesIn uses.now) ≤ 2048 }
-    ensures { Records (usesIn uses.now) result (length (usesIn uses.now)) }
+    requires { length (uses_in uses.now) ≤ 2048 }
+    ensures { Records (uses_in uses.now) result (length (uses_in uses.now)) }
 {
     let none = record_of(uses, uses.len());
     let mut records = [none; 2048];
@@ -125,7 +125,7 @@ pub fn records_of(uses: &[u32]) -> [Use; 2048]
 
 // Uses h and t of the table as records.
 pub fn pair_of(uses: &[u32], h: usize, t: usize) -> [Use; 2]
-    ensures { result ≡ useAt (usesIn uses.now) h ∷ useAt (usesIn uses.now) t ∷ [] }
+    ensures { result ≡ use_at (uses_in uses.now) h ∷ use_at (uses_in uses.now) t ∷ [] }
 {
     let a = record_of(uses, h);
     let b = record_of(uses, t);
@@ -135,7 +135,7 @@ pub fn pair_of(uses: &[u32], h: usize, t: usize) -> [Use; 2]
 // One of two uses, as the two of a pair.
 pub fn of_two(pair: [Use; 2], i: usize) -> Use
     requires { i < 2 }
-    ensures { result ≡ useAt pair i }
+    ensures { result ≡ use_at pair i }
 {
     use_at(&pair, i)
 }

@@ -4,22 +4,22 @@ use Rattle.lists.specs.Lists.{below}
 use Rattle.rules.specs.declared.KeptVertexLoop.{KeptVertexLoop}
 use Rattle.rules.specs.Outcome.{Outcome, ok, refuse}
 use Rattle.rules.specs.Job.{Answer}
-use Rattle.rules.specs.Questions.{askSame}
+use Rattle.rules.specs.Questions.{ask_same}
 use Rattle.vertex_loops.specs.declared.Keeping.{Keeping}
 use Rattle.vertex_loops.specs.declared.Keeping.TheVariants.{Done, Refused}
 
 -- kept vertex loop i
-abbrev pub keptAt : List ℕ → ℕ → KeptVertexLoop
-keptAt t i = record { face = get_or t (2 * i) 0; point = get_or t (2 * i + 1) 0 }
+abbrev pub kept_at : List ℕ → ℕ → KeptVertexLoop
+kept_at t i = record { face = get_or t (2 * i) 0; point = get_or t (2 * i + 1) 0 }
 
 -- the first k of them
-unfoldable pub keptIn : ℕ → List ℕ → List KeptVertexLoop
-keptIn k t = map (keptAt t) (below k)
+unfoldable pub kept_in : ℕ → List ℕ → List KeptVertexLoop
+kept_in k t = map (kept_at t) (below k)
 
 -- those kept, or the refusal
-abbrev pub keptOf : Keeping → List ℕ → Outcome (List KeptVertexLoop)
-keptOf (Done k) t = ok (keptIn k t)
-keptOf (Refused n p) t = refuse n p
+abbrev pub kept_of : Keeping → List ℕ → Outcome (List KeptVertexLoop)
+kept_of (Done k) t = ok (kept_in k t)
+kept_of (Refused n p) t = refuse n p
 
 -- at most n are kept
 abbrev pub UpTo : ℕ → Keeping → Type 0
@@ -27,7 +27,7 @@ UpTo n (Done k) = k ≤ n
 UpTo n (Refused m p) = Unit {0}
 
 -- whether a point in a merged face is that of a kept vertex loop
-unfoldable pub heldAgainst : List Answer → ℕ → ℕ → KeptVertexLoop → Outcome Bool
-heldAgainst answers face point k =
-    let put = askSame answers 9 point k.point in
+unfoldable pub held_against : List Answer → ℕ → ℕ → KeptVertexLoop → Outcome Bool
+held_against answers face point k =
+    let put = ask_same answers 9 point k.point in
     cond (eqb k.face face) put (ok false)

@@ -3,11 +3,11 @@
 #![tactic(auto)]
 
 ghost use Rattle.std.specs.Prelude.{◌≡◌, ◌+◌, ◌*◌, ◌≤◌, ◌<◌, length};
-ghost use Rattle.rules.specs.VertexLoops.{alreadyThere, keepUnlessThere, vertexLoopStep, vertexLoops};
-ghost use Rattle.job.specs.Lists.{pointsIn, loopIn, loopsIn, answersIn};
+ghost use Rattle.rules.specs.VertexLoops.{already_there, keep_unless_there, vertex_loop_step, vertex_loops};
+ghost use Rattle.job.specs.Lists.{points_in, loop_in, loops_in, answers_in};
 ghost use Rattle.answers.specs.Index.{Indexed};
-ghost use Rattle.ask.specs.Told.{toldOf};
-ghost use Rattle.vertex_loops.specs.Kept.{keptAt, keptIn, keptOf, UpTo, heldAgainst};
+ghost use Rattle.ask.specs.Told.{told_of};
+ghost use Rattle.vertex_loops.specs.Kept.{kept_at, kept_in, kept_of, UpTo, held_against};
 
 use ask::Told;
 use fields::{get, put, word};
@@ -31,7 +31,7 @@ fn held_against(
     point: usize,
 ) -> Told
     requires { Indexed job.now index.now c × (k < 1024) × (point < 4294967296) }
-    ensures { toldOf result ≡ heldAgainst (answersIn job.now index.now c) face point (keptAt kept.now k) }
+    ensures { told_of result ≡ held_against (answers_in job.now index.now c) face point (kept_at kept.now k) }
 {
     let f = get(kept, 2 * k);
     if f != face {
@@ -52,7 +52,7 @@ fn already_there(
     point: usize,
 ) -> Told
     requires { Indexed job.now index.now c × (count ≤ 1024) × (point < 4294967296) }
-    ensures { toldOf result ≡ alreadyThere (answersIn job.now index.now c) face point (keptIn count kept.now) }
+    ensures { told_of result ≡ already_there (answers_in job.now index.now c) face point (kept_in count kept.now) }
 {
     let mut k: usize = 0;
     while k < count {
@@ -82,7 +82,7 @@ fn keep_unless_there(
     point: usize,
 ) -> Keeping
     requires { Indexed job.now index.now c × (count < 1024) × (2 * count + 2 ≤ length kept.old) × (face < 4294967296) × (point < 4294967296) }
-    ensures { (keptOf result kept.new ≡ keepUnlessThere (answersIn job.now index.now c) face point (keptIn count kept.old)) × UpTo (count + 1) result }
+    ensures { (kept_of result kept.new ≡ keep_unless_there (answers_in job.now index.now c) face point (kept_in count kept.old)) × UpTo (count + 1) result }
 {
     let t = already_there(job, index, c, kept, count, face, point);
     match t {
@@ -107,7 +107,7 @@ fn keep_loop(
     l: usize,
 ) -> Keeping
     requires { Indexed job.now index.now c × (c.vertices ≤ 1024) × (l < 1024) × (count < 1024) × (2 * count + 2 ≤ length kept.old) }
-    ensures { (keptOf result kept.new ≡ vertexLoopStep (answersIn job.now index.now c) (pointsIn job.now c) numbers.now (loopIn job.now index.now l) (keptIn count kept.old)) × UpTo (count + 1) result }
+    ensures { (kept_of result kept.new ≡ vertex_loop_step (answers_in job.now index.now c) (points_in job.now c) numbers.now (loop_in job.now index.now l) (kept_in count kept.old)) × UpTo (count + 1) result }
 {
     let kind = job::loop_kind(job, index, l);
     if kind == 5 {
@@ -128,7 +128,7 @@ pub fn vertex_loops(
     kept: &mut [u32],
 ) -> Keeping
     requires { Indexed job.now index.now c × (c.vertices ≤ 1024) × (c.loops ≤ 1024) × (2 * c.loops ≤ length kept.old) }
-    ensures { (keptOf result kept.new ≡ vertexLoops (answersIn job.now index.now c) (pointsIn job.now c) numbers.now (loopsIn job.now index.now c)) × UpTo c.loops result }
+    ensures { (kept_of result kept.new ≡ vertex_loops (answers_in job.now index.now c) (points_in job.now c) numbers.now (loops_in job.now index.now c)) × UpTo c.loops result }
 {
     let mut count: usize = 0;
     let mut l: usize = 0;

@@ -6,18 +6,18 @@ use Rattle.std.specs.Prelude.{◌≡◌, refl, ◌≢◌, Bool, true, false, get
 use Rattle.std.proofs.Math.Path.{sym, ap}
 use mathlib.Core.List.{List, [], ◌∷◌, map}
 use Rattle.std.proofs.Math.ListN.{length}
-use Rattle.lists.specs.Lists.{from, below, sumOf}
-use Rattle.lists.specs.Tests.{cond-true, cond-false}
-use Rattle.lists.specs.Runs.{below-snoc}
-use Rattle.lists.specs.Members.{map-append}
-use Rattle.lists.specs.Sums.{sum-append, sum-one}
-use Rattle.lists.specs.Tables.{set-each, table-is}
+use Rattle.lists.specs.Lists.{from, below, sum_of}
+use Rattle.lists.specs.Tests.{cond_true, cond_false}
+use Rattle.lists.specs.Runs.{below_snoc}
+use Rattle.lists.specs.Members.{map_append}
+use Rattle.lists.specs.Sums.{sum_append, sum_one}
+use Rattle.lists.specs.Tables.{set_each, table_is}
 use Rattle.rules.specs.declared.Use.{Use}
 use Rattle.rules.specs.Job.{unset}
-use Rattle.rules.specs.Read.{oldSuccessor}
-use Rattle.rules.specs.Pair.{twinOf}
-use Rattle.rules.specs.Merge.{isRemoved}
-use Rattle.rules.specs.Walk.{over, meets, breaks, pass, passing, metUse, metAfter, successorOf, passedOf, successors, passedCounts}
+use Rattle.rules.specs.Read.{old_successor}
+use Rattle.rules.specs.Pair.{twin_of}
+use Rattle.rules.specs.Merge.{is_removed}
+use Rattle.rules.specs.Walk.{over, meets, breaks, pass, passing, met_use, met_after, successor_of, passed_of, successors, passed_counts}
 use Rattle.walk.specs.Walks.{Met, Succeeds}
 
 -- PASSING OVER
@@ -29,62 +29,62 @@ pub record Going (us : List Use) (ts : List ℕ) (rm : List Bool) (from h k : �
   pub rest : pass us ts rm (length us - k) h k ≡ pass us ts rm (length us) from 0
 
 module _ (us : List Use) (ts : List ℕ) (rm : List Bool) where
-  more : (n k h : ℕ) → k < n → isRemoved rm h ≡ true → pass us ts rm (n - k) h k ≡ pass us ts rm (n - (k + 1)) (over us ts h) (k + 1)
+  more : (n k h : ℕ) → k < n → is_removed rm h ≡ true → pass us ts rm (n - k) h k ≡ pass us ts rm (n - (k + 1)) (over us ts h) (k + 1)
   unfolding pass
   more n k h lt e =
       let q : n - k ≡ suc (n - (k + 1)) = omega arith in
-      ap (λ m. pass us ts rm m h k) q ∙ cond-true (isRemoved rm h) (pass us ts rm (n - (k + 1)) (over us ts h) (suc k)) (meets h k) e
+      ap (λ m. pass us ts rm m h k) q ∙ cond_true (is_removed rm h) (pass us ts rm (n - (k + 1)) (over us ts h) (suc k)) (meets h k) e
       ∙ ap (pass us ts rm (n - (k + 1)) (over us ts h)) (sym (add-one k))
 
-  meeting : (n k h : ℕ) → k < n → isRemoved rm h ≡ false → pass us ts rm (n - k) h k ≡ meets h k
+  meeting : (n k h : ℕ) → k < n → is_removed rm h ≡ false → pass us ts rm (n - k) h k ≡ meets h k
   unfolding pass
   meeting n k h lt e =
       let q : n - k ≡ suc (n - (k + 1)) = omega arith in
-      ap (λ m. pass us ts rm m h k) q ∙ cond-false (isRemoved rm h) (pass us ts rm (n - (k + 1)) (over us ts h) (suc k)) (meets h k) e
+      ap (λ m. pass us ts rm m h k) q ∙ cond_false (is_removed rm h) (pass us ts rm (n - (k + 1)) (over us ts h) (suc k)) (meets h k) e
 
   breaking : (n k h : ℕ) → n ≤ k → pass us ts rm (n - k) h k ≡ breaks
   unfolding pass
   breaking n k h le = let q : n - k ≡ 0 = omega arith in ap (λ m. pass us ts rm m h k) q
 
   module _ (from : ℕ) where
-    pub going-start : from < 4294967296 → Going us ts rm from from 0
-    going-start lt = let q : length us - 0 ≡ length us = omega arith in record { within = omega arith; fits = lt; rest = ap (λ m. pass us ts rm m from 0) q }
+    pub going_start : from < 4294967296 → Going us ts rm from from 0
+    going_start lt = let q : length us - 0 ≡ length us = omega arith in record { within = omega arith; fits = lt; rest = ap (λ m. pass us ts rm m from 0) q }
 
-    pub going-on : (h k g t n : ℕ) → n ≡ length us → k < n → true ≡ isRemoved rm h → t ≡ twinOf ts h → g ≡ oldSuccessor us t → g < 4294967296
+    pub going_on : (h k g t n : ℕ) → n ≡ length us → k < n → true ≡ is_removed rm h → t ≡ twin_of ts h → g ≡ old_successor us t → g < 4294967296
         → Going us ts rm from h k → Going us ts rm from g (k + 1)
-    going-on h k g t n en lt e et eg fits G = record {
+    going_on h k g t n en lt e et eg fits G = record {
       within = omega arith;
       fits = fits;
-      rest = ap (λ x. pass us ts rm (length us - (k + 1)) x (k + 1)) (eg ∙ ap (oldSuccessor us) et)
+      rest = ap (λ x. pass us ts rm (length us - (k + 1)) x (k + 1)) (eg ∙ ap (old_successor us) et)
           ∙ sym (more (length us) k h (omega arith) (sym e)) ∙ G.rest;
     }
 
-    pub going-met : (h k n : ℕ) → n ≡ length us → k < n → false ≡ isRemoved rm h → Going us ts rm from h k
+    pub going_met : (h k n : ℕ) → n ≡ length us → k < n → false ≡ is_removed rm h → Going us ts rm from h k
         → Met (length us) (pass us ts rm (length us) from 0) h k
-    going-met h k n en lt e G =
+    going_met h k n en lt e G =
         let q : meets h k ≡ pass us ts rm (length us) from 0 = sym (meeting (length us) k h (omega arith) (sym e)) ∙ G.rest in
-        record { met = ap metUse q; after = ap metAfter q; fits = G.fits; few = G.within }
+        record { met = ap met_use q; after = ap met_after q; fits = G.fits; few = G.within }
 
-    pub going-broken : (h k n : ℕ) → n ≡ length us → n ≤ k → Going us ts rm from h k → Met (length us) (pass us ts rm (length us) from 0) 4294967295 0
-    going-broken h k n en le G =
+    pub going_broken : (h k n : ℕ) → n ≡ length us → n ≤ k → Going us ts rm from h k → Met (length us) (pass us ts rm (length us) from 0) 4294967295 0
+    going_broken h k n en le G =
         let q : breaks ≡ pass us ts rm (length us) from 0 = sym (breaking (length us) k h (omega arith)) ∙ G.rest in
-        record { met = ap metUse q; after = ap metAfter q; fits = omega arith; few = omega arith }
+        record { met = ap met_use q; after = ap met_after q; fits = omega arith; few = omega arith }
 
   -- a removed use has neither successor nor passed count; a kept one has what passing over from its old successor meets
-  pub succeeds-removed : (h : ℕ) → true ≡ isRemoved rm h → Succeeds us ts rm h 4294967295 0
-  unfolding successorOf passedOf
-  succeeds-removed h e = record {
-    met = sym (cond-true (isRemoved rm h) unset (metUse (passing us ts rm h)) (sym e));
-    after = sym (cond-true (isRemoved rm h) 0 (metAfter (passing us ts rm h)) (sym e));
+  pub succeeds_removed : (h : ℕ) → true ≡ is_removed rm h → Succeeds us ts rm h 4294967295 0
+  unfolding successor_of passed_of
+  succeeds_removed h e = record {
+    met = sym (cond_true (is_removed rm h) unset (met_use (passing us ts rm h)) (sym e));
+    after = sym (cond_true (is_removed rm h) 0 (met_after (passing us ts rm h)) (sym e));
     fits = omega arith;
     few = omega arith;
   }
 
-  pub succeeds-kept : (h from at passed : ℕ) → false ≡ isRemoved rm h → from ≡ oldSuccessor us h → Met (length us) (pass us ts rm (length us) from 0) at passed → Succeeds us ts rm h at passed
-  unfolding successorOf passedOf
-  succeeds-kept h from at passed e eq M = record {
-    met = M.met ∙ ap (λ g. metUse (pass us ts rm (length us) g 0)) eq ∙ sym (cond-false (isRemoved rm h) unset (metUse (passing us ts rm h)) (sym e));
-    after = M.after ∙ ap (λ g. metAfter (pass us ts rm (length us) g 0)) eq ∙ sym (cond-false (isRemoved rm h) 0 (metAfter (passing us ts rm h)) (sym e));
+  pub succeeds_kept : (h from at passed : ℕ) → false ≡ is_removed rm h → from ≡ old_successor us h → Met (length us) (pass us ts rm (length us) from 0) at passed → Succeeds us ts rm h at passed
+  unfolding successor_of passed_of
+  succeeds_kept h from at passed e eq M = record {
+    met = M.met ∙ ap (λ g. met_use (pass us ts rm (length us) g 0)) eq ∙ sym (cond_false (is_removed rm h) unset (met_use (passing us ts rm h)) (sym e));
+    after = M.after ∙ ap (λ g. met_after (pass us ts rm (length us) g 0)) eq ∙ sym (cond_false (is_removed rm h) 0 (met_after (passing us ts rm h)) (sym e));
     fits = M.fits;
     few = M.few;
   }
@@ -93,56 +93,56 @@ module _ (us : List Use) (ts : List ℕ) (rm : List Bool) where
 
   -- what the first h uses have, and the sum of their passed counts
   pub record Filled (succ counts : List ℕ) (total h : ℕ) : Type 0 where
-    pub succ-size : length succ ≡ length us
-    pub counts-size : length counts ≡ length us
+    pub succ_size : length succ ≡ length us
+    pub counts_size : length counts ≡ length us
     pub within : h ≤ length us
-    pub next : (i : ℕ) → i < h → get_or succ i 0 ≡ successorOf us ts rm i
-    pub count : (i : ℕ) → i < h → get_or counts i 0 ≡ passedOf us ts rm i
-    pub total-is : total ≡ sumOf (λ k. k) (map (passedOf us ts rm) (below h))
+    pub next : (i : ℕ) → i < h → get_or succ i 0 ≡ successor_of us ts rm i
+    pub count : (i : ℕ) → i < h → get_or counts i 0 ≡ passed_of us ts rm i
+    pub total_is : total ≡ sum_of (λ k. k) (map (passed_of us ts rm) (below h))
     pub small : total ≤ 2048 * h
 
-  pub filled-start : (succ counts : List ℕ) → length succ ≡ length us → length counts ≡ length us → Filled succ counts 0 0
-  unfolding sumOf from
-  filled-start succ counts es ec = record {
-    succ-size = es;
-    counts-size = ec;
+  pub filled_start : (succ counts : List ℕ) → length succ ≡ length us → length counts ≡ length us → Filled succ counts 0 0
+  unfolding sum_of from
+  filled_start succ counts es ec = record {
+    succ_size = es;
+    counts_size = ec;
     within = omega arith;
     next = λ i lt. absurd (omega arith);
     count = λ i lt. absurd (omega arith);
-    total-is = refl;
+    total_is = refl;
     small = omega arith;
   }
 
-  pub filled-step : (succ counts succ' counts' : List ℕ) (total h n at passed : ℕ) → length us ≤ 2048 → n ≡ length us → h < n → Succeeds us ts rm h at passed
+  pub filled_step : (succ counts succ' counts' : List ℕ) (total h n at passed : ℕ) → length us ≤ 2048 → n ≡ length us → h < n → Succeeds us ts rm h at passed
       → succ' ≡ set succ h at → counts' ≡ set counts h passed → Filled succ counts total h → Filled succ' counts' (total + passed) (h + 1)
-  filled-step succ counts succ' counts' total h n at passed most en lt G es ec F = record {
-    succ-size = ap length es ∙ length-set succ h at ∙ F.succ-size;
-    counts-size = ap length ec ∙ length-set counts h passed ∙ F.counts-size;
+  filled_step succ counts succ' counts' total h n at passed most en lt G es ec F = record {
+    succ_size = ap length es ∙ length-set succ h at ∙ F.succ_size;
+    counts_size = ap length ec ∙ length-set counts h passed ∙ F.counts_size;
     within = omega arith;
-    next = λ i q. ap (λ l. get_or l i 0) es ∙ each succ at (successorOf us ts rm) F.succ-size G.met F.next i q;
-    count = λ i q. ap (λ l. get_or l i 0) ec ∙ each counts passed (passedOf us ts rm) F.counts-size G.after F.count i q;
-    total-is = (λ t. F.total-is t + G.after t) ∙ sym (one-more (passedOf us ts rm));
+    next = λ i q. ap (λ l. get_or l i 0) es ∙ each succ at (successor_of us ts rm) F.succ_size G.met F.next i q;
+    count = λ i q. ap (λ l. get_or l i 0) ec ∙ each counts passed (passed_of us ts rm) F.counts_size G.after F.count i q;
+    total_is = (λ t. F.total_is t + G.after t) ∙ sym (one_more (passed_of us ts rm));
     small = omega (arith, F.small, G.few);
   }
     where
       each : (l : List ℕ) (v : ℕ) (f : ℕ → ℕ) → length l ≡ length us → v ≡ f h → ((i : ℕ) → i < h → get_or l i 0 ≡ f i) → (i : ℕ) → i < h + 1 → get_or (set l h v) i 0 ≡ f i
-      each l v f el ev old i q = set-each (λ j x. x ≡ f j) l h v 0 (omega arith) ev i (λ ne. old i (below-it i q ne))
+      each l v f el ev old i q = set_each (λ j x. x ≡ f j) l h v 0 (omega arith) ev i (λ ne. old i (below_it i q ne))
         where
-          below-it : (i : ℕ) → i < h + 1 → i ≢ h → i < h
-          below-it i q ne = omega arith
+          below_it : (i : ℕ) → i < h + 1 → i ≢ h → i < h
+          below_it i q ne = omega arith
 
-      one-more : (f : ℕ → ℕ) → sumOf (λ k. k) (map f (below (h + 1))) ≡ sumOf (λ k. k) (map f (below h)) + f h
-      one-more f =
-          ap (λ m. sumOf (λ k. k) (map f (below m))) (add-one h) ∙ ap (λ l. sumOf (λ k. k) (map f l)) (below-snoc h)
-          ∙ ap (sumOf (λ k. k)) (map-append f (below h) (h ∷ [])) ∙ sum-append (λ k. k) (map f (below h)) (f h ∷ []) ∙ ap (λ x. sumOf (λ k. k) (map f (below h)) + x) (sum-one (λ k. k) (f h))
+      one_more : (f : ℕ → ℕ) → sum_of (λ k. k) (map f (below (h + 1))) ≡ sum_of (λ k. k) (map f (below h)) + f h
+      one_more f =
+          ap (λ m. sum_of (λ k. k) (map f (below m))) (add-one h) ∙ ap (λ l. sum_of (λ k. k) (map f l)) (below_snoc h)
+          ∙ ap (sum_of (λ k. k)) (map_append f (below h) (h ∷ [])) ∙ sum_append (λ k. k) (map f (below h)) (f h ∷ []) ∙ ap (λ x. sum_of (λ k. k) (map f (below h)) + x) (sum_one (λ k. k) (f h))
 
-  pub filled-end : (succ counts : List ℕ) (total h n : ℕ) → n ≡ length us → n ≤ h → Filled succ counts total h
-      → (succ ≡ successors us ts rm) × (counts ≡ passedCounts us ts rm) × (total ≡ sumOf (λ k. k) counts)
-  unfolding successors passedCounts
-  filled-end succ counts total h n en le F =
+  pub filled_end : (succ counts : List ℕ) (total h n : ℕ) → n ≡ length us → n ≤ h → Filled succ counts total h
+      → (succ ≡ successors us ts rm) × (counts ≡ passed_counts us ts rm) × (total ≡ sum_of (λ k. k) counts)
+  unfolding successors passed_counts
+  filled_end succ counts total h n en le F =
       let e : h ≡ length us = omega (arith, F.within) in
-      let tables : counts ≡ map (passedOf us ts rm) (below (length us)) = table-is (passedOf us ts rm) counts (length us) 0 F.counts-size (λ i q. F.count i (omega arith)) in (
-        table-is (successorOf us ts rm) succ (length us) 0 F.succ-size (λ i q. F.next i (omega arith)),
+      let tables : counts ≡ map (passed_of us ts rm) (below (length us)) = table_is (passed_of us ts rm) counts (length us) 0 F.counts_size (λ i q. F.count i (omega arith)) in (
+        table_is (successor_of us ts rm) succ (length us) 0 F.succ_size (λ i q. F.next i (omega arith)),
         tables,
-        F.total-is ∙ ap (λ m. sumOf (λ k. k) (map (passedOf us ts rm) (below m))) e ∙ ap (sumOf (λ k. k)) (sym tables),
+        F.total_is ∙ ap (λ m. sum_of (λ k. k) (map (passed_of us ts rm) (below m))) e ∙ ap (sum_of (λ k. k)) (sym tables),
       )

@@ -8,109 +8,109 @@ use mathlib.Core.List.{List, [], ◌∷◌}
 use Rattle.std.proofs.Math.Bool.{true}
 use Rattle.std.proofs.Math.ListN.{length, length-set, get_or-eq_default}
 use Rattle.std.proofs.Math.Seq.{sets}
-use Rattle.lists.specs.Tests.{cond-true, cond-false}
+use Rattle.lists.specs.Tests.{cond_true, cond_false}
 use Rattle.rules.specs.Job.{unset}
-use Rattle.rules.specs.Walk.{successor, Circuit, closes, neverCloses, ledBy, circuit, circuitUses}
+use Rattle.rules.specs.Walk.{successor, Circuit, closes, never_closes, led_by, circuit, circuit_uses}
 use Rattle.walk.specs.Walks.{Closes, marked, Round}
 
 -- within a table the successor is the entry; past its end the unset mark
-same-entry : (l : List ℕ) (i d e : ℕ) → i < length l → get_or l i d ≡ get_or l i e
-same-entry [] i d e h = absurd (omega arith)
-same-entry (x ∷ l) zero d e h = refl
-same-entry (x ∷ l) (suc i) d e h = same-entry l i d e (omega arith)
+same_entry : (l : List ℕ) (i d e : ℕ) → i < length l → get_or l i d ≡ get_or l i e
+same_entry [] i d e h = absurd (omega arith)
+same_entry (x ∷ l) zero d e h = refl
+same_entry (x ∷ l) (suc i) d e h = same_entry l i d e (omega arith)
 
-pub successor-within : (ss : List ℕ) (h r : ℕ) → h < length ss → r ≡ get_or ss h 0 → r ≡ successor ss h
-successor-within ss h r lt e = e ∙ same-entry ss h 0 unset lt
+pub successor_within : (ss : List ℕ) (h r : ℕ) → h < length ss → r ≡ get_or ss h 0 → r ≡ successor ss h
+successor_within ss h r lt e = e ∙ same_entry ss h 0 unset lt
 
-pub successor-past : (ss : List ℕ) (h : ℕ) → length ss ≤ h → 4294967295 ≡ successor ss h
-successor-past ss h le = sym (get_or-eq_default ss unset le)
+pub successor_past : (ss : List ℕ) (h : ℕ) → length ss ≤ h → 4294967295 ≡ successor ss h
+successor_past ss h le = sym (get_or-eq_default ss unset le)
 
 -- what closes after a use closes without it
-led-closes : (h : ℕ) (c : Circuit) → Closes (ledBy h c) → Closes c × (circuitUses (ledBy h c) ≡ h ∷ circuitUses c)
-led-closes h (closes hs) e = (refl, refl)
-led-closes h neverCloses e = let z : ◌≡◌ {A = ℕ} 0 1 = cc in absurd (omega arith)
+led_closes : (h : ℕ) (c : Circuit) → Closes (led_by h c) → Closes c × (circuit_uses (led_by h c) ≡ h ∷ circuit_uses c)
+led_closes h (closes hs) e = (refl, refl)
+led_closes h never_closes e = let z : ◌≡◌ {A = ℕ} 0 1 = cc in absurd (omega arith)
 
-never-closes : Closes neverCloses → ⊥
-never-closes e = let z : ◌≡◌ {A = ℕ} 0 1 = cc in omega arith
+never_closes_lem : Closes never_closes → ⊥
+never_closes_lem e = let z : ◌≡◌ {A = ℕ} 0 1 = cc in omega arith
 
 -- at use h and place p, what is left to do gives the whole loop
 pub record Rounding (ss : List ℕ) (start at : ℕ) (seen₀ : List Bool) (ways₀ : List ℕ) (seen : List Bool) (ways : List ℕ) (h p : ℕ) : Type 0 where
   pub low : at ≤ p
   pub within : p ≤ at + length ss
   pub fits : h < 4294967296
-  pub seen-size : length seen ≡ length seen₀
-  pub ways-size : length ways ≡ length ways₀
+  pub seen_size : length seen ≡ length seen₀
+  pub ways_size : length ways ≡ length ways₀
   pub closing : Closes (circuit ss (at + length ss - p) start h)
-  pub marks : marked seen (circuitUses (circuit ss (at + length ss - p) start h)) ≡ marked seen₀ (circuitUses (circuit ss (length ss) start start))
-  pub writes : sets ways p (circuitUses (circuit ss (at + length ss - p) start h)) ≡ sets ways₀ at (circuitUses (circuit ss (length ss) start start))
-  pub ends : p + length (circuitUses (circuit ss (at + length ss - p) start h)) ≡ at + length (circuitUses (circuit ss (length ss) start start))
+  pub marks : marked seen (circuit_uses (circuit ss (at + length ss - p) start h)) ≡ marked seen₀ (circuit_uses (circuit ss (length ss) start start))
+  pub writes : sets ways p (circuit_uses (circuit ss (at + length ss - p) start h)) ≡ sets ways₀ at (circuit_uses (circuit ss (length ss) start start))
+  pub ends : p + length (circuit_uses (circuit ss (at + length ss - p) start h)) ≡ at + length (circuit_uses (circuit ss (length ss) start start))
 
 module _ (ss : List ℕ) (start at : ℕ) (seen₀ : List Bool) (ways₀ : List ℕ) where
-  pub rounding-start : Closes (circuit ss (length ss) start start) → start < 4294967296 → Rounding ss start at seen₀ ways₀ seen₀ ways₀ start at
-  rounding-start cl fits =
+  pub rounding_start : Closes (circuit ss (length ss) start start) → start < 4294967296 → Rounding ss start at seen₀ ways₀ seen₀ ways₀ start at
+  rounding_start cl fits =
       let e : at + length ss - at ≡ length ss = omega arith in
       record {
         low = omega arith;
         within = omega arith;
         fits = fits;
-        seen-size = refl;
-        ways-size = refl;
+        seen_size = refl;
+        ways_size = refl;
         closing = subst (λ m. Closes (circuit ss m start start)) (sym e) cl;
-        marks = ap (λ m. marked seen₀ (circuitUses (circuit ss m start start))) e;
-        writes = ap (λ m. sets ways₀ at (circuitUses (circuit ss m start start))) e;
-        ends = ap (λ m. at + length (circuitUses (circuit ss m start start))) e;
+        marks = ap (λ m. marked seen₀ (circuit_uses (circuit ss m start start))) e;
+        writes = ap (λ m. sets ways₀ at (circuit_uses (circuit ss m start start))) e;
+        ends = ap (λ m. at + length (circuit_uses (circuit ss m start start))) e;
       }
 
   -- one use, then the rest of its loop, or nothing if its successor is the start
-  last-use : (most h : ℕ) → successor ss h ≡ start → circuit ss (suc most) start h ≡ closes (h ∷ [])
+  last_use : (most h : ℕ) → successor ss h ≡ start → circuit ss (suc most) start h ≡ closes (h ∷ [])
   unfolding circuit
-  last-use most h e = cond-true (eqb (successor ss h) start) (closes (h ∷ [])) (ledBy h (circuit ss most start (successor ss h))) (eq-eqb (successor ss h) start e)
+  last_use most h e = cond_true (eqb (successor ss h) start) (closes (h ∷ [])) (led_by h (circuit ss most start (successor ss h))) (eq-eqb (successor ss h) start e)
 
-  more-uses : (most h : ℕ) → (successor ss h ≡ start → ⊥) → circuit ss (suc most) start h ≡ ledBy h (circuit ss most start (successor ss h))
+  more_uses : (most h : ℕ) → (successor ss h ≡ start → ⊥) → circuit ss (suc most) start h ≡ led_by h (circuit ss most start (successor ss h))
   unfolding circuit
-  more-uses most h e = cond-false (eqb (successor ss h) start) (closes (h ∷ [])) (ledBy h (circuit ss most start (successor ss h))) (ne_eqb (successor ss h) start e)
+  more_uses most h e = cond_false (eqb (successor ss h) start) (closes (h ∷ [])) (led_by h (circuit ss most start (successor ss h))) (ne_eqb (successor ss h) start e)
 
-  no-uses : (h : ℕ) → circuit ss 0 start h ≡ neverCloses
+  no_uses : (h : ℕ) → circuit ss 0 start h ≡ never_closes
   unfolding circuit
-  no-uses h = refl
+  no_uses h = refl
 
   module _ (seen : List Bool) (ways : List ℕ) (h p : ℕ) (R : Rounding ss start at seen₀ ways₀ seen ways h p) where
-    pub rounding-stop : (seen' : List Bool) (ways' : List ℕ) (g end : ℕ) → end ≡ at + length ss → p < end → seen' ≡ set seen h true → ways' ≡ set ways p h → g ≡ successor ss h → g ≡ start
-        → Round (circuitUses (circuit ss (length ss) start start)) seen₀ ways₀ at seen' ways' (p + 1)
+    pub rounding_stop : (seen' : List Bool) (ways' : List ℕ) (g end : ℕ) → end ≡ at + length ss → p < end → seen' ≡ set seen h true → ways' ≡ set ways p h → g ≡ successor ss h → g ≡ start
+        → Round (circuit_uses (circuit ss (length ss) start start)) seen₀ ways₀ at seen' ways' (p + 1)
     unfolding marked
-    rounding-stop seen' ways' g end ee lt es ew eg back =
+    rounding_stop seen' ways' g end ee lt es ew eg back =
         let q : at + length ss - p ≡ suc (at + length ss - (p + 1)) = omega arith in
-        let e : circuitUses (circuit ss (at + length ss - p) start h) ≡ h ∷ [] = ap (λ m. circuitUses (circuit ss m start h)) q ∙ ap circuitUses (last-use (at + length ss - (p + 1)) h (sym eg ∙ back)) in
+        let e : circuit_uses (circuit ss (at + length ss - p) start h) ≡ h ∷ [] = ap (λ m. circuit_uses (circuit ss m start h)) q ∙ ap circuit_uses (last_use (at + length ss - (p + 1)) h (sym eg ∙ back)) in
         record {
           marks = es ∙ sym (ap (marked seen) e) ∙ R.marks;
           writes = ew ∙ sym (ap (sets ways p) e) ∙ R.writes;
           ends = ap (λ (l : List ℕ). p + length l) (sym e) ∙ R.ends;
         }
 
-    pub rounding-on : (seen' : List Bool) (ways' : List ℕ) (g end : ℕ) → end ≡ at + length ss → p < end → seen' ≡ set seen h true → ways' ≡ set ways p h → g ≡ successor ss h → g < 4294967296 → (g ≡ start → ⊥)
+    pub rounding_on : (seen' : List Bool) (ways' : List ℕ) (g end : ℕ) → end ≡ at + length ss → p < end → seen' ≡ set seen h true → ways' ≡ set ways p h → g ≡ successor ss h → g < 4294967296 → (g ≡ start → ⊥)
         → Rounding ss start at seen₀ ways₀ seen' ways' g (p + 1)
     unfolding marked
-    rounding-on seen' ways' g end ee lt es ew eg fits away =
+    rounding_on seen' ways' g end ee lt es ew eg fits away =
         let m : ℕ = at + length ss - (p + 1) in
         let q : at + length ss - p ≡ suc m = omega arith in
-        let e : circuit ss (at + length ss - p) start h ≡ ledBy h (circuit ss m start g) =
-        ap (λ k. circuit ss k start h) q ∙ more-uses m h (λ b. away (eg ∙ b)) ∙ ap (λ x. ledBy h (circuit ss m start x)) (sym eg) in
-        let cl = led-closes h (circuit ss m start g) (subst Closes e R.closing) in
-        let r : circuitUses (circuit ss (at + length ss - p) start h) ≡ h ∷ circuitUses (circuit ss m start g) = ap circuitUses e ∙ cl.1 in
+        let e : circuit ss (at + length ss - p) start h ≡ led_by h (circuit ss m start g) =
+        ap (λ k. circuit ss k start h) q ∙ more_uses m h (λ b. away (eg ∙ b)) ∙ ap (λ x. led_by h (circuit ss m start x)) (sym eg) in
+        let cl = led_closes h (circuit ss m start g) (subst Closes e R.closing) in
+        let r : circuit_uses (circuit ss (at + length ss - p) start h) ≡ h ∷ circuit_uses (circuit ss m start g) = ap circuit_uses e ∙ cl.1 in
         record {
           low = omega (arith, R.low);
           within = omega arith;
           fits = fits;
-          seen-size = ap length es ∙ length-set seen h true ∙ R.seen-size;
-          ways-size = ap length ew ∙ length-set ways p h ∙ R.ways-size;
+          seen_size = ap length es ∙ length-set seen h true ∙ R.seen_size;
+          ways_size = ap length ew ∙ length-set ways p h ∙ R.ways_size;
           closing = cl.0;
-          marks = ap (λ v. marked v (circuitUses (circuit ss m start g))) es ∙ sym (ap (marked seen) r) ∙ R.marks;
-          writes = (λ t. sets (ew t) (add-one p t) (circuitUses (circuit ss m start g))) ∙ sym (ap (sets ways p) r) ∙ R.writes;
+          marks = ap (λ v. marked v (circuit_uses (circuit ss m start g))) es ∙ sym (ap (marked seen) r) ∙ R.marks;
+          writes = (λ t. sets (ew t) (add-one p t) (circuit_uses (circuit ss m start g))) ∙ sym (ap (sets ways p) r) ∙ R.writes;
           ends = omega (arith, ap (λ (l : List ℕ). p + length l) r, R.ends);
         }
 
     -- the looks are never spent
-    pub rounding-end : (end : ℕ) → end ≡ at + length ss → end ≤ p → ⊥
-    rounding-end end ee le =
+    pub rounding_end : (end : ℕ) → end ≡ at + length ss → end ≤ p → ⊥
+    rounding_end end ee le =
         let q : at + length ss - p ≡ 0 = omega arith in
-        never-closes (subst Closes (ap (λ k. circuit ss k start h) q ∙ no-uses h) R.closing)
+        never_closes_lem (subst Closes (ap (λ k. circuit ss k start h) q ∙ no_uses h) R.closing)

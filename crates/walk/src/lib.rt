@@ -3,11 +3,11 @@
 #![tactic(auto)]
 
 ghost use Rattle.std.specs.Prelude.{◌≡◌, ◌+◌, ◌*◌, ◌<◌, ◌≤◌, false, length};
-ghost use Rattle.lists.specs.Lists.{sumOf};
-ghost use Rattle.rules.specs.Walk.{pass as passOf, successors as successorsOf, passedCounts, successor as successorAt, circuit, circuitUses, circuits, loopsOf};
+ghost use Rattle.lists.specs.Lists.{sum_of};
+ghost use Rattle.rules.specs.Walk.{pass as passOf, successors as successorsOf, passed_counts, successor as successorAt, circuit, circuit_uses, circuits, loops_of};
 ghost use Rattle.theorems.specs.Circuits.{Permuted};
-ghost use Rattle.uses.specs.Table.{usesIn};
-ghost use Rattle.walk.specs.Walks.{Met, Succeeds, Closes, Round, loopsIn, Following, Walking, unvisited};
+ghost use Rattle.uses.specs.Table.{uses_in};
+ghost use Rattle.walk.specs.Walks.{Met, Succeeds, Closes, Round, loops_in, Following, Walking, unvisited};
 
 use fields::{UNSET, get, is_set, put, put_flag};
 use uses::{count, use_next};
@@ -22,7 +22,7 @@ pub struct Passed {
 // From a use on: while it is removed, on to the old successor of its twin, looking at most as often as there are uses.
 fn pass(uses: &[u32], twins: &[u32], removed: &[bool], from: usize) -> Passed
     requires { from < 4294967296 }
-    ensures { Met (length (usesIn uses.now)) (passOf (usesIn uses.now) twins.now removed.now (length (usesIn uses.now)) from 0) result.at result.passed }
+    ensures { Met (length (uses_in uses.now)) (passOf (uses_in uses.now) twins.now removed.now (length (uses_in uses.now)) from 0) result.at result.passed }
 {
     let n = count(uses);
     let mut h = from;
@@ -44,7 +44,7 @@ fn pass(uses: &[u32], twins: &[u32], removed: &[bool], from: usize) -> Passed
 
 // The successor and the passed count of a use; a removed use has none.
 fn passing(uses: &[u32], twins: &[u32], removed: &[bool], h: usize) -> Passed
-    ensures { Succeeds (usesIn uses.now) twins.now removed.now h result.at result.passed }
+    ensures { Succeeds (uses_in uses.now) twins.now removed.now h result.at result.passed }
 {
     if is_set(removed, h) {
         return Passed {
@@ -64,8 +64,8 @@ pub fn successors(
     succ: &mut [u32],
     passed: &mut [u32],
 ) -> usize
-    requires { (length (usesIn uses.now) ≤ 2048) × (length succ.old ≡ length (usesIn uses.now)) × (length passed.old ≡ length (usesIn uses.now)) }
-    ensures { (succ.new ≡ successorsOf (usesIn uses.now) twins.now removed.now) × (passed.new ≡ passedCounts (usesIn uses.now) twins.now removed.now) × (result ≡ sumOf (λ k. k) passed.new) }
+    requires { (length (uses_in uses.now) ≤ 2048) × (length succ.old ≡ length (uses_in uses.now)) × (length passed.old ≡ length (uses_in uses.now)) }
+    ensures { (succ.new ≡ successorsOf (uses_in uses.now) twins.now removed.now) × (passed.new ≡ passed_counts (uses_in uses.now) twins.now removed.now) × (result ≡ sum_of (λ k. k) passed.new) }
 {
     let n = count(uses);
     let mut total: usize = 0;
@@ -94,7 +94,7 @@ pub fn successor(succ: &[u32], h: usize) -> usize
 // Gives the place after the last.
 fn walk_loop(succ: &[u32], start: usize, visited: &mut [bool], ways: &mut [u32], at: usize) -> usize
     requires { Closes (circuit succ.now (length succ.now) start start) × (start < 4294967296) × (at ≤ 2048) × (length succ.now ≤ 2048) }
-    ensures { Round (circuitUses (circuit succ.now (length succ.now) start start)) visited.old ways.old at visited.new ways.new result }
+    ensures { Round (circuit_uses (circuit succ.now (length succ.now) start start)) visited.old ways.old at visited.new ways.new result }
 {
     let end = at + succ.len();
     let mut h = start;
@@ -155,7 +155,7 @@ fn walk_all(
     stretches: &mut [u32],
 ) -> usize
     requires { Permuted (length succ.now) removed.now succ.now × (length succ.now ≤ 2048) × (visited.old ≡ unvisited (length succ.now)) × (length ways.old ≡ length succ.now) × (length stretches.old ≡ 2 * length succ.now) }
-    ensures { (loopsIn result ways.new stretches.new ≡ loopsOf (circuits removed.now succ.now)) × (result ≤ length succ.now) × Following result ways.new stretches.new }
+    ensures { (loops_in result ways.new stretches.new ≡ loops_of (circuits removed.now succ.now)) × (result ≤ length succ.now) × Following result ways.new stretches.new }
 {
     let n = succ.len();
     let mut so = Reached { count: 0, at: 0 };
@@ -170,7 +170,7 @@ fn walk_all(
 // The loops, their uses one after the other in `ways`; loop k from `stretches[2 k]` to `stretches[2 k + 1]`. Gives how many there are.
 pub fn loops(removed: &[bool], succ: &[u32], ways: &mut [u32], stretches: &mut [u32]) -> usize
     requires { Permuted (length succ.now) removed.now succ.now × (length succ.now ≤ 2048) × (length ways.old ≡ length succ.now) × (length stretches.old ≡ 2 * length succ.now) }
-    ensures { (loopsIn result ways.new stretches.new ≡ loopsOf (circuits removed.now succ.now)) × (result ≤ length succ.now) × Following result ways.new stretches.new }
+    ensures { (loops_in result ways.new stretches.new ≡ loops_of (circuits removed.now succ.now)) × (result ≤ length succ.now) × Following result ways.new stretches.new }
 {
     let n = succ.len();
     let mut visited = [false; 2048];

@@ -1,7 +1,7 @@
 use native.Mathlib.Nat.{not-suc-le-zero}
 use mathlib.Core.Path.{refl, ◌∙◌}
 use lib.ListN.{length-set}
-use Rattle.body.specs.Numbers.{blank-more, blank-all}
+use Rattle.body.specs.Numbers.{blank_more, blank_all}
 use native.Mathlib.Omega.{arith}
 use Rattle.body.proofs.blank.Goals as goal
 
@@ -14,9 +14,9 @@ loop-i-smaller c = omega (arith, c.loop-i-test.true, c.loop-i.invariant.0)
 pub loop-i-preserved : goal.loop-i-preserved
 loop-i-preserved c = (
   length-set c.loop-i.table c.loop-i.i 0 ∙ c.loop-i.invariant.0,
-  blank-more c.loop-i.table c.loop-i.i
+  blank_more c.loop-i.table c.loop-i.i
       c.loop-i-test.true c.loop-i.invariant.1,
 )
 
 pub returns : goal.returns
-returns c = blank-all c.loop-i.table c.loop-i.i c.loop-i-test.false c.loop-i.invariant.1
+returns c = blank_all c.loop-i.table c.loop-i.i c.loop-i-test.false c.loop-i.invariant.1

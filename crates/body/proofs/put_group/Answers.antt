@@ -1,9 +1,9 @@
-use Rattle.rules.specs.Fields.{fieldBytes}
-use Rattle.job.specs.Lists.{facesIn}
-use Rattle.body.specs.Writing.{rowed-end}
-use Rattle.body.specs.Rows.{memberRow, memberRows}
-use Rattle.members.specs.Group.{chain-at, group-next}
-use Rattle.body.specs.RowLaws.{member-rows, group-start, group-step}
+use Rattle.rules.specs.Fields.{field_bytes}
+use Rattle.job.specs.Lists.{faces_in}
+use Rattle.body.specs.Writing.{rowed_end}
+use Rattle.body.specs.Rows.{member_row, member_rows}
+use Rattle.members.specs.Group.{chain_at, group_next}
+use Rattle.body.specs.RowLaws.{member_rows_lem, group_start, group_step}
 use native.Mathlib.Omega.{arith}
 use Rattle.body.proofs.put_group.Goals as goal
 
@@ -12,10 +12,10 @@ loop-i-init c =
     let a = c.args in
     let chained = c.requires.2 in
     let leading = c.requires.3 in
-    let fs = facesIn a.job.now a.index.now a.c in (
+    let fs = faces_in a.job.now a.index.now a.c in (
       omega (arith, leading.inside),
       λ h. leading.own,
-      group-start fs a.groups.now a.next.now a.m chained leading a.out.now a.at,
+      group_start fs a.groups.now a.next.now a.m chained leading a.out.now a.at,
     )
 
 pub put_member-p-requires : goal.put_member-p-requires
@@ -32,14 +32,14 @@ loop-i-preserved c =
     let x = c.put_member-p in
     let chained = c.requires.2 in
     let leading = c.requires.3 in
-    let fs = facesIn a.job.now a.index.now a.c in
+    let fs = faces_in a.job.now a.index.now a.c in
     let inside = c.loop-i-test.true in
     let own = l.invariant.1 inside in
-    let leads = chain-at a.groups.now a.next.now a.m chained leading l.i c.get-i.result inside c.get-i.ensures.0 in
-    let next = group-next a.groups.now a.next.now a.m chained leading l.i c.get-i.result inside own leads in (
+    let leads = chain_at a.groups.now a.next.now a.m chained leading l.i c.get-i.result inside c.get-i.ensures.0 in
+    let next = group_next a.groups.now a.next.now a.m chained leading l.i c.get-i.result inside own leads in (
       next.1,
       next.2,
-      group-step fs a.groups.now a.next.now a.m chained leading a.out.now l.out x.new.out a.at l.p l.i c.get-i.result
+      group_step fs a.groups.now a.next.now a.m chained leading a.out.now l.out x.new.out a.at l.p l.i c.get-i.result
           x.result inside own leads l.invariant.2 x.ensures.0 x.ensures.1,
     )
 
@@ -47,10 +47,10 @@ pub loop-i-smaller : goal.loop-i-smaller
 loop-i-smaller c =
     let a = c.args in
     let l = c.loop-i in
-    let fs = facesIn a.job.now a.index.now a.c in
+    let fs = faces_in a.job.now a.index.now a.c in
     let inside = c.loop-i-test.true in
-    let leads = chain-at a.groups.now a.next.now a.m c.requires.2 c.requires.3 l.i c.get-i.result inside c.get-i.ensures.0 in
-    let next = group-next a.groups.now a.next.now a.m c.requires.2 c.requires.3 l.i c.get-i.result inside
+    let leads = chain_at a.groups.now a.next.now a.m c.requires.2 c.requires.3 l.i c.get-i.result inside c.get-i.ensures.0 in
+    let next = group_next a.groups.now a.next.now a.m c.requires.2 c.requires.3 l.i c.get-i.result inside
     (l.invariant.1 inside) leads in
     omega (arith, inside, next.0, next.1)
 
@@ -58,9 +58,9 @@ pub returns : goal.returns
 returns c =
     let a = c.args in
     let l = c.loop-i in
-    let fs = facesIn a.job.now a.index.now a.c in
+    let fs = faces_in a.job.now a.index.now a.c in
     let wrote =
-    rowed-end (λ i. fieldBytes (memberRow fs a.groups.now a.m i)) 8 a.out.now a.at
-    (fieldBytes (memberRows fs a.groups.now a.m)) l.out l.p l.i l.invariant.2
-    (member-rows fs a.groups.now a.m l.i (omega (arith, l.invariant.0, c.loop-i-test.false))) in
+    rowed_end (λ i. field_bytes (member_row fs a.groups.now a.m i)) 8 a.out.now a.at
+    (field_bytes (member_rows fs a.groups.now a.m)) l.out l.p l.i l.invariant.2
+    (member_rows_lem fs a.groups.now a.m l.i (omega (arith, l.invariant.0, c.loop-i-test.false))) in
     (wrote, omega (arith, l.invariant.0, l.invariant.2.small, c.requires.2.few))

@@ -1,7 +1,7 @@
 use Prim.Native.Nat.{◌*◌}
-use Rattle.job.specs.Lists.{facesIn}
-use Rattle.body.specs.Writing.{after-head}
-use Rattle.body.specs.RowLaws.{members-wrote}
+use Rattle.job.specs.Lists.{faces_in}
+use Rattle.body.specs.Writing.{after_head}
+use Rattle.body.specs.RowLaws.{members_wrote}
 use native.Mathlib.Omega.{arith}
 use Rattle.body.proofs.put_members.Goals as goal
 
@@ -12,7 +12,7 @@ put_group-requires c =
       omega (
         arith,
         c.requires.0,
-        after-head a.out.now h.new.out a.at h.result 29 (2 * c.group_size-size.result) h.ensures,
+        after_head a.out.now h.new.out a.at h.result 29 (2 * c.group_size-size.result) h.ensures,
       ),
       c.requires.1,
       c.requires.2,
@@ -25,7 +25,7 @@ returns c =
     let s = c.group_size-size in
     let h = c.put_head-p in
     let x = c.put_group in (
-      members-wrote (facesIn a.job.now a.index.now a.c) a.groups.now a.m a.out.now h.new.out x.new.out a.at h.result
+      members_wrote (faces_in a.job.now a.index.now a.c) a.groups.now a.m a.out.now h.new.out x.new.out a.at h.result
           x.result s.result s.ensures.0 h.ensures x.ensures.0,
-      omega (arith, x.ensures.1, after-head a.out.now h.new.out a.at h.result 29 (2 * s.result) h.ensures),
+      omega (arith, x.ensures.1, after_head a.out.now h.new.out a.at h.result 29 (2 * s.result) h.ensures),
     )

@@ -1,8 +1,8 @@
 use mathlib.Core.List.{[], ◌∷◌}
 use mathlib.Core.Path.{refl}
-use Rattle.fields.specs.Tabled.{length-bytes32}
-use Rattle.stages_out.specs.Writing.{wrote-one}
-use Rattle.body.specs.Writing.{wrote-record, after-head}
+use Rattle.fields.specs.Tabled.{length_bytes32}
+use Rattle.stages_out.specs.Writing.{wrote_one}
+use Rattle.body.specs.Writing.{wrote_record, after_head}
 use native.Mathlib.Omega.{arith}
 use Rattle.body.proofs.put_one.Goals as goal
 
@@ -11,7 +11,7 @@ put_word-requires c =
     let a = c.args in
     omega (
       arith,
-      after-head a.out.now c.put_head-p.new.out a.at c.put_head-p.result a.kind 1 c.put_head-p.ensures,
+      after_head a.out.now c.put_head-p.new.out a.at c.put_head-p.result a.kind 1 c.put_head-p.ensures,
       c.requires,
     )
 
@@ -19,8 +19,8 @@ pub returns : goal.returns
 returns c = let a = c.args in
     let u = c.put_head-p in
     let w = c.put_word in (
-      wrote-record (a.a ∷ []) a.out.now u.new.out w.new.out a.at u.result w.result a.kind 1 refl u.ensures
-          (wrote-one u.new.out w.new.out u.result a.a w.result w.ensures),
+      wrote_record (a.a ∷ []) a.out.now u.new.out w.new.out a.at u.result w.result a.kind 1 refl u.ensures
+          (wrote_one u.new.out w.new.out u.result a.a w.result w.ensures),
       omega
-          (arith, after-head a.out.now u.new.out a.at u.result a.kind 1 u.ensures, w.ensures.1, length-bytes32 a.a),
+          (arith, after_head a.out.now u.new.out a.at u.result a.kind 1 u.ensures, w.ensures.1, length_bytes32 a.a),
     )

@@ -1,6 +1,6 @@
 use Prim.Native.Nat.{◌/◌}
-use Rattle.body.specs.Writing.{after-head}
-use Rattle.body.specs.ShellLaws.{shell-wrote}
+use Rattle.body.specs.Writing.{after_head}
+use Rattle.body.specs.ShellLaws.{shell_wrote}
 use native.Mathlib.Omega.{arith}
 use Rattle.body.proofs.put_shell.Goals as goal
 
@@ -11,7 +11,7 @@ put_shell_faces-requires c =
       omega (
         arith,
         c.requires.0,
-        after-head a.out.now h.new.out a.at h.result 28 (c.put_shell_faces-size.result / 4)
+        after_head a.out.now h.new.out a.at h.result 28 (c.put_shell_faces-size.result / 4)
             h.ensures,
       ),
       c.requires.1,
@@ -22,12 +22,12 @@ returns c = let a = c.args in
     let s = c.put_shell_faces-size in
     let h = c.put_head-p in
     let x = c.put_shell_faces in (
-      shell-wrote a.boundaries.now a.members.now a.b a.out.now h.new.out x.new.out a.at h.result x.result s.result
+      shell_wrote a.boundaries.now a.members.now a.b a.out.now h.new.out x.new.out a.at h.result x.result s.result
           s.ensures.0.1 h.ensures x.ensures.0,
       omega (
         arith,
         x.ensures.1,
-        after-head a.out.now h.new.out a.at h.result 28
+        after_head a.out.now h.new.out a.at h.result 28
             (c.put_shell_faces-size.result / 4) h.ensures,
       ),
     )

@@ -1,12 +1,12 @@
-use Rattle.fields.specs.Tabled.{length-bytes32}
-use Rattle.body.specs.ShellLaws.{shell-face-wrote, shell-face-skipped}
+use Rattle.fields.specs.Tabled.{length_bytes32}
+use Rattle.body.specs.ShellLaws.{shell_face_wrote, shell_face_skipped}
 use native.Mathlib.Omega.{arith}
 use Rattle.body.proofs.put_shell_face.Goals as goal
 
 pub returns-then-get-b : goal.returns-then-get-b
 returns-then-get-b c =
     let a = c.args in (
-      shell-face-skipped a.boundaries.now a.members.now a.b a.out.now a.at a.f c.get-m.result c.get.result
+      shell_face_skipped a.boundaries.now a.members.now a.b a.out.now a.at a.f c.get-m.result c.get.result
           c.get-m.ensures.0 c.get.ensures.0 c.if-get-b.true,
       omega arith,
     )
@@ -14,8 +14,8 @@ returns-then-get-b c =
 pub returns : goal.returns
 returns c = let a = c.args in
     let x = c.put_word in (
-      shell-face-wrote a.boundaries.now a.members.now a.b a.out.now x.new.out a.at x.result a.f c.get-m.result
+      shell_face_wrote a.boundaries.now a.members.now a.b a.out.now x.new.out a.at x.result a.f c.get-m.result
           c.get.result c.get-m.ensures.0 c.get.ensures.0 c.if-get-b.false x.ensures,
       omega
-          (arith, x.ensures.1, length-bytes32 a.f),
+          (arith, x.ensures.1, length_bytes32 a.f),
     )

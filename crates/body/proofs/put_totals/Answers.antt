@@ -1,25 +1,25 @@
 use mathlib.Core.List.{[], ◌∷◌}
 use mathlib.Core.Path.{refl}
-use Rattle.stages_out.specs.Writing.{wrote-both, wrote-one, place-after}
-use Rattle.body.specs.Writing.{wrote-record, after-head}
+use Rattle.stages_out.specs.Writing.{wrote_both, wrote_one, place_after_lem}
+use Rattle.body.specs.Writing.{wrote_record, after_head}
 use native.Mathlib.Omega.{arith}
 use Rattle.body.proofs.put_totals.Goals as goal
 
 pub put_two-q-requires : goal.put_two-q-requires
 put_two-q-requires c =
-    let a = c.args in let u = c.put_head-p in omega (arith, after-head a.out.now u.new.out 0 u.result 21 7 u.ensures)
+    let a = c.args in let u = c.put_head-p in omega (arith, after_head a.out.now u.new.out 0 u.result 21 7 u.ensures)
 
 pub put_two-s-requires : goal.put_two-s-requires
 put_two-s-requires c =
     let a = c.args in
     let u = c.put_head-p in
-    omega (arith, after-head a.out.now u.new.out 0 u.result 21 7 u.ensures, c.put_two-q.ensures.1)
+    omega (arith, after_head a.out.now u.new.out 0 u.result 21 7 u.ensures, c.put_two-q.ensures.1)
 
 pub put_two-u-requires : goal.put_two-u-requires
 put_two-u-requires c =
     let a = c.args in let u = c.put_head-p in omega (
       arith,
-      after-head a.out.now u.new.out 0 u.result 21 7 u.ensures,
+      after_head a.out.now u.new.out 0 u.result 21 7 u.ensures,
       c.put_two-q.ensures.1,
       c.put_two-s.ensures.1,
     )
@@ -28,7 +28,7 @@ pub put_word-requires : goal.put_word-requires
 put_word-requires c =
     let a = c.args in let u = c.put_head-p in omega (
       arith,
-      after-head a.out.now u.new.out 0 u.result 21 7 u.ensures,
+      after_head a.out.now u.new.out 0 u.result 21 7 u.ensures,
       c.put_two-q.ensures.1,
       c.put_two-s.ensures.1,
       c.put_two-u.ensures.1,
@@ -43,20 +43,20 @@ returns c =
     let y = c.put_two-s in
     let z = c.put_two-u in
     let v = c.put_word in
-    let xy = wrote-both (a.solid ∷ t.uses ∷ []) (t.removed ∷ t.passed ∷ []) u.new.out x.new.out y.new.out u.result
+    let xy = wrote_both (a.solid ∷ t.uses ∷ []) (t.removed ∷ t.passed ∷ []) u.new.out x.new.out y.new.out u.result
     x.result y.result x.ensures.0 y.ensures.0 in
     let xyz =
-    wrote-both (a.solid ∷ t.uses ∷ t.removed ∷ t.passed ∷ []) (t.joins ∷ t.rings ∷ []) u.new.out y.new.out z.new.out
+    wrote_both (a.solid ∷ t.uses ∷ t.removed ∷ t.passed ∷ []) (t.joins ∷ t.rings ∷ []) u.new.out y.new.out z.new.out
     u.result y.result z.result xy z.ensures.0 in
-    let all = wrote-both (a.solid ∷ t.uses ∷ t.removed ∷ t.passed ∷ t.joins ∷ t.rings ∷ []) (t.merges ∷ []) u.new.out
+    let all = wrote_both (a.solid ∷ t.uses ∷ t.removed ∷ t.passed ∷ t.joins ∷ t.rings ∷ []) (t.merges ∷ []) u.new.out
     z.new.out v.new.out u.result
-    z.result v.result xyz (wrote-one z.new.out v.new.out z.result t.merges v.result v.ensures) in
+    z.result v.result xyz (wrote_one z.new.out v.new.out z.result t.merges v.result v.ensures) in
     let fields = a.solid ∷ t.uses ∷ t.removed ∷ t.passed ∷ t.joins ∷ t.rings ∷ t.merges ∷ [] in (
-      wrote-record fields a.out.now u.new.out v.new.out 0 u.result v.result 21 7 refl u.ensures all,
+      wrote_record fields a.out.now u.new.out v.new.out 0 u.result v.result 21 7 refl u.ensures all,
       omega (
         arith,
-        after-head a.out.now u.new.out 0 u.result 21 7 u.ensures,
-        place-after fields u.new.out v.new.out
+        after_head a.out.now u.new.out 0 u.result 21 7 u.ensures,
+        place_after_lem fields u.new.out v.new.out
             u.result v.result all,
       ),
     )

@@ -1,7 +1,7 @@
-use Rattle.edges.specs.Table.{rowsIn}
-use Rattle.edges.specs.TableLaws.{length-rows}
+use Rattle.edges.specs.Table.{rows_in}
+use Rattle.edges.specs.TableLaws.{length_rows}
 use mathlib.Core.Path.{sym, refl, subst, ◌∙◌}
-use Rattle.body.specs.Vertices.{EndsOk, Meeting, meeting-start, met-none, met-all}
+use Rattle.body.specs.Vertices.{EndsOk, Meeting, meeting_start, met_none, met_all}
 use native.Mathlib.Omega.{arith}
 use Rattle.body.proofs.put_vertices.Goals as goal
 
@@ -12,7 +12,7 @@ loop-e-init c = let a = c.args in (
   omega arith,
   refl,
   subst (λ l. Meeting a.starts.now a.out.now a.at l a.vertices.now a.out.now 0)
-      (sym (met-none (rowsIn a.rows.now))) (meeting-start a.starts.now a.out.now a.vertices.now a.at c.requires.3),
+      (sym (met_none (rows_in a.rows.now))) (meeting_start a.starts.now a.out.now a.vertices.now a.at c.requires.3),
 )
 
 pub meet_ends-count-requires : goal.meet_ends-count-requires
@@ -22,9 +22,9 @@ meet_ends-count-requires c = let a = c.args in
       pre.0,
       omega (arith, l.invariant.1, l.invariant.2, c.loop-e-test.true, pre.1),
       subst
-          (λ s. EndsOk s (rowsIn a.rows.now)) (sym l.invariant.3) pre.2,
+          (λ s. EndsOk s (rows_in a.rows.now)) (sym l.invariant.3) pre.2,
       omega
-          (arith, length-rows a.rows.now, l.invariant.1, c.loop-e-test.true),
+          (arith, length_rows a.rows.now, l.invariant.1, c.loop-e-test.true),
     )
 
 pub loop-e-preserved : goal.loop-e-preserved
@@ -45,6 +45,6 @@ returns c = let a = c.args in
       omega (arith, l.invariant.0, l.invariant.2, c.requires.1),
       subst
           (λ m. Meeting a.starts.now a.out.now a.at m l.vertices l.out l.count)
-          (met-all (rowsIn a.rows.now) l.e (omega
-          (arith, length-rows a.rows.now, l.invariant.0, l.invariant.1, c.loop-e-test.false))) l.invariant.4,
+          (met_all (rows_in a.rows.now) l.e (omega
+          (arith, length_rows a.rows.now, l.invariant.0, l.invariant.1, c.loop-e-test.false))) l.invariant.4,
     )

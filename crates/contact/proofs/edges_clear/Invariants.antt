@@ -1,16 +1,16 @@
 use lib.ListN.{length}
 use Prim.Native.Nat.{◌-◌, ◌≤◌}
-use Rattle.rules.specs.Contact.{edgeTouches}
+use Rattle.rules.specs.Contact.{edge_touches}
 use Rattle.contact.specs.Stamps.{Stale}
 use Rattle.contact.specs.ClearLaws.{NoneBelow}
 use mathlib.Core.Path.{◌≡◌}
-use Rattle.uses.specs.Table.{usesIn}
+use Rattle.uses.specs.Table.{uses_in}
 use Rattle.contact.proofs.edges_clear.Given as goal
 
 abbrev pub invariant-loop-e : goal.invariant-loop-e
 invariant-loop-e l =
     (l.e ≤ length l.firsts) × (length l.stamps ≡ 256) × Stale l.stamps l.e × NoneBelow
-    (edgeTouches (usesIn l.uses) l.twins l.labels) l.e
+    (edge_touches (uses_in l.uses) l.twins l.labels) l.e
 
 abbrev pub decreases-loop-e : goal.decreases-loop-e
 decreases-loop-e l = length l.firsts - l.e

@@ -1,10 +1,10 @@
 use lib.ListN.{length}
 use Prim.Native.Nat.{◌+◌}
 use mathlib.Core.Path.{refl, sym, subst, ◌∙◌}
-use Rattle.uses.specs.Table.{usesIn}
-use Rattle.contact.specs.ContactLaws.{lowest-none, lowest-more, lowest-found, lowest-nowhere}
+use Rattle.uses.specs.Table.{uses_in}
+use Rattle.contact.specs.ContactLaws.{lowest_none, lowest_more, lowest_found, lowest_nowhere}
 use Rattle.contact.specs.Buckets.{Bucketed}
-use Rattle.contact.specs.BucketLaws.{bucketed-none}
+use Rattle.contact.specs.BucketLaws.{bucketed_none}
 use native.Mathlib.Omega.{arith}
 use Rattle.contact.proofs.points_chained.Goals as goal
 
@@ -13,9 +13,9 @@ loop-k-init c = (
   omega arith,
   refl,
   refl,
-  bucketed-none (length c.args.heads.now) c.args.starts.now c.args.names.now
+  bucketed_none (length c.args.heads.now) c.args.starts.now c.args.names.now
       c.args.heads.now c.args.nexts.now (length c.args.heads.now) (length c.args.nexts.now) c.requires.3 c.requires.4,
-  lowest-none (usesIn c.args.uses.now) c.args.starts.now c.args.labels.now c.args.names.now,
+  lowest_none (uses_in c.args.uses.now) c.args.starts.now c.args.labels.now c.args.names.now,
 )
 
 pub lower-lowest-requires : goal.lower-lowest-requires
@@ -38,17 +38,17 @@ loop-k-preserved c = (
   subst
       (λ w. Bucketed w c.args.starts.now c.args.names.now c.enter.new.heads c.enter.new.nexts (c.loop-k.k + 1))
       (sym c.heads-1.given) c.enter.ensures,
-  lowest-more (usesIn c.args.uses.now) c.args.starts.now c.args.labels.now
+  lowest_more (uses_in c.args.uses.now) c.args.starts.now c.args.labels.now
       c.args.names.now c.loop-k.k c.loop-k.lowest c.lower-lowest.result c.loop-k.invariant.4 c.loop-k-test.true
       c.lower-lowest.ensures,
 )
 
 pub returns-then-lowest-le-UNSET : goal.returns-then-lowest-le-UNSET
 returns-then-lowest-le-UNSET c =
-    lowest-found (usesIn c.args.uses.now) c.args.starts.now c.args.labels.now c.args.number c.args.names.now c.loop-k.k
+    lowest_found (uses_in c.args.uses.now) c.args.starts.now c.args.labels.now c.args.number c.args.names.now c.loop-k.k
     c.loop-k.lowest c.loop-k.invariant.4 c.loop-k-test.false (omega arith)
 
 pub returns : goal.returns
 returns c =
-    lowest-nowhere (usesIn c.args.uses.now) c.args.starts.now c.args.labels.now c.args.number c.args.names.now
+    lowest_nowhere (uses_in c.args.uses.now) c.args.starts.now c.args.labels.now c.args.number c.args.names.now
     c.loop-k.k c.loop-k.lowest c.loop-k.invariant.4 c.loop-k-test.false (omega arith)

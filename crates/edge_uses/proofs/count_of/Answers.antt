@@ -1,5 +1,5 @@
-use Rattle.edge_uses.specs.LinkLaws.{count-more, count-all}
-use Rattle.edge_uses.specs.Links.{nextUse}
+use Rattle.edge_uses.specs.LinkLaws.{count_more, count_all}
+use Rattle.edge_uses.specs.Links.{next_use}
 use Rattle.fields.specs.Chains.{chain}
 use lib.ListN.{length}
 use native.Mathlib.Omega.{arith}
@@ -17,17 +17,17 @@ pub loop-i-preserved : goal.loop-i-preserved
 loop-i-preserved c =
     let pre = c.requires in
     let l = c.loop-i in
-    let next = nextUse c.args.nexts.now in (
+    let next = next_use c.args.nexts.now in (
       omega (arith, pre (l.i - 1)),
-      count-more next (pre) l.n l.i c.get-i-in-loop-i.result (length (chain next c.get-i.result)) l.invariant.1
+      count_more next (pre) l.n l.i c.get-i-in-loop-i.result (length (chain next c.get-i.result)) l.invariant.1
           c.loop-i-test.true c.get-i-in-loop-i.ensures.0,
     )
 
 pub returns : goal.returns
 returns c =
-    let get-call = c.get-i in
+    let get_call = c.get-i in
     let l = c.loop-i in
     let a = c.args in
-    let next = nextUse a.nexts.now in
-    count-all next l.n l.i (length (chain next get-call.result)) l.invariant.1 c.loop-i-test.false ∙ ap
-    (λ i. length (chain next i)) get-call.ensures.0
+    let next = next_use a.nexts.now in
+    count_all next l.n l.i (length (chain next get_call.result)) l.invariant.1 c.loop-i-test.false ∙ ap
+    (λ i. length (chain next i)) get_call.ensures.0

@@ -1,10 +1,10 @@
 use lib.ListN.{length}
-use Rattle.rules.specs.Fans.{namesFan}
-use Rattle.fans.specs.Naming.{naming-start, naming-end}
+use Rattle.rules.specs.Fans.{names_fan}
+use Rattle.fans.specs.Naming.{naming_start, naming_end}
 use native.Mathlib.Omega.{arith}
 use mathlib.Core.Path.{refl, ◌∙◌}
-use Rattle.uses.specs.Table.{usesIn}
-use Rattle.job.specs.Lists.{edgesIn}
+use Rattle.uses.specs.Table.{uses_in}
+use Rattle.job.specs.Lists.{edges_in}
 use Rattle.fans.proofs.fan_names.Goals as goal
 
 pub loop-h-init : goal.loop-h-init
@@ -12,7 +12,7 @@ loop-h-init c =
     let a = c.args in (
       omega arith,
       refl,
-      naming-start (namesFan (edgesIn a.job.now a.c) (usesIn a.uses.now) a.removed.now a.fans.now)
+      naming_start (names_fan (edges_in a.job.now a.c) (uses_in a.uses.now) a.removed.now a.fans.now)
           a.names.now,
     )
 
@@ -28,5 +28,5 @@ pub returns : goal.returns
 returns c =
     let a = c.args in
     let l = c.loop-h in
-    naming-end (namesFan (edgesIn a.job.now a.c) (usesIn a.uses.now) a.removed.now a.fans.now) l.names l.count l.h
-    l.invariant.2 (length (usesIn a.uses.now)) (omega arith)
+    naming_end (names_fan (edges_in a.job.now a.c) (uses_in a.uses.now) a.removed.now a.fans.now) l.names l.count l.h
+    l.invariant.2 (length (uses_in a.uses.now)) (omega arith)

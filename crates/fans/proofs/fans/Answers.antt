@@ -1,19 +1,19 @@
 use lib.ListN.{length}
-use Rattle.fans.specs.FanLaws.{fanned-start, fanned-step, fanned-end}
+use Rattle.fans.specs.FanLaws.{fanned_start, fanned_step, fanned_end}
 use native.Mathlib.Omega.{arith}
 use mathlib.Core.Path.{refl, ◌∙◌}
-use Rattle.uses.specs.Table.{usesIn}
-use Rattle.job.specs.Lists.{edgesIn}
+use Rattle.uses.specs.Table.{uses_in}
+use Rattle.job.specs.Lists.{edges_in}
 use Rattle.fans.proofs.fans.Goals as goal
 
 pub loop-h-init : goal.loop-h-init
 loop-h-init c =
     let a = c.args in
-    let alone-call = c.alone in (
+    let alone_call = c.alone in (
       omega arith,
       refl,
-      fanned-start (edgesIn a.job.now a.c) (usesIn a.uses.now) a.twins.now a.removed.now a.succ.now
-          alone-call.new.parents (length a.labels.now) c.requires.3 alone-call.ensures.1,
+      fanned_start (edges_in a.job.now a.c) (uses_in a.uses.now) a.twins.now a.removed.now a.succ.now
+          alone_call.new.parents (length a.labels.now) c.requires.3 alone_call.ensures.1,
     )
 
 pub fan_step-requires : goal.fan_step-requires
@@ -25,17 +25,17 @@ pub loop-h-preserved : goal.loop-h-preserved
 loop-h-preserved c =
     let l = c.loop-h in
     let a = c.args in
-    let fan-step-call = c.fan_step in (
+    let fan_step_call = c.fan_step in (
       omega arith,
       c.labels-in-loop-h-1.given ∙ l.invariant.1,
-      fanned-step (edgesIn a.job.now a.c) (usesIn a.uses.now)
-          a.twins.now a.removed.now a.succ.now l.labels fan-step-call.new.labels l.h l.invariant.2 fan-step-call.ensures,
+      fanned_step (edges_in a.job.now a.c) (uses_in a.uses.now)
+          a.twins.now a.removed.now a.succ.now l.labels fan_step_call.new.labels l.h l.invariant.2 fan_step_call.ensures,
     )
 
 pub returns : goal.returns
 returns c =
     let a = c.args in
     let l = c.loop-h in
-    let settle-call = c.settle in
-    fanned-end (edgesIn a.job.now a.c) (usesIn a.uses.now) a.twins.now a.removed.now a.succ.now l.labels
-    settle-call.new.parents l.h l.invariant.2 (omega arith) settle-call.ensures
+    let settle_call = c.settle in
+    fanned_end (edges_in a.job.now a.c) (uses_in a.uses.now) a.twins.now a.removed.now a.succ.now l.labels
+    settle_call.new.parents l.h l.invariant.2 (omega arith) settle_call.ensures

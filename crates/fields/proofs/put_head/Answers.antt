@@ -1,7 +1,7 @@
 use mathlib.Core.Path.{refl}
 use Prim.Native.Nat.{◌*◌, ◌+◌}
 use Rattle.rules.specs.Fields.{bytes16, bytes32}
-use Rattle.fields.specs.Wrote.{two-stores, wrote-more}
+use Rattle.fields.specs.Wrote.{two_stores, wrote_more}
 use native.Mathlib.Omega.{arith}
 use Rattle.fields.proofs.put_head.Goals as goal
 
@@ -20,6 +20,6 @@ returns c =
     let w = c.put_word-p in
     let b1 = c.put_byte in
     let b2 = c.put_byte-2 in
-    wrote-more a.out.now w.new.out b2.new.out (bytes32 (4 * a.fields)) (bytes16 a.kind) a.at w.result (w.result + 2)
+    wrote_more a.out.now w.new.out b2.new.out (bytes32 (4 * a.fields)) (bytes16 a.kind) a.at w.result (w.result + 2)
     w.ensures
-    (two-stores w.new.out b1.new.out b2.new.out w.result _ _ b1.ensures b2.ensures, refl)
+    (two_stores w.new.out b1.new.out b2.new.out w.result _ _ b1.ensures b2.ensures, refl)

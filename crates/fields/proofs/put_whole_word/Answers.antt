@@ -1,4 +1,4 @@
-use Rattle.fields.specs.Wrote.{four-stores}
+use Rattle.fields.specs.Wrote.{four_stores}
 use Rattle.rules.specs.Fields.{bytes32}
 use Rattle.fields.proofs.put_whole_word.Goals as goal
 
@@ -10,5 +10,5 @@ returns c =
     let b2 = c.store-2 in
     let b3 = c.store-3 in
     let b4 = c.store-4 in
-    four-stores a.out.now b1.new.out b2.new.out b3.new.out b4.new.out a.at _ _ _ _ b1.ensures b2.ensures b3.ensures
+    four_stores a.out.now b1.new.out b2.new.out b3.new.out b4.new.out a.at _ _ _ _ b1.ensures b2.ensures b3.ensures
     b4.ensures

@@ -1,4 +1,4 @@
-use Rattle.groups.specs.ParentLaws.{joined-less, joined-more, joined-same, separate-roots, one-root}
+use Rattle.groups.specs.ParentLaws.{joined_less, joined_more, joined_same, separate_roots, one_root}
 use native.Mathlib.Omega.{arith}
 use Rattle.groups.proofs.join_in.Goals as goal
 
@@ -7,10 +7,10 @@ returns-then-ra-rb c =
     let s = c.args in
     let x = c.root_in-ra in
     let y = c.root_in-rb in (
-      joined-less s.parents.now x.new.parents y.new.parents s.a s.b x.result y.result x.ensures y.ensures c.put.new.t
+      joined_less s.parents.now x.new.parents y.new.parents s.a s.b x.result y.result x.ensures y.ensures c.put.new.t
           c.if-ra-rb.true
           c.put.ensures,
-      separate-roots s.parents.now x.new.parents y.new.parents s.a s.b x.result y.result x.ensures y.ensures
+      separate_roots s.parents.now x.new.parents y.new.parents s.a s.b x.result y.result x.ensures y.ensures
           (λ e. let t = c.if-ra-rb.true in omega arith),
     )
 
@@ -19,10 +19,10 @@ returns-then-rb-ra c =
     let s = c.args in
     let x = c.root_in-ra in
     let y = c.root_in-rb in (
-      joined-more s.parents.now x.new.parents y.new.parents s.a s.b x.result y.result x.ensures y.ensures
+      joined_more s.parents.now x.new.parents y.new.parents s.a s.b x.result y.result x.ensures y.ensures
           c.put-then-rb-ra.new.t c.if-rb-ra.true
           c.put-then-rb-ra.ensures,
-      separate-roots s.parents.now x.new.parents y.new.parents s.a s.b x.result y.result x.ensures y.ensures
+      separate_roots s.parents.now x.new.parents y.new.parents s.a s.b x.result y.result x.ensures y.ensures
           (λ e. let t = c.if-rb-ra.true in omega arith),
     )
 
@@ -31,8 +31,8 @@ returns c =
     let s = c.args in
     let x = c.root_in-ra in
     let y = c.root_in-rb in (
-      joined-same s.parents.now x.new.parents y.new.parents s.a s.b x.result y.result x.ensures y.ensures
+      joined_same s.parents.now x.new.parents y.new.parents s.a s.b x.result y.result x.ensures y.ensures
           (omega (arith, c.if-rb-ra.false, c.if-ra-rb.false)),
-      one-root s.parents.now x.new.parents y.new.parents s.a s.b x.result y.result x.ensures
+      one_root s.parents.now x.new.parents y.new.parents s.a s.b x.result y.result x.ensures
           y.ensures (omega (arith, c.if-rb-ra.false, c.if-ra-rb.false)),
     )

@@ -1,12 +1,12 @@
-use Rattle.groups.specs.Padding.{zeros, lent-size, new-stands}
+use Rattle.groups.specs.Padding.{zeros, lent_size, new_stands}
 use native.Mathlib.Omega.{arith}
 use lib.ListN.{length, take}
 use Rattle.groups.proofs.new.Goals as goal
 
 pub alone-requires : goal.alone-requires
-alone-requires c = let e = lent-size c.args.n 256 c.requires in omega (arith, e)
+alone-requires c = let e = lent_size c.args.n 256 c.requires in omega (arith, e)
 
 pub returns : goal.returns
 returns c = let n = c.args.n in
-    new-stands 256 n (length (take n (zeros 256))) c.alone.new.parents c.requires (lent-size n 256 c.requires)
+    new_stands 256 n (length (take n (zeros 256))) c.alone.new.parents c.requires (lent_size n 256 c.requires)
     c.alone.ensures.1

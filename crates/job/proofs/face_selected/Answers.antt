@@ -1,16 +1,16 @@
 use Prim.Native.Nat.{◌+◌}
-use Rattle.rules.specs.Sense.{senseOf}
+use Rattle.rules.specs.Sense.{sense_of}
 use Rattle.rules.specs.Fields.{le32}
-use Rattle.job.specs.Lists.{faceIn}
-use Rattle.job.specs.ListLaws.{faces-at, faces-past}
+use Rattle.job.specs.Lists.{face_in}
+use Rattle.job.specs.ListLaws.{faces_at, faces_past}
 use mathlib.Core.Path.{sym, ap, ◌∙◌}
 use Rattle.job.proofs.face_selected.Goals as goal
 
 pub returns-then-f-c : goal.returns-then-f-c
-unfolding faceIn
+unfolding face_in
 returns-then-f-c c =
-    c.sense_of.ensures ∙ ap senseOf (c.word.ensures.0 ∙ ap (λ p. le32 c.args.job.now (p + 14)) c.get.ensures.0) ∙ sym
-    (ap (λ f. f.selected) (faces-at c.args.job.now c.args.index.now c.args.c c.args.f c.if-f-c.true))
+    c.sense_of.ensures ∙ ap sense_of (c.word.ensures.0 ∙ ap (λ p. le32 c.args.job.now (p + 14)) c.get.ensures.0) ∙ sym
+    (ap (λ f. f.selected) (faces_at c.args.job.now c.args.index.now c.args.c c.args.f c.if-f-c.true))
 
 pub returns : goal.returns
-returns c = sym (ap (λ f. f.selected) (faces-past c.args.job.now c.args.index.now c.args.c c.args.f c.if-f-c.false))
+returns c = sym (ap (λ f. f.selected) (faces_past c.args.job.now c.args.index.now c.args.c c.args.f c.if-f-c.false))

@@ -1,11 +1,11 @@
 use Rattle.std.proofs.Common.{arith}
-use Rattle.lines.specs.Text.{fixedOf}
+use Rattle.lines.specs.Text.{fixed_of}
 use borrow.Author.Tests.{ne_eqb}
 use borrow.Author.Rules.{rules}
 use Rattle.lines.proofs.fixed_fields.Goals as goal
 
 pub returns-in-1 : goal.returns-in-1
-unfolding fixedOf
+unfolding fixed_of
 returns-in-1 c = (
   simp c.in-1.is,
   search rules,
@@ -13,7 +13,7 @@ returns-in-1 c = (
 )
 
 pub returns-in-2 : goal.returns-in-2
-unfolding fixedOf
+unfolding fixed_of
 returns-in-2 c = (
   simp c.in-2.is,
   search rules,
@@ -21,7 +21,7 @@ returns-in-2 c = (
 )
 
 pub returns-in-5 : goal.returns-in-5
-unfolding fixedOf
+unfolding fixed_of
 returns-in-5 c = (
   simp c.in-5.is,
   search rules,
@@ -29,7 +29,7 @@ returns-in-5 c = (
 )
 
 pub returns-in-7 : goal.returns-in-7
-unfolding fixedOf
+unfolding fixed_of
 returns-in-7 c = (
   simp c.in-7.is,
   search rules,
@@ -37,7 +37,7 @@ returns-in-7 c = (
 )
 
 pub returns-in_default : goal.returns-in_default
-unfolding fixedOf
+unfolding fixed_of
 returns-in_default c = (
   simp (
     ne_eqb c.args.stage 7 (omega arith),

@@ -1,5 +1,5 @@
-use Rattle.lines.specs.Text.{fieldTextIn}
-use Rattle.lines.specs.Writing.{fielded-start, fielded-step, fielded-end, field-short}
+use Rattle.lines.specs.Text.{field_text_in}
+use Rattle.lines.specs.Writing.{fielded_start, fielded_step, fielded_end, field_short}
 use mathlib.Core.Path.{refl, ◌∙◌}
 use native.Mathlib.Omega.{arith}
 use Rattle.lines.proofs.put_fields.Goals as goal
@@ -8,7 +8,7 @@ pub loop-i-init : goal.loop-i-init
 loop-i-init c = (
   refl,
   omega arith,
-  fielded-start (fieldTextIn c.args.vertex) (field-short c.args.vertex) c.args.page.now c.args.at
+  fielded_start (field_text_in c.args.vertex) (field_short c.args.vertex) c.args.page.now c.args.at
       c.args.bytes.now c.args.from,
 )
 
@@ -30,7 +30,7 @@ loop-i-preserved c =
     let l = c.loop-i in (
       c.page-1.given ∙ l.invariant.0,
       omega arith,
-      fielded-step (fieldTextIn a.vertex) (field-short a.vertex) a.page.now a.at a.bytes.now a.from l.page
+      fielded_step (field_text_in a.vertex) (field_short a.vertex) a.page.now a.at a.bytes.now a.from l.page
           c.put_field-p.new.page l.p c.put_field-p.result l.i c.word.result c.word.ensures.0 l.invariant.2
           c.put_field-p.ensures,
     )
@@ -39,5 +39,5 @@ pub returns : goal.returns
 returns c =
     let a = c.args in
     let l = c.loop-i in
-    fielded-end (fieldTextIn a.vertex) (field-short a.vertex) a.page.now a.at a.bytes.now a.from l.page l.p l.i a.n
+    fielded_end (field_text_in a.vertex) (field_short a.vertex) a.page.now a.at a.bytes.now a.from l.page l.p l.i a.n
     (omega arith) l.invariant.2

@@ -1,14 +1,14 @@
 use lib.ListN.{drop}
 use mathlib.Core.Bool.{true, false}
 use Prim.Native.Nat.{◌+◌, ◌*◌, ◌-◌, ◌/◌}
-use Rattle.lines.specs.Writing.{fields-short}
-use Rattle.lines.specs.LineLaws.{line-wrote, name-short}
+use Rattle.lines.specs.Writing.{fields_short}
+use Rattle.lines.specs.LineLaws.{line_wrote, name_short}
 use native.Mathlib.Omega.{arith}
 use Rattle.lines.proofs.put_line.Goals as goal
 
 pub put_fields-q-requires : goal.put_fields-q-requires
 put_fields-q-requires c = (
-  omega (arith, c.put_name-p.ensures.1, name-short c.half-kind.result),
+  omega (arith, c.put_name-p.ensures.1, name_short c.half-kind.result),
   omega arith,
   omega
       (arith, c.plain_fields-plain.ensures.1, c.word-n.ensures.1),
@@ -17,11 +17,11 @@ put_fields-q-requires c = (
 pub put_fields-r-requires : goal.put_fields-r-requires
 put_fields-r-requires c =
     let f = c.put_fields-q.ensures.1 in
-    let s = fields-short false c.plain_fields-plain.result (drop (c.args.from + 6) c.args.body.now) in (
+    let s = fields_short false c.plain_fields-plain.result (drop (c.args.from + 6) c.args.body.now) in (
       omega (
         arith,
         c.put_name-p.ensures.1,
-        name-short c.half-kind.result,
+        name_short c.half-kind.result,
         f,
         s,
         c.plain_fields-plain.ensures.1,
@@ -39,12 +39,12 @@ put_text-requires c =
     omega (
       arith,
       c.put_name-p.ensures.1,
-      name-short c.half-kind.result,
+      name_short c.half-kind.result,
       c.put_fields-q.ensures.1,
-      fields-short false k
+      fields_short false k
           (drop (a.from + 6) a.body.now),
       c.put_fields-r.ensures.1,
-      fields-short true (n - k)
+      fields_short true (n - k)
           (drop (a.from + 6 + 4 * k) a.body.now),
       c.plain_fields-plain.ensures.1,
       c.word-n.ensures.1,
@@ -53,7 +53,7 @@ put_text-requires c =
 pub returns : goal.returns
 returns c =
     let a = c.args in
-    line-wrote a.body.now a.page.now c.put_name-p.new.page c.put_fields-q.new.page c.put_fields-r.new.page
+    line_wrote a.body.now a.page.now c.put_name-p.new.page c.put_fields-q.new.page c.put_fields-r.new.page
     c.put_text.new.page a.at a.from c.put_name-p.result c.put_fields-q.result c.put_fields-r.result
     c.put_text.result c.half-kind.result c.word-n.result c.plain_fields-plain.result c.half-kind.ensures.0
     c.word-n.ensures.0 c.plain_fields-plain.ensures.0 c.put_name-p.ensures c.put_fields-q.ensures

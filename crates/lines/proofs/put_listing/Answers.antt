@@ -1,18 +1,18 @@
-use Rattle.lines.specs.LineLaws.{part-small}
-use Rattle.lines.specs.LineLaws.{listed-body, listed-refusal}
+use Rattle.lines.specs.LineLaws.{part_small}
+use Rattle.lines.specs.LineLaws.{listed_body, listed_refusal}
 use Rattle.lines.proofs.put_listing.Goals as goal
 
 pub put_lines-requires : goal.put_lines-requires
 put_lines-requires c =
-    part-small c.args.out.now c.front-body.result.now _ 4294967296 c.args.ending c.in-Written.is c.front-body.ensures
+    part_small c.args.out.now c.front-body.result.now _ 4294967296 c.args.ending c.in-Written.is c.front-body.ensures
     c.requires
 
 pub returns-in-Written : goal.returns-in-Written
 returns-in-Written c =
-    listed-body c.args.out.now _ c.args.page.now c.put_lines.new.page c.put_lines.result _ c.args.ending c.in-Written.is
+    listed_body c.args.out.now _ c.args.page.now c.put_lines.new.page c.put_lines.result _ c.args.ending c.in-Written.is
     c.front-body.ensures c.put_lines.ensures
 
 pub returns-in-Refused : goal.returns-in-Refused
 returns-in-Refused c =
-    listed-refusal c.args.out.now c.args.page.now c.put_refusal.new.page c.put_refusal.result _ _ c.args.ending
+    listed_refusal c.args.out.now c.args.page.now c.put_refusal.new.page c.put_refusal.result _ _ c.args.ending
     c.in-Refused.is c.put_refusal.ensures

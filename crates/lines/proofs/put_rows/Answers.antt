@@ -1,9 +1,9 @@
-use Rattle.rules.specs.Fields.{fieldsIn}
+use Rattle.rules.specs.Fields.{fields_in}
 use Rattle.fields.specs.Wrote.{Wrote}
-use Rattle.lines.specs.LineLaws.{row-some, row-short, row-is, counted-small}
-use Rattle.lines.specs.Cut.{going-start, going-step, going-end}
-use Rattle.rules.specs.Rows.{rowText}
-use Rattle.lines.specs.Text.{rowAt, rowSize}
+use Rattle.lines.specs.LineLaws.{row_some, row_short, row_is, counted_small}
+use Rattle.lines.specs.Cut.{going_start, going_step, going_end}
+use Rattle.rules.specs.Rows.{row_text}
+use Rattle.lines.specs.Text.{row_at, row_size}
 use lib.ListN.{drop}
 use Prim.Native.Nat.{◌+◌, ◌*◌}
 use mathlib.Core.Path.{refl, ap, subst, ◌∙◌}
@@ -14,7 +14,7 @@ pub loop-from-init : goal.loop-from-init
 loop-from-init c = (
   refl,
   omega arith,
-  going-start (rowAt c.args.fixed c.args.counted) (rowSize c.args.fixed c.args.counted) rowText
+  going_start (row_at c.args.fixed c.args.counted) (row_size c.args.fixed c.args.counted) row_text
       c.args.page.now c.args.at c.args.bytes.now,
 )
 
@@ -25,22 +25,22 @@ pub word-requires : goal.word-requires
 word-requires c = omega arith
 
 pub overflow_mul-n : goal.overflow_mul-n
-overflow_mul-n c = omega (arith, counted-small c.args.counted c.word.result c.requires.4 c.word.ensures.1)
+overflow_mul-n c = omega (arith, counted_small c.args.counted c.word.result c.requires.4 c.word.ensures.1)
 
 pub overflow_add-n : goal.overflow_add-n
-overflow_add-n c = omega (arith, counted-small c.args.counted c.word.result c.requires.4 c.word.ensures.1)
+overflow_add-n c = omega (arith, counted_small c.args.counted c.word.result c.requires.4 c.word.ensures.1)
 
 pub put_row-p-requires : goal.put_row-p-requires
 put_row-p-requires c =
-    let s = counted-small c.args.counted c.word.result c.requires.4 c.word.ensures.1 in
+    let s = counted_small c.args.counted c.word.result c.requires.4 c.word.ensures.1 in
     (omega (arith, c.loop-from.invariant.2.few), omega arith, omega arith, omega (arith, s))
 
 pub overflow_mul-from : goal.overflow_mul-from
-overflow_mul-from c = omega (arith, counted-small c.args.counted c.word.result c.requires.4 c.word.ensures.1)
+overflow_mul-from c = omega (arith, counted_small c.args.counted c.word.result c.requires.4 c.word.ensures.1)
 
 pub overflow_add-from-in-loop-from : goal.overflow_add-from-in-loop-from
 overflow_add-from-in-loop-from c =
-    omega (arith, counted-small c.args.counted c.word.result c.requires.4 c.word.ensures.1)
+    omega (arith, counted_small c.args.counted c.word.result c.requires.4 c.word.ensures.1)
 
 pub loop-from-smaller : goal.loop-from-smaller
 loop-from-smaller c = omega arith
@@ -50,14 +50,14 @@ loop-from-preserved c =
     let a = c.args in
     let l = c.loop-from in
     let v = c.word.result in
-    let n = row-is a.bytes.now l.from a.fixed a.counted v c.word.ensures.0 in (
+    let n = row_is a.bytes.now l.from a.fixed a.counted v c.word.ensures.0 in (
       c.page-1.given ∙ l.invariant.0,
-      omega (arith, counted-small a.counted v c.requires.4 c.word.ensures.1),
-      going-step (rowAt a.fixed a.counted) (rowSize a.fixed a.counted) rowText a.page.now a.at a.bytes.now
-          (row-some a.fixed a.counted c.requires.2) (row-short a.fixed a.counted c.requires.2) l.page
+      omega (arith, counted_small a.counted v c.requires.4 c.word.ensures.1),
+      going_step (row_at a.fixed a.counted) (row_size a.fixed a.counted) row_text a.page.now a.at a.bytes.now
+          (row_some a.fixed a.counted c.requires.2) (row_short a.fixed a.counted c.requires.2) l.page
           c.put_row-p.new.page l.p c.put_row-p.result l.from (l.from + 4 * (a.fixed + a.counted * v)) l.invariant.2
           c.loop-from-test.true (ap (λ k. l.from + 4 * k) n)
-          (subst (λ k. Wrote l.page l.p (rowText (fieldsIn k (drop l.from a.bytes.now))) c.put_row-p.new.page
+          (subst (λ k. Wrote l.page l.p (row_text (fields_in k (drop l.from a.bytes.now))) c.put_row-p.new.page
           c.put_row-p.result) n c.put_row-p.ensures),
     )
 
@@ -65,7 +65,7 @@ pub returns : goal.returns
 returns c =
     let a = c.args in
     let l = c.loop-from in (
-      going-end (rowAt a.fixed a.counted) (rowSize a.fixed a.counted) rowText a.page.now a.at a.bytes.now l.page l.p
+      going_end (row_at a.fixed a.counted) (row_size a.fixed a.counted) row_text a.page.now a.at a.bytes.now l.page l.p
           l.from l.invariant.2 c.loop-from-test.false,
       omega (arith, l.invariant.2.few),
     )

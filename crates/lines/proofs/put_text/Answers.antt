@@ -1,6 +1,6 @@
 use lib.Seq.{sets, take-length}
 use lib.ListN.{length, take}
-use Rattle.lines.specs.Writing.{text-more}
+use Rattle.lines.specs.Writing.{text_more}
 use mathlib.Core.Path.{◌≡◌, refl, ap, ◌∙◌}
 use native.Mathlib.Omega.{arith}
 use borrow.Author.Rules.{rules}
@@ -16,7 +16,7 @@ pub loop-i-preserved : goal.loop-i-preserved
 loop-i-preserved c = (
   c.page-1.given ∙ c.loop-i.invariant.0,
   search rules,
-  text-more c.args.page.now c.loop-i.page c.put_byte.new.page c.args.text.now c.args.at c.loop-i.i c.loop-i.invariant.2
+  text_more c.args.page.now c.loop-i.page c.put_byte.new.page c.args.text.now c.args.at c.loop-i.i c.loop-i.invariant.2
       c.loop-i-test.true c.put_byte.ensures,
 )
 

@@ -1,18 +1,18 @@
 use mathlib.Core.Path.{sym, ◌∙◌}
-use Rattle.lines.specs.Text.{stageNumber}
+use Rattle.lines.specs.Text.{stage_number}
 use Rattle.lines.proofs.stage_number.Goals as goal
 
 pub returns-then-is_same : goal.returns-then-is_same
-unfolding stageNumber
+unfolding stage_number
 returns-then-is_same c = simp (sym c.is_same.ensures ∙ c.if-is_same.true)
 
 pub returns-then-is_same-2 : goal.returns-then-is_same-2
-unfolding stageNumber
+unfolding stage_number
 returns-then-is_same-2 c =
     simp (sym c.is_same.ensures ∙ c.if-is_same.false, sym c.is_same-2.ensures ∙ c.if-is_same-2.true)
 
 pub returns-then-is_same-3 : goal.returns-then-is_same-3
-unfolding stageNumber
+unfolding stage_number
 returns-then-is_same-3 c =
     simp (
       sym c.is_same.ensures ∙ c.if-is_same.false,
@@ -22,7 +22,7 @@ returns-then-is_same-3 c =
     )
 
 pub returns-then-is_same-4 : goal.returns-then-is_same-4
-unfolding stageNumber
+unfolding stage_number
 returns-then-is_same-4 c =
     simp (
       sym c.is_same.ensures ∙ c.if-is_same.false,
@@ -33,7 +33,7 @@ returns-then-is_same-4 c =
     )
 
 pub returns-then-is_same-5 : goal.returns-then-is_same-5
-unfolding stageNumber
+unfolding stage_number
 returns-then-is_same-5 c =
     simp (
       sym c.is_same.ensures ∙ c.if-is_same.false,
@@ -46,7 +46,7 @@ returns-then-is_same-5 c =
     )
 
 pub returns-then-is_same-6 : goal.returns-then-is_same-6
-unfolding stageNumber
+unfolding stage_number
 returns-then-is_same-6 c =
     simp (
       sym c.is_same.ensures ∙ c.if-is_same.false,
@@ -60,7 +60,7 @@ returns-then-is_same-6 c =
     )
 
 pub returns-then-is_same-7 : goal.returns-then-is_same-7
-unfolding stageNumber
+unfolding stage_number
 returns-then-is_same-7 c =
     simp (
       sym c.is_same.ensures ∙ c.if-is_same.false,
@@ -76,7 +76,7 @@ returns-then-is_same-7 c =
     )
 
 pub returns-then-is_same-8 : goal.returns-then-is_same-8
-unfolding stageNumber
+unfolding stage_number
 returns-then-is_same-8 c =
     simp (
       sym c.is_same.ensures ∙ c.if-is_same.false,
@@ -93,7 +93,7 @@ returns-then-is_same-8 c =
     )
 
 pub returns-then-is_same-9 : goal.returns-then-is_same-9
-unfolding stageNumber
+unfolding stage_number
 returns-then-is_same-9 c =
     simp (
       sym c.is_same.ensures ∙ c.if-is_same.false,
@@ -112,7 +112,7 @@ returns-then-is_same-9 c =
     )
 
 pub returns-then-is_same-10 : goal.returns-then-is_same-10
-unfolding stageNumber
+unfolding stage_number
 returns-then-is_same-10 c =
     simp (
       sym c.is_same.ensures ∙ c.if-is_same.false,
@@ -132,7 +132,7 @@ returns-then-is_same-10 c =
     )
 
 pub returns-then-is_same-11 : goal.returns-then-is_same-11
-unfolding stageNumber
+unfolding stage_number
 returns-then-is_same-11 c =
     simp (
       sym c.is_same.ensures ∙ c.if-is_same.false,
@@ -154,7 +154,7 @@ returns-then-is_same-11 c =
     )
 
 pub returns : goal.returns
-unfolding stageNumber
+unfolding stage_number
 returns c =
     simp (
       sym c.is_same.ensures ∙ c.if-is_same.false,

@@ -1,5 +1,5 @@
-use Rattle.links.specs.Tables.{linksOf}
-use Rattle.links.specs.Fuse.{lent-order, lent-codes, lent-nexts, lent-head, slot-after, next-after, fuse-is}
+use Rattle.links.specs.Tables.{links_of}
+use Rattle.links.specs.Fuse.{lent_order, lent_codes, lent_nexts, lent_head, slot_after, next_after_lem, fuse_is}
 use Rattle.links.proofs.fuse.Goals as goal
 
 pub slice_bounds-turn_and_replace-start : goal.slice_bounds-turn_and_replace-start
@@ -9,7 +9,7 @@ slice_bounds-turn_and_replace-start c =
     let o = c.get-k in
     let s = c.get-start in
     let b = c.own_end-bound in
-    lent-order (linksOf a.list.now a.nexts.now a.heads.now a.owners.now a.spots.now a.stretches.now) a.y a.x g.result
+    lent_order (links_of a.list.now a.nexts.now a.heads.now a.owners.now a.spots.now a.stretches.now) a.y a.x g.result
     o.result s.result b.result
     c.requires.0 g.ensures.0 o.ensures.0 s.ensures.0 b.ensures
 
@@ -20,7 +20,7 @@ slice_bounds-turn_and_replace-end c =
     let o = c.get-k in
     let s = c.get-start in
     let b = c.own_end-bound in
-    lent-codes (linksOf a.list.now a.nexts.now a.heads.now a.owners.now a.spots.now a.stretches.now) a.y a.x g.result
+    lent_codes (links_of a.list.now a.nexts.now a.heads.now a.owners.now a.spots.now a.stretches.now) a.y a.x g.result
     o.result s.result b.result
     c.requires.0 g.ensures.0 o.ensures.0 s.ensures.0 b.ensures
 
@@ -31,7 +31,7 @@ slice_bounds-turn_and_replace-start-2 c =
     let o = c.get-k in
     let s = c.get-start in
     let b = c.own_end-bound in
-    lent-order (linksOf a.list.now a.nexts.now a.heads.now a.owners.now a.spots.now a.stretches.now) a.y a.x g.result
+    lent_order (links_of a.list.now a.nexts.now a.heads.now a.owners.now a.spots.now a.stretches.now) a.y a.x g.result
     o.result s.result b.result
     c.requires.0 g.ensures.0 o.ensures.0 s.ensures.0 b.ensures
 
@@ -42,7 +42,7 @@ slice_bounds-turn_and_replace-end-2 c =
     let o = c.get-k in
     let s = c.get-start in
     let b = c.own_end-bound in
-    lent-nexts (linksOf a.list.now a.nexts.now a.heads.now a.owners.now a.spots.now a.stretches.now) a.y a.x g.result
+    lent_nexts (links_of a.list.now a.nexts.now a.heads.now a.owners.now a.spots.now a.stretches.now) a.y a.x g.result
     o.result s.result b.result
     c.requires.0 g.ensures.0 o.ensures.0 s.ensures.0 b.ensures
 
@@ -53,7 +53,7 @@ slice_bounds-turn_and_replace-end-3 c =
     let o = c.get-k in
     let s = c.get-start in
     let b = c.own_end-bound in
-    lent-head (linksOf a.list.now a.nexts.now a.heads.now a.owners.now a.spots.now a.stretches.now) a.y a.x g.result
+    lent_head (links_of a.list.now a.nexts.now a.heads.now a.owners.now a.spots.now a.stretches.now) a.y a.x g.result
     o.result s.result b.result
     c.requires.0 g.ensures.0 o.ensures.0 s.ensures.0 b.ensures
 
@@ -64,11 +64,11 @@ turn_and_replace-requires c =
     let o = c.get-k in
     let s = c.get-start in
     let b = c.own_end-bound in (
-      slot-after (linksOf a.list.now a.nexts.now a.heads.now a.owners.now a.spots.now a.stretches.now) a.y a.x g.result
+      slot_after (links_of a.list.now a.nexts.now a.heads.now a.owners.now a.spots.now a.stretches.now) a.y a.x g.result
           o.result s.result b.result
           c.requires.0 g.ensures.0 o.ensures.0 s.ensures.0 b.ensures,
-      next-after
-          (linksOf a.list.now a.nexts.now a.heads.now a.owners.now a.spots.now a.stretches.now) a.y a.x g.result
+      next_after_lem
+          (links_of a.list.now a.nexts.now a.heads.now a.owners.now a.spots.now a.stretches.now) a.y a.x g.result
           o.result s.result b.result c.requires.0
           g.ensures.0 o.ensures.0 s.ensures.0 b.ensures,
       g.ensures.1,
@@ -82,7 +82,7 @@ returns c =
     let o = c.get-k in
     let s = c.get-start in
     let b = c.own_end-bound in
-    fuse-is (linksOf a.list.now a.nexts.now a.heads.now a.owners.now a.spots.now a.stretches.now) a.y a.x g.result
+    fuse_is (links_of a.list.now a.nexts.now a.heads.now a.owners.now a.spots.now a.stretches.now) a.y a.x g.result
     o.result s.result b.result
     c.requires.0 g.ensures.0 o.ensures.0 s.ensures.0 b.ensures c.get-end.result c.turn_and_replace.new.part
     c.turn_and_replace.new.nexts c.turn_and_replace.new.head _ _ c.get-end.ensures.0 c.turn_and_replace.ensures

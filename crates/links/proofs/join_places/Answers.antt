@@ -1,6 +1,6 @@
-use Rattle.edges.specs.Table.{rowsIn}
-use Rattle.links.specs.Tables.{linksOf}
-use Rattle.links.specs.JoinLinks.{fuse-first, fuse-second, join-is}
+use Rattle.edges.specs.Table.{rows_in}
+use Rattle.links.specs.Tables.{links_of}
+use Rattle.links.specs.JoinLinks.{fuse_first, fuse_second, join_is}
 use native.Mathlib.Omega.{arith}
 use Rattle.links.proofs.join_places.Goals as goal
 
@@ -15,8 +15,8 @@ overflow_mul-new c = omega (arith, c.requires.few)
 
 pub fuse-requires : goal.fuse-requires
 fuse-requires c = (
-  fuse-first (rowsIn c.args.rows.now) c.args.v c.args.a c.args.b c.args.new
-      (linksOf c.args.list.now c.args.nexts.now c.args.heads.now c.args.owners.now c.args.spots.now
+  fuse_first (rows_in c.args.rows.now) c.args.v c.args.a c.args.b c.args.new
+      (links_of c.args.list.now c.args.nexts.now c.args.heads.now c.args.owners.now c.args.spots.now
       c.args.stretches.now) c.requires c.in_code-x.result c.in_code-y.result c.in_code-x.ensures c.in_code-y.ensures,
   omega (arith, c.requires.few),
 )
@@ -29,19 +29,19 @@ overflow_add-new c = omega (arith, c.requires.few)
 
 pub fuse-requires-2 : goal.fuse-requires-2
 fuse-requires-2 c = (
-  fuse-second (rowsIn c.args.rows.now) c.args.v c.args.a c.args.b c.args.new
-      (linksOf c.args.list.now c.args.nexts.now c.args.heads.now c.args.owners.now c.args.spots.now
+  fuse_second (rows_in c.args.rows.now) c.args.v c.args.a c.args.b c.args.new
+      (links_of c.args.list.now c.args.nexts.now c.args.heads.now c.args.owners.now c.args.spots.now
       c.args.stretches.now) c.requires c.in_code-x.result c.in_code-y.result c.in_code-x.ensures c.in_code-y.ensures
-      (linksOf c.fuse.new.list c.fuse.new.nexts c.fuse.new.heads c.args.owners.now c.fuse.new.spots
+      (links_of c.fuse.new.list c.fuse.new.nexts c.fuse.new.heads c.args.owners.now c.fuse.new.spots
       c.fuse.new.stretches) c.fuse.ensures,
   omega (arith, c.requires.few),
 )
 
 pub returns : goal.returns
 returns c =
-    join-is (rowsIn c.args.rows.now) c.args.v c.args.a c.args.b c.args.new
-    (linksOf c.args.list.now c.args.nexts.now c.args.heads.now c.args.owners.now c.args.spots.now
+    join_is (rows_in c.args.rows.now) c.args.v c.args.a c.args.b c.args.new
+    (links_of c.args.list.now c.args.nexts.now c.args.heads.now c.args.owners.now c.args.spots.now
     c.args.stretches.now) c.requires c.in_code-x.result c.in_code-y.result c.in_code-x.ensures c.in_code-y.ensures
-    (linksOf c.fuse.new.list c.fuse.new.nexts c.fuse.new.heads c.args.owners.now c.fuse.new.spots
-    c.fuse.new.stretches) c.fuse.ensures (linksOf c.fuse-2.new.list c.fuse-2.new.nexts c.fuse-2.new.heads
+    (links_of c.fuse.new.list c.fuse.new.nexts c.fuse.new.heads c.args.owners.now c.fuse.new.spots
+    c.fuse.new.stretches) c.fuse.ensures (links_of c.fuse-2.new.list c.fuse-2.new.nexts c.fuse-2.new.heads
     c.args.owners.now c.fuse-2.new.spots c.fuse-2.new.stretches) c.fuse-2.ensures

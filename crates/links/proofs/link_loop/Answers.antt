@@ -1,5 +1,5 @@
 use mathlib.Core.Path.{refl, ◌∙◌}
-use Rattle.links.specs.Link.{linking-from, linking-more, linking-past}
+use Rattle.links.specs.Link.{linking_from, linking_more, linking_past}
 use native.Mathlib.Omega.{arith}
 use Rattle.links.proofs.link_loop.Goals as goal
 
@@ -14,7 +14,7 @@ overflow_add-k c = omega arith
 
 pub loop-s-init : goal.loop-s-init
 loop-s-init c = (
-  linking-from c.args.items.now c.args.stretches.now c.args.list.now c.args.nexts.now c.args.owners.now
+  linking_from c.args.items.now c.args.stretches.now c.args.list.now c.args.nexts.now c.args.owners.now
       c.args.spots.now c.args.k c.get-start.result c.get-start.ensures.0 c.requires.0,
   omega arith,
   refl,
@@ -43,7 +43,7 @@ loop-s-smaller c = omega arith
 
 pub loop-s-preserved : goal.loop-s-preserved
 loop-s-preserved c = (
-  linking-more c.args.items.now c.args.stretches.now c.loop-s.list c.loop-s.nexts c.loop-s.owners c.loop-s.spots
+  linking_more c.args.items.now c.args.stretches.now c.loop-s.list c.loop-s.nexts c.loop-s.owners c.loop-s.spots
       c.args.k c.loop-s.s c.get-start.result c.get-end.result c.get-x.result c.next_slot-q.result c.put.new.t
       c.put-in-loop-s.new.t c.put-in-loop-s-2.new.t c.put-in-loop-s-3.new.t c.loop-s.invariant.0 c.requires.1
       c.get-start.ensures.0 c.get-end.ensures.0 c.loop-s.invariant.1 c.loop-s-test.true c.get-x.ensures.0
@@ -57,5 +57,5 @@ loop-s-preserved c = (
 
 pub returns : goal.returns
 returns c =
-    linking-past c.args.items.now c.args.stretches.now c.loop-s.list c.loop-s.nexts c.loop-s.owners c.loop-s.spots
+    linking_past c.args.items.now c.args.stretches.now c.loop-s.list c.loop-s.nexts c.loop-s.owners c.loop-s.spots
     c.args.k c.loop-s.s c.get-end.result c.get-end.ensures.0 c.loop-s-test.false c.loop-s.invariant.0

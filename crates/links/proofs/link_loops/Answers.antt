@@ -1,14 +1,14 @@
 use mathlib.Core.Path.{refl, ◌∙◌}
-use Rattle.links.specs.Link.{linking-none, headed-none, headed-more, linked-all}
+use Rattle.links.specs.Link.{linking_none, headed_none, headed_more, linked_all}
 use native.Mathlib.Omega.{arith}
 use Rattle.links.proofs.link_loops.Goals as goal
 
 pub loop-k-init : goal.loop-k-init
 loop-k-init c = (
   refl,
-  linking-none c.args.items.now c.args.stretches.now c.args.list.now c.args.nexts.now c.args.owners.now
+  linking_none c.args.items.now c.args.stretches.now c.args.list.now c.args.nexts.now c.args.owners.now
       c.args.spots.now c.requires.0,
-  headed-none c.args.stretches.now c.args.heads.now,
+  headed_none c.args.stretches.now c.args.heads.now,
   omega arith,
   refl,
   refl,
@@ -40,7 +40,7 @@ pub loop-k-preserved : goal.loop-k-preserved
 loop-k-preserved c = (
   c.loop-k.invariant.0,
   c.link_loop.ensures,
-  headed-more c.args.stretches.now c.args.heads.now c.loop-k.heads c.put.new.t c.loop-k.k c.get-start.result
+  headed_more c.args.stretches.now c.args.heads.now c.loop-k.heads c.put.new.t c.loop-k.k c.get-start.result
       c.requires.1 c.loop-k.invariant.2 c.get-start.ensures.0 c.put.ensures,
   omega (arith, c.loop-k-test.true),
   c.link_loop.auto.list ∙ c.loop-k.invariant.4,
@@ -51,6 +51,6 @@ loop-k-preserved c = (
 
 pub returns : goal.returns
 returns c =
-    linked-all c.args.items.now c.args.stretches.now c.loop-k.list c.loop-k.nexts c.args.heads.now c.loop-k.heads
+    linked_all c.args.items.now c.args.stretches.now c.loop-k.list c.loop-k.nexts c.args.heads.now c.loop-k.heads
     c.loop-k.owners c.loop-k.spots c.loop-k.k (omega (arith, c.loop-k-test.false, c.loop-k.invariant.0))
     c.requires.1 c.loop-k.invariant.1 c.loop-k.invariant.2

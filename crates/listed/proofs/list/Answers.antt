@@ -1,4 +1,4 @@
-use Rattle.lines.specs.Listed.{bytes-below, sews, lists}
+use Rattle.lines.specs.Listed.{bytes_below, sews, lists}
 use Rattle.listed.proofs.list.Goals as goal
 
 pub returns : goal.returns
@@ -6,7 +6,7 @@ returns c =
     let a = c.args in
     let sew = c.sew-ending in
     let put = c.put_listing in
-    let bytes = bytes-below a.job.now (λ i. (c.type_inv.job i).fits) in
+    let bytes = bytes_below a.job.now (λ i. (c.type_inv.job i).fits) in
     let size = c.told-out in (
       sews a.job.now a.out.now sew.new.out sew.result sew.ensures.0,
       lists a.job.now a.out.now sew.new.out a.page.now put.new.page put.result sew.result bytes size sew.ensures.0

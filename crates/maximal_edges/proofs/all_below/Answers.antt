@@ -1,4 +1,4 @@
-use Rattle.lists.specs.Membership.{in-getD}
+use Rattle.lists.specs.Membership.{in_get_or}
 use lib.ListN.{get_or}
 use native.Mathlib.Decide.{dec_lt}
 use native.Mathlib.Omega.{arith}
@@ -28,5 +28,5 @@ loop-i-preserved c =
 pub returns : goal.returns
 returns c =
     λ e v m.
-    let r = in-getD 0 m in
+    let r = in_get_or 0 m in
     omega (arith, c.loop-i.invariant.1 r.0 (omega (arith, r.1, c.loop-i-test.false)), r.2)

@@ -1,6 +1,6 @@
-use Rattle.maximal_edges.specs.CountLaws.{counted-none, counted-all}
-use Rattle.edges.specs.TableLaws.{length-rows}
-use Rattle.edges.specs.Table.{rowsIn}
+use Rattle.maximal_edges.specs.CountLaws.{counted_none, counted_all}
+use Rattle.edges.specs.TableLaws.{length_rows}
+use Rattle.edges.specs.Table.{rows_in}
 use native.Mathlib.Omega.{arith}
 use mathlib.Core.Path.{refl, ◌∙◌}
 use Rattle.maximal_edges.proofs.count_ends.Goals as goal
@@ -13,7 +13,7 @@ loop-e-init c =
       refl,
       refl,
       refl,
-      counted-none (rowsIn a.rows.now) a.ends.now a.lows.now a.highs.now
+      counted_none (rows_in a.rows.now) a.ends.now a.lows.now a.highs.now
           c.requires.1,
     )
 
@@ -21,7 +21,7 @@ pub count_edge-requires : goal.count_edge-requires
 count_edge-requires c =
     let l = c.loop-e in (
       l.invariant.5,
-      omega (arith, length-rows c.args.rows.now, l.invariant.0),
+      omega (arith, length_rows c.args.rows.now, l.invariant.0),
       omega
           (arith, c.requires.0, l.invariant.0),
     )
@@ -41,5 +41,5 @@ loop-e-preserved c =
 pub returns : goal.returns
 returns c =
     let l = c.loop-e in
-    counted-all (rowsIn c.args.rows.now) l.ends l.lows l.highs l.e l.invariant.5
-    (omega (arith, l.invariant.0, l.invariant.1, c.loop-e-test.false, length-rows c.args.rows.now))
+    counted_all (rows_in c.args.rows.now) l.ends l.lows l.highs l.e l.invariant.5
+    (omega (arith, l.invariant.0, l.invariant.1, c.loop-e-test.false, length_rows c.args.rows.now))

@@ -1,14 +1,14 @@
-use Rattle.maximal_edges.specs.Hung.{hung-ringed, may-join, hung-joined}
-use Rattle.maximal_edges.specs.ChangeLaws.{count-edges}
+use Rattle.maximal_edges.specs.Hung.{hung_ringed, may_join_lem, hung_joined}
+use Rattle.maximal_edges.specs.ChangeLaws.{count_edges}
 use Rattle.edges.specs.Table.{Laid}
-use Rattle.links.specs.Tables.{linksOf}
-use Rattle.links.specs.Lay.{laidOut}
-use Rattle.links.specs.Replace.{laid-base}
-use Rattle.maximal_edges.specs.RunLaws.{going-start, going-done, going-stopped, ring-inside, ring-less, going-ring, join-inside, join-less, going-join}
-use Rattle.maximal_edges.specs.Joined.{edgesIn, stateIn, joiningOf, wholeRun, doneWith, Fitting, nextAfter, lowerOf}
-use Rattle.job.specs.Lists.{answersIn}
-use Rattle.rules.specs.Join.{maximalEdges}
-use Rattle.lists.specs.Runs.{pigeon-below}
+use Rattle.links.specs.Tables.{links_of}
+use Rattle.links.specs.Lay.{laid_out}
+use Rattle.links.specs.Replace.{laid_base}
+use Rattle.maximal_edges.specs.RunLaws.{going_start, going_done, going_stopped, ring_inside, ring_less, going_ring, join_inside, join_less, going_join}
+use Rattle.maximal_edges.specs.Joined.{edges_in, state_in, joining_of, whole_run, done_with, Fitting, next_after, lower_of}
+use Rattle.job.specs.Lists.{answers_in}
+use Rattle.rules.specs.Join.{maximal_edges}
+use Rattle.lists.specs.Runs.{pigeon_below}
 use lib.ListN.{length, get_or}
 use Prim.Native.Nat.{◌+◌}
 use mathlib.Core.Path.{refl, sym, ap, subst, ◌∙◌}
@@ -19,21 +19,21 @@ pub sweeps-init : goal.sweeps-init
 sweeps-init c =
     let a = c.args in
     let pre = c.requires in
-    let answers = answersIn a.job.now a.index.now a.c in
+    let answers = answers_in a.job.now a.index.now a.c in
     let names = a.names.now in
-    let whole = wholeRun answers a.starts.now names a.rows.now a.count a.items.now a.stretches.now in (
+    let whole = whole_run answers a.starts.now names a.rows.now a.count a.items.now a.stretches.now in (
       refl,
       refl,
       refl,
       refl,
       refl,
       refl,
-      going-start answers a.starts.now names a.rows.now a.count
-          (length a.stretches.now) (laidOut a.list.now a.nexts.now a.heads.now a.stretches.now a.items.now)
+      going_start answers a.starts.now names a.rows.now a.count
+          (length a.stretches.now) (laid_out a.list.now a.nexts.now a.heads.now a.stretches.now a.items.now)
           a.stretches.now a.ends.now a.lows.now a.highs.now whole pre.1 pre.2 refl
           (subst (Laid a.stretches.now) (sym pre.9) pre.3) pre.4
-          (λ faces. ap (λ l. maximalEdges answers a.starts.now names (length names)
-          (stateIn a.rows.now a.count l a.stretches.now faces 0 0)) (sym pre.9)),
+          (λ faces. ap (λ l. maximal_edges answers a.starts.now names (length names)
+          (state_in a.rows.now a.count l a.stretches.now faces 0 0)) (sym pre.9)),
       refl,
       refl,
       refl,
@@ -55,20 +55,20 @@ pub lay_loops-requires : goal.lay_loops-requires
 lay_loops-requires c =
     let a = c.args in
     let l = c.sweeps in
-    laid-base (linksOf l.list l.nexts l.heads a.owners.now l.spots l.stretches) l.items l.invariant.6.laid
+    laid_base (links_of l.list l.nexts l.heads a.owners.now l.spots l.stretches) l.items l.invariant.6.laid
 
 pub returns-in-Unchanged : goal.returns-in-Unchanged
 returns-in-Unchanged c =
     let a = c.args in
     let l = c.sweeps in
-    let laid = laidOut l.list l.nexts l.heads l.stretches l.items in
-    let links = linksOf l.list l.nexts l.heads a.owners.now l.spots l.stretches in
+    let laid = laid_out l.list l.nexts l.heads l.stretches l.items in
+    let links = links_of l.list l.nexts l.heads a.owners.now l.spots l.stretches in
     let pre = c.requires in
-    let answers = answersIn a.job.now a.index.now a.c in
+    let answers = answers_in a.job.now a.index.now a.c in
     let names = a.names.now in
-    let whole = wholeRun answers a.starts.now names a.rows.now a.count a.items.now a.stretches.now in (
-      λ faces h. ap (joiningOf l.rows c.lay_loops.new.items l.stretches faces) c.done.ensures ∙ ap
-          (λ z. joiningOf l.rows z l.stretches faces (doneWith l.n l.joins l.rings)) c.lay_loops.ensures ∙ going-done
+    let whole = whole_run answers a.starts.now names a.rows.now a.count a.items.now a.stretches.now in (
+      λ faces h. ap (joining_of l.rows c.lay_loops.new.items l.stretches faces) c.done.ensures ∙ ap
+          (λ z. joining_of l.rows z l.stretches faces (done_with l.n l.joins l.rings)) c.lay_loops.ensures ∙ going_done
           answers a.starts.now names whole (length a.stretches.now) l.rows l.n laid l.stretches l.ends l.lows l.highs
           l.joins l.rings l.low l.high l.top l.invariant.6 c.sweep-change.result c.sweep-change.ensures
           c.in-Unchanged.is faces h,
@@ -86,13 +86,13 @@ pub returns-in-Refused : goal.returns-in-Refused
 returns-in-Refused c =
     let a = c.args in
     let l = c.sweeps in
-    let laid = laidOut l.list l.nexts l.heads l.stretches l.items in
-    let links = linksOf l.list l.nexts l.heads a.owners.now l.spots l.stretches in
+    let laid = laid_out l.list l.nexts l.heads l.stretches l.items in
+    let links = links_of l.list l.nexts l.heads a.owners.now l.spots l.stretches in
     let pre = c.requires in
-    let answers = answersIn a.job.now a.index.now a.c in
+    let answers = answers_in a.job.now a.index.now a.c in
     let names = a.names.now in
-    let whole = wholeRun answers a.starts.now names a.rows.now a.count a.items.now a.stretches.now in (
-      going-stopped answers a.starts.now names whole (length a.stretches.now) l.rows l.n laid l.stretches l.ends l.lows
+    let whole = whole_run answers a.starts.now names a.rows.now a.count a.items.now a.stretches.now in (
+      going_stopped answers a.starts.now names whole (length a.stretches.now) l.rows l.n laid l.stretches l.ends l.lows
           l.highs l.joins l.rings l.low l.high l.top l.invariant.6 c.sweep-change.result _ _ c.sweep-change.ensures
           c.in-Refused.is,
       tt,
@@ -102,15 +102,15 @@ pub ring_at-requires : goal.ring_at-requires
 ring_at-requires c =
     let a = c.args in
     let l = c.sweeps in
-    let laid = laidOut l.list l.nexts l.heads l.stretches l.items in
-    let links = linksOf l.list l.nexts l.heads a.owners.now l.spots l.stretches in
+    let laid = laid_out l.list l.nexts l.heads l.stretches l.items in
+    let links = links_of l.list l.nexts l.heads a.owners.now l.spots l.stretches in
     let pre = c.requires in
-    let answers = answersIn a.job.now a.index.now a.c in
+    let answers = answers_in a.job.now a.index.now a.c in
     let names = a.names.now in
-    let whole = wholeRun answers a.starts.now names a.rows.now a.count a.items.now a.stretches.now in (
+    let whole = whole_run answers a.starts.now names a.rows.now a.count a.items.now a.stretches.now in (
       omega (arith, l.invariant.6.size),
       omega (arith, l.invariant.6.few),
-      ring-inside answers a.starts.now names whole
+      ring_inside answers a.starts.now names whole
           (length a.stretches.now) l.rows l.n laid l.stretches l.ends l.lows l.highs l.joins l.rings l.low l.high l.top
           l.invariant.6 pre.5 (λ x m. omega (arith, pre.6 x m, pre.4.size)) a.ranks.now pre.7 c.sweep-change.result
           c.sweep-change.ensures _ _ c.in-Ring.is,
@@ -125,7 +125,7 @@ overflow_add-rings c =
     omega (
       arith,
       c.sweeps.invariant.6.budget,
-      pigeon-below 2048 c.args.names.now pre.5
+      pigeon_below 2048 c.args.names.now pre.5
           (λ x m. omega (arith, pre.6 x m, pre.4.size)),
     )
 
@@ -133,14 +133,14 @@ pub sweeps-smaller-in-Ring : goal.sweeps-smaller-in-Ring
 sweeps-smaller-in-Ring c =
     let a = c.args in
     let l = c.sweeps in
-    let laid = laidOut l.list l.nexts l.heads l.stretches l.items in
-    let links = linksOf l.list l.nexts l.heads a.owners.now l.spots l.stretches in
+    let laid = laid_out l.list l.nexts l.heads l.stretches l.items in
+    let links = links_of l.list l.nexts l.heads a.owners.now l.spots l.stretches in
     let pre = c.requires in
-    let answers = answersIn a.job.now a.index.now a.c in
+    let answers = answers_in a.job.now a.index.now a.c in
     let names = a.names.now in
-    let whole = wholeRun answers a.starts.now names a.rows.now a.count a.items.now a.stretches.now in
+    let whole = whole_run answers a.starts.now names a.rows.now a.count a.items.now a.stretches.now in
     let ring = c.ring_at in
-    ring-less answers a.starts.now names whole (length a.stretches.now) l.rows l.n laid l.stretches l.ends l.lows
+    ring_less answers a.starts.now names whole (length a.stretches.now) l.rows l.n laid l.stretches l.ends l.lows
     l.highs l.joins l.rings l.low l.high l.top l.invariant.6 pre.5 (λ x m. omega (arith, pre.6 x m, pre.4.size))
     a.ranks.now pre.7 c.sweep-change.result c.sweep-change.ensures _ _ c.in-Ring.is ring.new.rows ring.new.ends
     ring.ensures.0
@@ -149,12 +149,12 @@ pub sweeps-preserved-in-Ring : goal.sweeps-preserved-in-Ring
 sweeps-preserved-in-Ring c =
     let a = c.args in
     let l = c.sweeps in
-    let laid = laidOut l.list l.nexts l.heads l.stretches l.items in
-    let links = linksOf l.list l.nexts l.heads a.owners.now l.spots l.stretches in
+    let laid = laid_out l.list l.nexts l.heads l.stretches l.items in
+    let links = links_of l.list l.nexts l.heads a.owners.now l.spots l.stretches in
     let pre = c.requires in
-    let answers = answersIn a.job.now a.index.now a.c in
+    let answers = answers_in a.job.now a.index.now a.c in
     let names = a.names.now in
-    let whole = wholeRun answers a.starts.now names a.rows.now a.count a.items.now a.stretches.now in
+    let whole = whole_run answers a.starts.now names a.rows.now a.count a.items.now a.stretches.now in
     let ring = c.ring_at in (
       ring.auto.ends ∙ l.invariant.0,
       l.invariant.1,
@@ -162,31 +162,31 @@ sweeps-preserved-in-Ring c =
       ring.auto.rows ∙ l.invariant.3,
       l.invariant.4,
       l.invariant.5,
-      going-ring answers a.starts.now names whole (length a.stretches.now) l.rows l.n laid l.stretches l.ends l.lows
+      going_ring answers a.starts.now names whole (length a.stretches.now) l.rows l.n laid l.stretches l.ends l.lows
           l.highs l.joins l.rings l.low l.high l.top l.invariant.6 pre.5 (λ x m. omega (arith, pre.6 x m, pre.4.size))
           a.ranks.now pre.7 c.sweep-change.result c.sweep-change.ensures _ _ c.in-Ring.is ring.new.rows ring.new.ends
           ring.ensures.0 c.next_after-top.result ring.auto.rows ring.ensures.1
-          (c.next_after-top.ensures ∙ ap (nextAfter l.high l.top) c.get.ensures.0),
+          (c.next_after-top.ensures ∙ ap (next_after l.high l.top) c.get.ensures.0),
       l.invariant.7,
       l.invariant.8,
       l.invariant.9,
       l.invariant.10,
       l.invariant.11,
-      hung-ringed names (edgesIn l.rows l.n) links l.invariant.12 c.sweep-change.result c.sweep-change.ensures.real _ _
-          c.in-Ring.is (edgesIn ring.new.rows l.n) ring.ensures.0,
+      hung_ringed names (edges_in l.rows l.n) links l.invariant.12 c.sweep-change.result c.sweep-change.ensures.real _ _
+          c.in-Ring.is (edges_in ring.new.rows l.n) ring.ensures.0,
     )
 
 pub join_at-e-requires : goal.join_at-e-requires
 join_at-e-requires c =
     let a = c.args in
     let l = c.sweeps in
-    let laid = laidOut l.list l.nexts l.heads l.stretches l.items in
-    let links = linksOf l.list l.nexts l.heads a.owners.now l.spots l.stretches in
+    let laid = laid_out l.list l.nexts l.heads l.stretches l.items in
+    let links = links_of l.list l.nexts l.heads a.owners.now l.spots l.stretches in
     let pre = c.requires in
-    let answers = answersIn a.job.now a.index.now a.c in
+    let answers = answers_in a.job.now a.index.now a.c in
     let names = a.names.now in
-    let whole = wholeRun answers a.starts.now names a.rows.now a.count a.items.now a.stretches.now in
-    let w = join-inside answers a.starts.now names whole (length a.stretches.now) l.rows l.n laid l.stretches l.ends
+    let whole = whole_run answers a.starts.now names a.rows.now a.count a.items.now a.stretches.now in
+    let w = join_inside answers a.starts.now names whole (length a.stretches.now) l.rows l.n laid l.stretches l.ends
     l.lows l.highs l.joins l.rings l.low l.high l.top l.invariant.6 pre.5
     (λ x m. omega (arith, pre.6 x m, pre.4.size)) a.ranks.now pre.7 c.sweep-change.result c.sweep-change.ensures _ _
     _ c.in-Join.is in (
@@ -194,9 +194,9 @@ join_at-e-requires c =
       omega (arith, w.2),
       w.0,
       w.1,
-      may-join names (edgesIn l.rows l.n) links l.invariant.12 c.sweep-change.result
+      may_join_lem names (edges_in l.rows l.n) links l.invariant.12 c.sweep-change.result
           c.sweep-change.ensures.real _ _ _ c.in-Join.is l.n (sym
-          (count-edges l.rows l.n (omega (arith, l.invariant.6.size)))) (omega (arith, w.2)),
+          (count_edges l.rows l.n (omega (arith, l.invariant.6.size)))) (omega (arith, w.2)),
     )
 
 pub next_after-top-requires-in-Join : goal.next_after-top-requires-in-Join
@@ -211,7 +211,7 @@ overflow_add-joins c =
     omega (
       arith,
       c.sweeps.invariant.6.budget,
-      pigeon-below 2048 c.args.names.now pre.5
+      pigeon_below 2048 c.args.names.now pre.5
           (λ x m. omega (arith, pre.6 x m, pre.4.size)),
     )
 
@@ -219,30 +219,30 @@ pub sweeps-smaller : goal.sweeps-smaller
 sweeps-smaller c =
     let a = c.args in
     let l = c.sweeps in
-    let laid = laidOut l.list l.nexts l.heads l.stretches l.items in
-    let links = linksOf l.list l.nexts l.heads a.owners.now l.spots l.stretches in
+    let laid = laid_out l.list l.nexts l.heads l.stretches l.items in
+    let links = links_of l.list l.nexts l.heads a.owners.now l.spots l.stretches in
     let pre = c.requires in
-    let answers = answersIn a.job.now a.index.now a.c in
+    let answers = answers_in a.job.now a.index.now a.c in
     let names = a.names.now in
-    let whole = wholeRun answers a.starts.now names a.rows.now a.count a.items.now a.stretches.now in
+    let whole = whole_run answers a.starts.now names a.rows.now a.count a.items.now a.stretches.now in
     let join = c.join_at-e in
-    join-less answers a.starts.now names whole (length a.stretches.now) l.rows l.n laid l.stretches l.ends l.lows
+    join_less answers a.starts.now names whole (length a.stretches.now) l.rows l.n laid l.stretches l.ends l.lows
     l.highs l.joins l.rings l.low l.high l.top l.invariant.6 pre.5 (λ x m. omega (arith, pre.6 x m, pre.4.size))
     a.ranks.now pre.7 c.sweep-change.result c.sweep-change.ensures _ _ _ c.in-Join.is join.new.rows
-    (laidOut join.new.list join.new.nexts join.new.heads join.new.stretches l.items) join.new.stretches
+    (laid_out join.new.list join.new.nexts join.new.heads join.new.stretches l.items) join.new.stretches
     join.new.ends join.new.lows join.new.highs join.result
-    (join.ensures.lists l.items (laid-base links l.items l.invariant.6.laid))
+    (join.ensures.lists l.items (laid_base links l.items l.invariant.6.laid))
 
 pub sweeps-preserved : goal.sweeps-preserved
 sweeps-preserved c =
     let a = c.args in
     let l = c.sweeps in
-    let laid = laidOut l.list l.nexts l.heads l.stretches l.items in
-    let links = linksOf l.list l.nexts l.heads a.owners.now l.spots l.stretches in
+    let laid = laid_out l.list l.nexts l.heads l.stretches l.items in
+    let links = links_of l.list l.nexts l.heads a.owners.now l.spots l.stretches in
     let pre = c.requires in
-    let answers = answersIn a.job.now a.index.now a.c in
+    let answers = answers_in a.job.now a.index.now a.c in
     let names = a.names.now in
-    let whole = wholeRun answers a.starts.now names a.rows.now a.count a.items.now a.stretches.now in
+    let whole = whole_run answers a.starts.now names a.rows.now a.count a.items.now a.stretches.now in
     let join = c.join_at-e in
     let ranks = a.ranks.now in (
       join.auto.ends ∙ l.invariant.0,
@@ -251,24 +251,24 @@ sweeps-preserved c =
       join.auto.rows ∙ l.invariant.3,
       l.invariant.4,
       join.auto.stretches ∙ l.invariant.5,
-      going-join answers a.starts.now names whole (length a.stretches.now) l.rows l.n laid l.stretches l.ends l.lows
+      going_join answers a.starts.now names whole (length a.stretches.now) l.rows l.n laid l.stretches l.ends l.lows
           l.highs l.joins l.rings l.low l.high l.top l.invariant.6 pre.5 (λ x m. omega (arith, pre.6 x m, pre.4.size))
           a.ranks.now pre.7 c.sweep-change.result c.sweep-change.ensures _ _ _ c.in-Join.is join.new.rows
-          (laidOut join.new.list join.new.nexts join.new.heads join.new.stretches l.items) join.new.stretches
+          (laid_out join.new.list join.new.nexts join.new.heads join.new.stretches l.items) join.new.stretches
           join.new.ends join.new.lows join.new.highs join.result
-          (join.ensures.lists l.items (laid-base links l.items l.invariant.6.laid)) c.next_after-top-in-Join.result
+          (join.ensures.lists l.items (laid_base links l.items l.invariant.6.laid)) c.next_after-top-in-Join.result
           c.get-p.result c.get-q.result c.lower-low.result c.lower-high.result join.auto.rows join.auto.stretches
-          (c.next_after-top-in-Join.ensures ∙ ap (nextAfter l.high l.top) c.get-in-Join.ensures.0)
+          (c.next_after-top-in-Join.ensures ∙ ap (next_after l.high l.top) c.get-in-Join.ensures.0)
           (c.get-p.ensures.0 ∙ ap (λ x. get_or ranks x 0) c.wide.ensures.0)
           (c.get-q.ensures.0 ∙ ap (λ x. get_or ranks x 0) c.wide-in-Join.ensures.0)
-          (c.lower-low.ensures ∙ ap (lowerOf c.next_after-top-in-Join.result) c.lower.ensures)
-          (c.lower-high.ensures ∙ ap (lowerOf c.next_after-top-in-Join.result) c.higher.ensures),
+          (c.lower-low.ensures ∙ ap (lower_of c.next_after-top-in-Join.result) c.lower.ensures)
+          (c.lower-high.ensures ∙ ap (lower_of c.next_after-top-in-Join.result) c.higher.ensures),
       join.auto.list ∙ l.invariant.7,
       join.auto.nexts ∙ l.invariant.8,
       join.auto.heads ∙ l.invariant.9,
       join.auto.spots ∙ l.invariant.10,
       l.invariant.11,
-      hung-joined names (edgesIn l.rows l.n) links l.invariant.12 c.sweep-change.result c.sweep-change.ensures.real _ _
-          _ c.in-Join.is (linksOf join.new.list join.new.nexts join.new.heads a.owners.now join.new.spots
-          join.new.stretches) (edgesIn join.new.rows (l.n + 1)) join.ensures.links join.ensures.edges,
+      hung_joined names (edges_in l.rows l.n) links l.invariant.12 c.sweep-change.result c.sweep-change.ensures.real _ _
+          _ c.in-Join.is (links_of join.new.list join.new.nexts join.new.heads a.owners.now join.new.spots
+          join.new.stretches) (edges_in join.new.rows (l.n + 1)) join.ensures.links join.ensures.edges,
     )

@@ -1,9 +1,9 @@
 use Rattle.maximal_edges.specs.Hung.{Hung}
-use Rattle.links.specs.Tables.{linksOf}
-use Rattle.links.specs.Lay.{laidOut}
-use Rattle.maximal_edges.specs.Joined.{edgesIn, wholeRun, Going}
-use Rattle.job.specs.Lists.{answersIn}
-use Rattle.rules.specs.Join.{twoEnds}
+use Rattle.links.specs.Tables.{links_of}
+use Rattle.links.specs.Lay.{laid_out}
+use Rattle.maximal_edges.specs.Joined.{edges_in, whole_run, Going}
+use Rattle.job.specs.Lists.{answers_in}
+use Rattle.rules.specs.Join.{two_ends}
 use Rattle.lists.specs.Lists.{keep}
 use lib.ListN.{length}
 use mathlib.Core.Path.{◌≡◌}
@@ -14,13 +14,13 @@ invariant-sweeps l =
     (length l.ends ≡ length l.initial.ends) × (length l.lows ≡ length l.initial.lows) ×
     (length l.highs ≡ length l.initial.highs) × (length l.rows ≡ length l.initial.rows) ×
     (length l.items ≡ length l.initial.items) × (length l.stretches ≡ length l.initial.stretches) × Going
-    (answersIn l.job l.index l.c) l.starts l.names (wholeRun (answersIn l.job l.index l.c) l.starts l.names
+    (answers_in l.job l.index l.c) l.starts l.names (whole_run (answers_in l.job l.index l.c) l.starts l.names
     l.initial.rows l.count l.initial.items l.initial.stretches) (length l.initial.stretches) l.rows l.n
-    (laidOut l.list l.nexts l.heads l.stretches l.items) l.stretches l.ends l.lows l.highs l.joins l.rings l.low
+    (laid_out l.list l.nexts l.heads l.stretches l.items) l.stretches l.ends l.lows l.highs l.joins l.rings l.low
     l.high l.top × (length l.list ≡ length l.initial.list) × (length l.nexts ≡ length l.initial.nexts) ×
     (length l.heads ≡ length l.initial.heads) × (length l.spots ≡ length l.initial.spots) ×
-    (l.items ≡ l.initial.items) × Hung (edgesIn l.rows l.n)
-    (linksOf l.list l.nexts l.heads l.owners l.spots l.stretches)
+    (l.items ≡ l.initial.items) × Hung (edges_in l.rows l.n)
+    (links_of l.list l.nexts l.heads l.owners l.spots l.stretches)
 
 abbrev pub decreases-sweeps : goal.decreases-sweeps
-decreases-sweeps l = length (keep (twoEnds (edgesIn l.rows l.n)) l.names)
+decreases-sweeps l = length (keep (two_ends (edges_in l.rows l.n)) l.names)

@@ -1,9 +1,9 @@
-use Rattle.links.specs.Tables.{linksOf}
-use Rattle.links.specs.Replace.{joined-replaced}
-use Rattle.maximal_edges.specs.ChangeLaws.{rows-join, ends-joined}
-use Rattle.maximal_edges.specs.StillLaws.{new-start, new-end}
-use Rattle.maximal_edges.specs.Joined.{edgesIn}
-use Rattle.rules.specs.Join.{edgeDataAt, farEnd, joinedEdge}
+use Rattle.links.specs.Tables.{links_of}
+use Rattle.links.specs.Replace.{joined_replaced}
+use Rattle.maximal_edges.specs.ChangeLaws.{rows_join, ends_joined}
+use Rattle.maximal_edges.specs.StillLaws.{new_start, new_end}
+use Rattle.maximal_edges.specs.Joined.{edges_in}
+use Rattle.rules.specs.Join.{edge_data_at, far_end, joined_edge}
 use mathlib.Core.Path.{◌≡◌, ◌∙◌}
 use native.Mathlib.Omega.{arith}
 use Rattle.maximal_edges.proofs.join_at.Goals as goal
@@ -36,27 +36,27 @@ pub returns : goal.returns
 returns c =
     let a = c.args in
     let pre = c.requires in
-    let es = edgesIn a.rows.now a.n in
-    let x = edgeDataAt es a.a in
-    let y = edgeDataAt es a.b in
-    let new : c.joined_edge-e.result ≡ joinedEdge a.v x y = c.joined_edge-e.ensures ∙
-    (λ i. joinedEdge a.v (c.edge_at-x.ensures i) (c.edge_at-y.ensures i)) in
-    let tables = ends-joined a.lows.now a.highs.now c.replace_end.new.lows c.replace_end.new.highs
-    c.replace_end-2.new.lows c.replace_end-2.new.highs (farEnd a.v x) (farEnd a.v y) c.wide.result c.wide-2.result
-    a.a a.b a.n (c.wide.ensures.0 ∙ new-start c.joined_edge-e.result x y a.v new)
-    (c.wide-2.ensures.0 ∙ new-end c.joined_edge-e.result x y a.v new) c.replace_end.ensures.0
+    let es = edges_in a.rows.now a.n in
+    let x = edge_data_at es a.a in
+    let y = edge_data_at es a.b in
+    let new : c.joined_edge-e.result ≡ joined_edge a.v x y = c.joined_edge-e.ensures ∙
+    (λ i. joined_edge a.v (c.edge_at-x.ensures i) (c.edge_at-y.ensures i)) in
+    let tables = ends_joined a.lows.now a.highs.now c.replace_end.new.lows c.replace_end.new.highs
+    c.replace_end-2.new.lows c.replace_end-2.new.highs (far_end a.v x) (far_end a.v y) c.wide.result c.wide-2.result
+    a.a a.b a.n (c.wide.ensures.0 ∙ new_start c.joined_edge-e.result x y a.v new)
+    (c.wide-2.ensures.0 ∙ new_end c.joined_edge-e.result x y a.v new) c.replace_end.ensures.0
     c.replace_end.ensures.1 c.replace_end-2.ensures.0 c.replace_end-2.ensures.1 in
-    let edges-now = rows-join a.rows.now c.put_edge.new.rows c.put_edge-2.new.rows c.put_edge-3.new.rows a.n a.v a.a a.b
+    let edges_now = rows_join a.rows.now c.put_edge.new.rows c.put_edge-2.new.rows c.put_edge-3.new.rows a.n a.v a.a a.b
     c.edge_at-x.result c.edge_at-y.result c.retired.result c.retired-2.result c.joined_edge-e.result pre.0
     (omega (arith, pre.2, pre.3)) pre.3 c.edge_at-x.ensures c.edge_at-y.ensures c.retired.ensures
     c.retired-2.ensures c.joined_edge-e.ensures c.put_edge.ensures c.put_edge-2.ensures c.put_edge-3.ensures in
     record {
       links = c.join_places.ensures;
-      edges = edges-now;
+      edges = edges_now;
       lists = λ items laid. record {
-        edges = edges-now;
-        loops = joined-replaced es a.v a.a a.b a.n (linksOf a.list.now a.nexts.now a.heads.now a.owners.now a.spots.now
-            a.stretches.now) (linksOf c.join_places.new.list c.join_places.new.nexts c.join_places.new.heads
+        edges = edges_now;
+        loops = joined_replaced es a.v a.a a.b a.n (links_of a.list.now a.nexts.now a.heads.now a.owners.now a.spots.now
+            a.stretches.now) (links_of c.join_places.new.list c.join_places.new.nexts c.join_places.new.heads
             a.owners.now c.join_places.new.spots c.join_places.new.stretches) items pre.4.number c.join_places.ensures
             laid;
         corner = c.put.ensures;

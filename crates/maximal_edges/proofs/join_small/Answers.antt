@@ -1,4 +1,4 @@
-use Rattle.maximal_edges.specs.Hung.{blank-fit}
+use Rattle.maximal_edges.specs.Hung.{blank_fit}
 use Rattle.maximal_edges.specs.CountLaws.{blank}
 use lib.ListN.{length-replicate}
 use Prim.Native.Nat.{ℕ}
@@ -19,7 +19,7 @@ join_with-requires c =
       blank 64
           (omega arith),
       refl,
-      blank-fit a.rows.now a.count a.items.now a.stretches.now 64 (omega arith) pre.6,
+      blank_fit a.rows.now a.count a.items.now a.stretches.now 64 (omega arith) pre.6,
     )
 
 pub returns : goal.returns

@@ -1,4 +1,4 @@
-use Rattle.maximal_edges.specs.Hung.{can-link, linked-start}
+use Rattle.maximal_edges.specs.Hung.{can_link, linked_start}
 use lib.ListN.{length-take}
 use Prim.Native.Nat.{◌*◌}
 use native.Mathlib.Omega.{arith}
@@ -18,9 +18,9 @@ pub link_loops-requires : goal.link_loops-requires
 link_loops-requires c =
     let a = c.args in
     let pre = c.requires in (
-      can-link a.rows.now a.count a.items.now a.stretches.now a.list.now a.nexts.now a.heads.now a.owners.now a.spots.now
+      can_link a.rows.now a.count a.items.now a.stretches.now a.list.now a.nexts.now a.heads.now a.owners.now a.spots.now
           (omega (arith, pre.1)) pre.3 pre.8,
-      pre.8.heads-fit,
+      pre.8.heads_fit,
       pre.8.short,
     )
 
@@ -28,7 +28,7 @@ pub join_all-requires : goal.join_all-requires
 join_all-requires c =
     let a = c.args in
     let pre = c.requires in
-    let start = linked-start a.rows.now a.count a.items.now a.stretches.now a.list.now a.nexts.now a.heads.now
+    let start = linked_start a.rows.now a.count a.items.now a.stretches.now a.list.now a.nexts.now a.heads.now
     a.owners.now a.spots.now (omega (arith, pre.1)) pre.3 pre.8 c.link_loops.new.list c.link_loops.new.nexts
     c.link_loops.new.heads c.link_loops.new.owners c.link_loops.new.spots c.link_loops.auto.spots
     c.link_loops.ensures in (

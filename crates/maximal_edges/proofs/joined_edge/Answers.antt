@@ -1,9 +1,9 @@
-use Rattle.rules.specs.Join.{joinedEdge}
+use Rattle.rules.specs.Join.{joined_edge}
 use mathlib.Core.Bool.{true}
 use Rattle.maximal_edges.proofs.joined_edge.Goals as goal
 
 pub returns : goal.returns
-unfolding joinedEdge
+unfolding joined_edge
 returns c =
     let a = c.args in
     λ i. record {

@@ -12,9 +12,9 @@ join_small-requires c =
       small.0,
       record {
         sound = pre.6.sound;
-        edges-few = small.1;
-        items-few = small.2;
-        stretches-few = small.3;
+        edges_few = small.1;
+        items_few = small.2;
+        stretches_few = small.3;
       },
     )
 

@@ -1,13 +1,13 @@
 use Rattle.std.specs.Prelude.{◌≡◌, length}
 use Rattle.std.proofs.Common.{arith}
-use Rattle.members.specs.Group.{chain-at, group-next, size-start, size-step, size-few, size-end}
+use Rattle.members.specs.Group.{chain_at, group_next, size_start, size_step, size_few, size_end}
 use Rattle.members.proofs.group_size.Goals as goal
 
 pub loop-i-init : goal.loop-i-init
 loop-i-init c =
     let a = c.args in
     let leading = c.requires.1 in
-    (omega (arith, leading.inside), λ h. leading.own, size-start a.groups.now a.next.now a.m c.requires.0 leading)
+    (omega (arith, leading.inside), λ h. leading.own, size_start a.groups.now a.next.now a.m c.requires.0 leading)
 
 pub overflow_add-n : goal.overflow_add-n
 overflow_add-n c =
@@ -15,7 +15,7 @@ overflow_add-n c =
     let l = c.loop-i in
     omega (
       arith,
-      size-few a.groups.now a.next.now a.m c.requires.0 c.requires.1 l.n l.i l.invariant.2,
+      size_few a.groups.now a.next.now a.m c.requires.0 c.requires.1 l.n l.i l.invariant.2,
       c.loop-i-test.true,
       c.requires.0.few,
     )
@@ -26,11 +26,11 @@ loop-i-preserved c =
     let l = c.loop-i in
     let inside = c.loop-i-test.true in
     let own = l.invariant.1 inside in
-    let leads = chain-at a.groups.now a.next.now a.m c.requires.0 c.requires.1 l.i c.get-i.result inside c.get-i.ensures.0 in
-    let next = group-next a.groups.now a.next.now a.m c.requires.0 c.requires.1 l.i c.get-i.result inside own leads in (
+    let leads = chain_at a.groups.now a.next.now a.m c.requires.0 c.requires.1 l.i c.get-i.result inside c.get-i.ensures.0 in
+    let next = group_next a.groups.now a.next.now a.m c.requires.0 c.requires.1 l.i c.get-i.result inside own leads in (
       next.1,
       next.2,
-      size-step a.groups.now a.next.now a.m c.requires.0 c.requires.1 l.n l.i c.get-i.result l.invariant.2 own leads
+      size_step a.groups.now a.next.now a.m c.requires.0 c.requires.1 l.n l.i c.get-i.result l.invariant.2 own leads
           next.0,
     )
 
@@ -39,8 +39,8 @@ loop-i-smaller c =
     let a = c.args in
     let l = c.loop-i in
     let inside = c.loop-i-test.true in
-    let leads = chain-at a.groups.now a.next.now a.m c.requires.0 c.requires.1 l.i c.get-i.result inside c.get-i.ensures.0 in
-    let next = group-next a.groups.now a.next.now a.m c.requires.0 c.requires.1 l.i c.get-i.result inside
+    let leads = chain_at a.groups.now a.next.now a.m c.requires.0 c.requires.1 l.i c.get-i.result inside c.get-i.ensures.0 in
+    let next = group_next a.groups.now a.next.now a.m c.requires.0 c.requires.1 l.i c.get-i.result inside
     (l.invariant.1 inside) leads in
     omega (arith, inside, next.0, next.1)
 
@@ -49,10 +49,10 @@ returns c =
     let a = c.args in
     let l = c.loop-i in
     let all : l.i ≡ length a.groups.now = omega (arith, l.invariant.0, c.loop-i-test.false) in (
-      size-end a.groups.now a.next.now a.m c.requires.0 c.requires.1 l.n l.i l.invariant.2 all,
+      size_end a.groups.now a.next.now a.m c.requires.0 c.requires.1 l.n l.i l.invariant.2 all,
       omega (
         arith,
-        size-few a.groups.now a.next.now a.m c.requires.0 c.requires.1 l.n l.i l.invariant.2,
+        size_few a.groups.now a.next.now a.m c.requires.0 c.requires.1 l.n l.i l.invariant.2,
         l.invariant.0,
         c.requires.0.few,
       ),

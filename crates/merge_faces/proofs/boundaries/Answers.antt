@@ -1,5 +1,5 @@
-use Rattle.merge_faces.specs.MergingLaws.{boundaries-are}
-use Rattle.uses.specs.Table.{usesIn}
+use Rattle.merge_faces.specs.MergingLaws.{boundaries_are}
+use Rattle.uses.specs.Table.{uses_in}
 use Prim.Native.Nat.{◌-◌}
 use lib.ListN.{length}
 use Rattle.merge_faces.proofs.boundaries.Goals as goal
@@ -10,5 +10,5 @@ returns c = let a = c.args in
     let alone = c.new-alone in
     let joined = c.join_pairs-joined in
     let count = c.count in
-    boundaries-are (usesIn a.uses.now) a.twins.now n (256 - n) count.result alone.result.parents joined.result.parents
+    boundaries_are (uses_in a.uses.now) a.twins.now n (256 - n) count.result alone.result.parents joined.result.parents
     c.labels_of.new.labels alone.ensures joined.ensures count.ensures c.labels_of.ensures

@@ -1,7 +1,7 @@
 use mathlib.Core.Path.{refl, sym, ◌∙◌}
-use Rattle.merge_faces.specs.MergingLaws.{merging-start, merging-few, merging-step, merging-stop, merging-end, length-faces}
-use Rattle.job.specs.Lists.{facesIn, answersIn}
-use Rattle.uses.specs.Table.{usesIn}
+use Rattle.merge_faces.specs.MergingLaws.{merging_start, merging_few, merging_step, merging_stop, merging_end, length_faces}
+use Rattle.job.specs.Lists.{faces_in, answers_in}
+use Rattle.uses.specs.Table.{uses_in}
 use lib.ListN.{length}
 use native.Mathlib.Omega.{arith}
 use Rattle.merge_faces.proofs.merge_faces.Goals as goal
@@ -11,9 +11,9 @@ loop-h-init c =
     let a = c.args in (
       omega arith,
       refl,
-      merging-start (answersIn a.job.now a.index.now a.c) (facesIn a.job.now a.index.now a.c) (usesIn a.uses.now)
+      merging_start (answers_in a.job.now a.index.now a.c) (faces_in a.job.now a.index.now a.c) (uses_in a.uses.now)
           a.twins.now
-          c.alone.new.parents (length a.labels.now) (c.requires.2 ∙ sym (length-faces a.job.now a.index.now a.c))
+          c.alone.new.parents (length a.labels.now) (c.requires.2 ∙ sym (length_faces a.job.now a.index.now a.c))
           c.alone.ensures.1,
     )
 
@@ -27,7 +27,7 @@ returns-in-Refused c =
     let l = c.loop-h in
     let a = c.args in
     let u = c.merge_use-r in
-    merging-stop (answersIn a.job.now a.index.now a.c) (facesIn a.job.now a.index.now a.c) (usesIn a.uses.now)
+    merging_stop (answers_in a.job.now a.index.now a.c) (faces_in a.job.now a.index.now a.c) (uses_in a.uses.now)
     a.twins.now l.labels
     u.new.labels l.joins l.h l.invariant.2 (omega (arith, c.count-n.ensures)) u.result _ _ c.in-Refused.is u.ensures
 
@@ -38,7 +38,7 @@ overflow_add-joins c =
     let u = c.merge_use-r in
     omega (
       arith,
-      merging-few (answersIn a.job.now a.index.now a.c) (facesIn a.job.now a.index.now a.c) (usesIn a.uses.now)
+      merging_few (answers_in a.job.now a.index.now a.c) (faces_in a.job.now a.index.now a.c) (uses_in a.uses.now)
           a.twins.now
           l.labels u.new.labels l.joins l.h l.invariant.2 u.result _ c.in-Done.is u.ensures,
       c.count-n.ensures,
@@ -52,7 +52,7 @@ loop-h-preserved c =
     let u = c.merge_use-r in (
       omega arith,
       c.labels-in-loop-h-1.given ∙ l.invariant.1,
-      merging-step (answersIn a.job.now a.index.now a.c) (facesIn a.job.now a.index.now a.c) (usesIn a.uses.now)
+      merging_step (answers_in a.job.now a.index.now a.c) (faces_in a.job.now a.index.now a.c) (uses_in a.uses.now)
           a.twins.now l.labels
           u.new.labels l.joins l.h l.invariant.2 (omega (arith, c.count-n.ensures)) u.result _ c.in-Done.is u.ensures,
     )
@@ -61,6 +61,6 @@ pub returns : goal.returns
 returns c =
     let l = c.loop-h in
     let a = c.args in
-    merging-end (answersIn a.job.now a.index.now a.c) (facesIn a.job.now a.index.now a.c) (usesIn a.uses.now)
+    merging_end (answers_in a.job.now a.index.now a.c) (faces_in a.job.now a.index.now a.c) (uses_in a.uses.now)
     a.twins.now l.labels
     c.settle.new.parents l.joins l.h l.invariant.2 (omega (arith, c.count-n.ensures)) c.settle.ensures

@@ -1,7 +1,7 @@
-use Rattle.pair.specs.EdgeLaws.{round-refused, round-other, round-lacks, round-on}
+use Rattle.pair.specs.EdgeLaws.{round_refused, round_other, round_lacks, round_on}
 use Rattle.ask.specs.Told.{Order32}
-use Rattle.job.specs.Lists.{answersIn}
-use Rattle.uses.specs.Table.{usesIn}
+use Rattle.job.specs.Lists.{answers_in}
+use Rattle.uses.specs.Table.{uses_in}
 use native.Mathlib.Omega.{arith}
 use mathlib.Core.Path.{◌∙◌, subst}
 use Rattle.pair.proofs.pair_round.Goals as goal
@@ -12,9 +12,9 @@ ask_radial-o-requires c = (c.requires.0, omega arith)
 pub returns-then-n-k : goal.returns-then-n-k
 returns-then-n-k c =
     let a = c.args in
-    let ask-radial-call = c.ask_radial-o in
-    round-other a.job.now (answersIn a.job.now a.index.now a.c) (usesIn a.uses.now) a.e a.twins.now
-    ask-radial-call.result ask-radial-call.ensures.0 _ _ c.in-Uses.is a.k c.requires.4 c.if-n-k.true
+    let ask_radial_call = c.ask_radial-o in
+    round_other a.job.now (answers_in a.job.now a.index.now a.c) (uses_in a.uses.now) a.e a.twins.now
+    ask_radial_call.result ask_radial_call.ensures.0 _ _ c.in-Uses.is a.k c.requires.4 c.if-n-k.true
 
 pub has_all-requires : goal.has_all-requires
 has_all-requires c =
@@ -30,25 +30,25 @@ pub returns-then-has_all : goal.returns-then-has_all
 returns-then-has_all c =
     let a = c.args in
     let pre = c.requires in
-    let ask-radial-call = c.ask_radial-o in
-    let has-all-call = c.has_all in
-    c.take_predecessors.ensures ∙ round-on a.job.now (answersIn a.job.now a.index.now a.c) (usesIn a.uses.now) a.e
-    a.twins.now ask-radial-call.result ask-radial-call.ensures.0 _ _ c.in-Uses.is a.firsts.now a.nexts.now pre.1
-    pre.2 has-all-call.result has-all-call.ensures c.if-has_all.true a.k pre.4 c.if-n-k.false
+    let ask_radial_call = c.ask_radial-o in
+    let has_all_call = c.has_all in
+    c.take_predecessors.ensures ∙ round_on a.job.now (answers_in a.job.now a.index.now a.c) (uses_in a.uses.now) a.e
+    a.twins.now ask_radial_call.result ask_radial_call.ensures.0 _ _ c.in-Uses.is a.firsts.now a.nexts.now pre.1
+    pre.2 has_all_call.result has_all_call.ensures c.if-has_all.true a.k pre.4 c.if-n-k.false
 
 pub returns-in-Refused : goal.returns-in-Refused
 returns-in-Refused c =
     let a = c.args in
-    let ask-radial-call = c.ask_radial-o in
-    round-refused a.job.now (answersIn a.job.now a.index.now a.c) (usesIn a.uses.now) a.e a.twins.now
-    ask-radial-call.result ask-radial-call.ensures.0 _ _ c.in-Refused.is
+    let ask_radial_call = c.ask_radial-o in
+    round_refused a.job.now (answers_in a.job.now a.index.now a.c) (uses_in a.uses.now) a.e a.twins.now
+    ask_radial_call.result ask_radial_call.ensures.0 _ _ c.in-Refused.is
 
 pub returns-else-has_all : goal.returns-else-has_all
 returns-else-has_all c =
     let a = c.args in
     let pre = c.requires in
-    let ask-radial-call = c.ask_radial-o in
-    let has-all-call = c.has_all in
-    round-lacks a.job.now (answersIn a.job.now a.index.now a.c) (usesIn a.uses.now) a.e a.twins.now
-    ask-radial-call.result ask-radial-call.ensures.0 _ _ c.in-Uses.is a.firsts.now a.nexts.now pre.1 pre.2
-    has-all-call.result has-all-call.ensures c.if-has_all.false
+    let ask_radial_call = c.ask_radial-o in
+    let has_all_call = c.has_all in
+    round_lacks a.job.now (answers_in a.job.now a.index.now a.c) (uses_in a.uses.now) a.e a.twins.now
+    ask_radial_call.result ask_radial_call.ensures.0 _ _ c.in-Uses.is a.firsts.now a.nexts.now pre.1 pre.2
+    has_all_call.result has_all_call.ensures c.if-has_all.false

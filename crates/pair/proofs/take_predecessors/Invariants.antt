@@ -1,17 +1,17 @@
 use Rattle.pair.specs.OrderLaws.{rest}
-use Rattle.rules.specs.Pair.{takePredecessors, lastOf}
+use Rattle.rules.specs.Pair.{take_predecessors, last_of}
 use lib.ListN.{length, drop}
 use Prim.Native.Nat.{◌-◌, ◌<◌, ◌≤◌}
-use Rattle.uses.specs.Table.{usesIn}
-use Rattle.rules.specs.Fields.{fieldsIn}
+use Rattle.uses.specs.Table.{uses_in}
+use Rattle.rules.specs.Fields.{fields_in}
 use mathlib.Core.Path.{◌≡◌}
 use Rattle.pair.proofs.take_predecessors.Given as goal
 
 abbrev pub invariant-loop-i : goal.invariant-loop-i
 invariant-loop-i l =
     (l.i ≤ l.n) × (l.p < 4294967296) × (length l.twins ≡ length l.initial.twins) ×
-    (takePredecessors (usesIn l.uses) l.e (lastOf 0 (fieldsIn l.n (drop l.from l.job)))
-    (fieldsIn l.n (drop l.from l.job)) l.initial.twins ≡ takePredecessors (usesIn l.uses) l.e l.p
+    (take_predecessors (uses_in l.uses) l.e (last_of 0 (fields_in l.n (drop l.from l.job)))
+    (fields_in l.n (drop l.from l.job)) l.initial.twins ≡ take_predecessors (uses_in l.uses) l.e l.p
     (rest l.job l.from l.n l.i) l.twins)
 
 abbrev pub decreases-loop-i : goal.decreases-loop-i

@@ -1,4 +1,4 @@
-use Rattle.lists.specs.Cyclic.{nextPlace, next-wraps, next-on}
+use Rattle.lists.specs.Cyclic.{next_place, next_wraps, next_on}
 use Prim.Native.Nat.{suc}
 use native.Mathlib.Omega.{arith}
 use mathlib.Core.Path.{◌≡◌}
@@ -7,11 +7,11 @@ use Rattle.read.proofs.next_of.Goals as goal
 pub returns-then-i-n : goal.returns-then-i-n
 returns-then-i-n c =
     let a = c.args in
-    let e : nextPlace a.i a.n ≡ 0 = next-wraps a.i a.n (omega arith) in
+    let e : next_place a.i a.n ≡ 0 = next_wraps a.i a.n (omega arith) in
     (omega arith, omega arith)
 
 pub returns : goal.returns
 returns c =
     let a = c.args in
-    let e : nextPlace a.i a.n ≡ suc a.i = next-on a.i a.n (omega arith) in
+    let e : next_place a.i a.n ≡ suc a.i = next_on a.i a.n (omega arith) in
     (omega arith, omega arith)

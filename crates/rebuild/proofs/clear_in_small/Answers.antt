@@ -1,19 +1,19 @@
 use mathlib.Core.Path.{sym, ap, ◌∙◌}
-use Rattle.rules.specs.Contact.{edgesClear}
-use Rattle.uses.specs.Table.{usesIn}
-use Rattle.progress.specs.Parts.{zeros, part-size}
-use Rattle.rebuild.specs.Sizes.{chain-room}
+use Rattle.rules.specs.Contact.{edges_clear}
+use Rattle.uses.specs.Table.{uses_in}
+use Rattle.progress.specs.Parts.{zeros, part_size}
+use Rattle.rebuild.specs.Sizes.{chain_room}
 use native.Mathlib.Omega.{arith}
 use Rattle.rebuild.proofs.clear_in_small.Goals as goal
 
 pub clear_linked-requires : goal.clear_linked-requires
 unfolding zeros
 clear_linked-requires c =
-    chain-room c.args.edges c.count-n.result 64 64 (usesIn c.args.uses.now) c.args.labels.now c.requires.0 (omega arith)
+    chain_room c.args.edges c.count-n.result 64 64 (uses_in c.args.uses.now) c.args.labels.now c.requires.0 (omega arith)
     c.count-n.ensures c.requires.1 (omega arith) c.requires.2
 
 pub returns : goal.returns
 unfolding zeros
 returns c =
-    c.clear_linked.ensures ∙ ap (edgesClear c.args.number (usesIn c.args.uses.now) c.args.twins.now c.args.labels.now)
-    (sym (part-size c.args.edges 64 c.requires.0))
+    c.clear_linked.ensures ∙ ap (edges_clear c.args.number (uses_in c.args.uses.now) c.args.twins.now c.args.labels.now)
+    (sym (part_size c.args.edges 64 c.requires.0))

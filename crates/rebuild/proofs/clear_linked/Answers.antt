@@ -1,9 +1,9 @@
 use mathlib.Core.Path.{ap, ◌∙◌}
-use Rattle.rules.specs.Contact.{edgesClear}
-use Rattle.uses.specs.Table.{usesIn}
+use Rattle.rules.specs.Contact.{edges_clear}
+use Rattle.uses.specs.Table.{uses_in}
 use Rattle.rebuild.proofs.clear_linked.Goals as goal
 
 pub returns : goal.returns
 returns c =
-    c.edges_clear.ensures ∙ ap (edgesClear c.args.number (usesIn c.args.uses.now) c.args.twins.now c.args.labels.now)
+    c.edges_clear.ensures ∙ ap (edges_clear c.args.number (uses_in c.args.uses.now) c.args.twins.now c.args.labels.now)
     c.link.auto.firsts

@@ -1,4 +1,4 @@
-use Rattle.records.specs.Permitted.{exist-not, exist-on, exist-none}
+use Rattle.records.specs.Permitted.{exist_not, exist_on, exist_none}
 use mathlib.Core.Path.{refl, sym, ◌∙◌}
 use native.Mathlib.Omega.{arith}
 use Rattle.records.proofs.all_exist.Goals as goal
@@ -11,7 +11,7 @@ word-requires c = omega arith
 
 pub returns-then-count-word : goal.returns-then-count-word
 returns-then-count-word c =
-    sym (c.loop-left.invariant.1 ∙ exist-not c.loop-left.left c.args.count c.args.job.now c.loop-left.p c.word.result
+    sym (c.loop-left.invariant.1 ∙ exist_not c.loop-left.left c.args.count c.args.job.now c.loop-left.p c.word.result
     c.loop-left-test.true c.word.ensures.0 c.if-count-word.true)
 
 pub overflow_add-p : goal.overflow_add-p
@@ -26,11 +26,11 @@ loop-left-smaller c = omega arith
 pub loop-left-preserved : goal.loop-left-preserved
 loop-left-preserved c = (
   omega arith,
-  c.loop-left.invariant.1 ∙ exist-on c.loop-left.left c.args.count c.args.job.now c.loop-left.p
+  c.loop-left.invariant.1 ∙ exist_on c.loop-left.left c.args.count c.args.job.now c.loop-left.p
       c.word.result c.loop-left-test.true c.word.ensures.0 c.if-count-word.false,
 )
 
 pub returns : goal.returns
 returns c =
-    sym (c.loop-left.invariant.1 ∙ exist-none c.loop-left.left c.args.count c.args.job.now c.loop-left.p
+    sym (c.loop-left.invariant.1 ∙ exist_none c.loop-left.left c.args.count c.args.job.now c.loop-left.p
     c.loop-left-test.false)

@@ -1,5 +1,5 @@
 use Rattle.rules.specs.Kinds.{exists}
-use Rattle.rules.specs.Fields.{fieldsIn}
+use Rattle.rules.specs.Fields.{fields_in}
 use Rattle.lists.specs.Lists.{all}
 use lib.ListN.{drop}
 use Prim.Native.Nat.{◌+◌, ◌*◌}
@@ -8,8 +8,8 @@ use Rattle.records.proofs.all_exist.Given as goal
 
 abbrev pub invariant-loop-left : goal.invariant-loop-left
 invariant-loop-left l =
-    (l.p + 4 * l.left ≡ l.from + 4 * l.n) × (all (exists l.count) (fieldsIn l.n (drop l.from l.job)) ≡ all
-    (exists l.count) (fieldsIn l.left (drop l.p l.job)))
+    (l.p + 4 * l.left ≡ l.from + 4 * l.n) × (all (exists l.count) (fields_in l.n (drop l.from l.job)) ≡ all
+    (exists l.count) (fields_in l.left (drop l.p l.job)))
 
 abbrev pub decreases-loop-left : goal.decreases-loop-left
 decreases-loop-left l = l.left

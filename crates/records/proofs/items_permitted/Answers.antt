@@ -1,4 +1,4 @@
-use Rattle.records.specs.Permitted.{permit-edge, permit-sense, permit-on, permit-none}
+use Rattle.records.specs.Permitted.{permit_edge, permit_sense, permit_on, permit_none}
 use mathlib.Core.Path.{refl, sym, ◌∙◌}
 use native.Mathlib.Omega.{arith}
 use Rattle.records.proofs.items_permitted.Goals as goal
@@ -11,7 +11,7 @@ word-requires c = omega arith
 
 pub returns-then-edges-word : goal.returns-then-edges-word
 returns-then-edges-word c =
-    sym (c.loop-left.invariant.1 ∙ permit-edge c.loop-left.left c.args.edges c.args.job.now c.loop-left.p c.word.result
+    sym (c.loop-left.invariant.1 ∙ permit_edge c.loop-left.left c.args.edges c.args.job.now c.loop-left.p c.word.result
     c.loop-left-test.true c.word.ensures.0 c.if-edges-word.true)
 
 pub overflow_add-p : goal.overflow_add-p
@@ -22,7 +22,7 @@ word-requires-in-loop-left c = omega arith
 
 pub returns-then-word-gt1 : goal.returns-then-word-gt1
 returns-then-word-gt1 c =
-    sym (c.loop-left.invariant.1 ∙ permit-sense c.loop-left.left c.args.edges c.args.job.now c.loop-left.p
+    sym (c.loop-left.invariant.1 ∙ permit_sense c.loop-left.left c.args.edges c.args.job.now c.loop-left.p
     c.word-in-loop-left.result c.loop-left-test.true c.word-in-loop-left.ensures.0 c.if-word-gt1.true)
 
 pub overflow_add-p-in-loop-left : goal.overflow_add-p-in-loop-left
@@ -37,12 +37,12 @@ loop-left-smaller c = omega arith
 pub loop-left-preserved : goal.loop-left-preserved
 loop-left-preserved c = (
   omega arith,
-  c.loop-left.invariant.1 ∙ permit-on c.loop-left.left c.args.edges c.args.job.now c.loop-left.p
+  c.loop-left.invariant.1 ∙ permit_on c.loop-left.left c.args.edges c.args.job.now c.loop-left.p
       c.word.result c.word-in-loop-left.result c.loop-left-test.true c.word.ensures.0 c.if-edges-word.false
       c.word-in-loop-left.ensures.0 c.if-word-gt1.false,
 )
 
 pub returns : goal.returns
 returns c =
-    sym (c.loop-left.invariant.1 ∙ permit-none c.loop-left.left c.args.edges c.args.job.now c.loop-left.p
+    sym (c.loop-left.invariant.1 ∙ permit_none c.loop-left.left c.args.edges c.args.job.now c.loop-left.p
     c.loop-left-test.false)

@@ -1,6 +1,6 @@
-use Rattle.records.specs.Joints.{jointsFrom, allJoints}
-use Rattle.job.specs.Lists.{pointsIn, edgesIn}
-use Rattle.rules.specs.Job.{ofRing, endPoint, itemAt}
+use Rattle.records.specs.Joints.{joints_from, all_joints}
+use Rattle.job.specs.Lists.{points_in, edges_in}
+use Rattle.rules.specs.Job.{of_ring, end_point, item_at}
 use Prim.Native.Nat.{◌+◌, ◌*◌}
 use mathlib.Core.Path.{◌≡◌}
 use mathlib.Core.Bool.{false}
@@ -8,10 +8,10 @@ use Rattle.records.proofs.joined.Given as goal
 
 abbrev pub invariant-loop-left : goal.invariant-loop-left
 invariant-loop-left l = (l.p + 8 * l.left + 8 ≡ l.body + 8 * l.n)
-    × (ofRing (edgesIn l.job l.c) (itemAt l.job l.p) ≡ false)
-    × (l.end ≡ endPoint (pointsIn l.job l.c) (edgesIn l.job l.c) (itemAt l.job l.p))
-    × (allJoints (pointsIn l.job l.c) (edgesIn l.job l.c) l.job l.body l.n ≡ jointsFrom (pointsIn l.job l.c)
-    (edgesIn l.job l.c) l.job l.body l.p l.left)
+    × (of_ring (edges_in l.job l.c) (item_at l.job l.p) ≡ false)
+    × (l.end ≡ end_point (points_in l.job l.c) (edges_in l.job l.c) (item_at l.job l.p))
+    × (all_joints (points_in l.job l.c) (edges_in l.job l.c) l.job l.body l.n ≡ joints_from (points_in l.job l.c)
+    (edges_in l.job l.c) l.job l.body l.p l.left)
 
 abbrev pub decreases-loop-left : goal.decreases-loop-left
 decreases-loop-left l = l.left

@@ -1,8 +1,8 @@
-use Rattle.rules.specs.Kinds.{numberOf, partOf}
+use Rattle.rules.specs.Kinds.{number_of, part_of}
 use Rattle.rules.specs.Load.{counted}
 use mathlib.Core.Path.{refl}
 use Rattle.records.proofs.more_answers.Goals as goal
 
 pub returns : goal.returns
-unfolding counted numberOf partOf
+unfolding counted number_of part_of
 returns c = refl

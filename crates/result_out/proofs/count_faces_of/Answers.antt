@@ -1,5 +1,5 @@
-use Rattle.stages_out.specs.Writing.{place-after}
-use Rattle.rules.specs.Shells.{shellFaces}
+use Rattle.stages_out.specs.Writing.{place_after_lem}
+use Rattle.rules.specs.Shells.{shell_faces}
 use native.Mathlib.Omega.{arith}
 use Rattle.result_out.proofs.count_faces_of.Goals as goal
 
@@ -8,6 +8,6 @@ returns c =
     let a = c.args in
     omega (
       arith,
-      place-after (shellFaces a.boundaries.now a.members.now a.b) _ _ 0 c.put_faces_of.result
+      place_after_lem (shell_faces a.boundaries.now a.members.now a.b) _ _ 0 c.put_faces_of.result
           c.put_faces_of.ensures,
     )

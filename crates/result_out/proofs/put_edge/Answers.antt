@@ -1,5 +1,5 @@
-use Rattle.result_out.specs.EdgeLaws.{edge-row}
-use Rattle.stages_out.specs.Writing.{place-after}
+use Rattle.result_out.specs.EdgeLaws.{edge_row_lem}
+use Rattle.stages_out.specs.Writing.{place_after_lem}
 use mathlib.Core.List.{[], ◌∷◌}
 use native.Mathlib.Omega.{arith}
 use Rattle.result_out.proofs.put_edge.Goals as goal
@@ -10,7 +10,7 @@ put_two-q-requires c =
     omega (
       arith,
       c.requires,
-      place-after (c.wide.result ∷ c.sense_number-sense.result ∷ []) a.out.now
+      place_after_lem (c.wide.result ∷ c.sense_number-sense.result ∷ []) a.out.now
           c.put_two-p.new.out a.at c.put_two-p.result c.put_two-p.ensures,
     )
 
@@ -20,9 +20,9 @@ put_two-r-requires c =
     omega (
       arith,
       c.requires,
-      place-after (c.wide.result ∷ c.sense_number-sense.result ∷ []) a.out.now
+      place_after_lem (c.wide.result ∷ c.sense_number-sense.result ∷ []) a.out.now
           c.put_two-p.new.out a.at c.put_two-p.result c.put_two-p.ensures,
-      place-after
+      place_after_lem
           (c.wide-2.result ∷ c.wide-3.result ∷ []) c.put_two-p.new.out c.put_two-q.new.out c.put_two-p.result
           c.put_two-q.result c.put_two-q.ensures,
     )
@@ -33,12 +33,12 @@ put_word-requires c =
     omega (
       arith,
       c.requires,
-      place-after (c.wide.result ∷ c.sense_number-sense.result ∷ []) a.out.now
+      place_after_lem (c.wide.result ∷ c.sense_number-sense.result ∷ []) a.out.now
           c.put_two-p.new.out a.at c.put_two-p.result c.put_two-p.ensures,
-      place-after
+      place_after_lem
           (c.wide-2.result ∷ c.wide-3.result ∷ []) c.put_two-p.new.out c.put_two-q.new.out c.put_two-p.result
           c.put_two-q.result c.put_two-q.ensures,
-      place-after (c.wide-low.result ∷ c.wide-high.result ∷ [])
+      place_after_lem (c.wide-low.result ∷ c.wide-high.result ∷ [])
           c.put_two-q.new.out c.put_two-r.new.out c.put_two-q.result c.put_two-r.result c.put_two-r.ensures,
     )
 
@@ -46,7 +46,7 @@ pub returns : goal.returns
 returns c =
     let a = c.args in
     let x = c.edge_at-x.result in
-    edge-row a.rows.now a.out.now c.put_two-p.new.out c.put_two-q.new.out c.put_two-r.new.out c.put_word.new.out a.at
+    edge_row_lem a.rows.now a.out.now c.put_two-p.new.out c.put_two-q.new.out c.put_two-r.new.out c.put_word.new.out a.at
     c.put_two-p.result c.put_two-q.result c.put_two-r.result c.put_word.result a.e c.wide.result
     c.sense_number-sense.result c.wide-2.result c.wide-3.result c.wide-low.result c.wide-high.result
     c.flag_number-active.result x c.edge_at-x.ensures c.wide.ensures c.sense_number-sense.ensures.0 c.wide-2.ensures

@@ -1,8 +1,8 @@
-use Rattle.result_out.specs.Writing.{fan-there, fan-none}
-use Rattle.stages_out.specs.Writing.{place-after}
+use Rattle.result_out.specs.Writing.{fan_there, fan_none}
+use Rattle.stages_out.specs.Writing.{place_after_lem}
 use mathlib.Core.List.{[], ◌∷◌}
-use Rattle.uses.specs.Table.{usesIn}
-use Rattle.job.specs.Lists.{edgesIn}
+use Rattle.uses.specs.Table.{uses_in}
+use Rattle.job.specs.Lists.{edges_in}
 use native.Mathlib.Omega.{arith}
 use Rattle.result_out.proofs.put_fan.Goals as goal
 
@@ -12,14 +12,14 @@ put_word-requires c =
     omega (
       arith,
       c.requires.2,
-      place-after (a.h ∷ c.get-fan.result ∷ []) a.out.now c.put_two-p.new.out a.at
+      place_after_lem (a.h ∷ c.get-fan.result ∷ []) a.out.now c.put_two-p.new.out a.at
           c.put_two-p.result c.put_two-p.ensures,
     )
 
 pub returns-then-kept_with_ends : goal.returns-then-kept_with_ends
 returns-then-kept_with_ends c =
     let a = c.args in
-    fan-there (edgesIn a.job.now a.c) (usesIn a.uses.now) a.removed.now a.fans.now a.starts.now a.out.now
+    fan_there (edges_in a.job.now a.c) (uses_in a.uses.now) a.removed.now a.fans.now a.starts.now a.out.now
     c.put_two-p.new.out c.put_word.new.out a.at c.put_two-p.result c.put_word.result a.h c.get-fan.result
     c.get-point.result
     c.kept_with_ends.result c.kept_with_ends.ensures c.if-kept_with_ends.true c.get-fan.ensures.0 c.get-point.ensures.0
@@ -28,5 +28,5 @@ returns-then-kept_with_ends c =
 pub returns : goal.returns
 returns c =
     let a = c.args in
-    fan-none (edgesIn a.job.now a.c) (usesIn a.uses.now) a.removed.now a.fans.now a.starts.now a.out.now a.at a.h
+    fan_none (edges_in a.job.now a.c) (uses_in a.uses.now) a.removed.now a.fans.now a.starts.now a.out.now a.at a.h
     c.kept_with_ends.result c.kept_with_ends.ensures c.if-kept_with_ends.false

@@ -1,7 +1,7 @@
-use Rattle.result_out.specs.Writing.{rowed-start, rowed-step, rowed-end, fan-short, fan-rows-all}
-use Rattle.result_out.specs.Rows.{fanOr, fanRows}
-use Rattle.uses.specs.Table.{usesIn}
-use Rattle.job.specs.Lists.{edgesIn}
+use Rattle.result_out.specs.Writing.{rowed_start, rowed_step, rowed_end, fan_short, fan_rows_all}
+use Rattle.result_out.specs.Rows.{fan_or, fan_rows}
+use Rattle.uses.specs.Table.{uses_in}
+use Rattle.job.specs.Lists.{edges_in}
 use native.Mathlib.Omega.{arith}
 use Rattle.result_out.proofs.put_fans.Goals as goal
 
@@ -10,7 +10,7 @@ loop-h-init c =
     let a = c.args in (
       c.count-n.ensures,
       omega arith,
-      rowed-start (fanOr (edgesIn a.job.now a.c) (usesIn a.uses.now) a.removed.now
+      rowed_start (fan_or (edges_in a.job.now a.c) (uses_in a.uses.now) a.removed.now
           a.fans.now a.starts.now) 3 a.out.now 0,
     )
 
@@ -33,9 +33,9 @@ loop-h-preserved c =
     let l = c.loop-h in (
       l.invariant.0,
       omega arith,
-      rowed-step (fanOr (edgesIn a.job.now a.c) (usesIn a.uses.now) a.removed.now a.fans.now a.starts.now) 3 a.out.now 0
+      rowed_step (fan_or (edges_in a.job.now a.c) (uses_in a.uses.now) a.removed.now a.fans.now a.starts.now) 3 a.out.now 0
           l.out c.put_fan-p.new.out l.p l.h c.put_fan-p.result
-          (fan-short (edgesIn a.job.now a.c) (usesIn a.uses.now) a.removed.now a.fans.now a.starts.now l.h)
+          (fan_short (edges_in a.job.now a.c) (uses_in a.uses.now) a.removed.now a.fans.now a.starts.now l.h)
           l.invariant.2 c.put_fan-p.ensures,
     )
 
@@ -43,7 +43,7 @@ pub returns : goal.returns
 returns c =
     let a = c.args in
     let l = c.loop-h in
-    rowed-end (fanOr (edgesIn a.job.now a.c) (usesIn a.uses.now) a.removed.now a.fans.now a.starts.now) 3 a.out.now 0
-    (fanRows (edgesIn a.job.now a.c) (usesIn a.uses.now) a.removed.now a.fans.now a.starts.now) l.out l.p l.h
-    (fan-rows-all (edgesIn a.job.now a.c) (usesIn a.uses.now) a.removed.now a.fans.now a.starts.now l.h
+    rowed_end (fan_or (edges_in a.job.now a.c) (uses_in a.uses.now) a.removed.now a.fans.now a.starts.now) 3 a.out.now 0
+    (fan_rows (edges_in a.job.now a.c) (uses_in a.uses.now) a.removed.now a.fans.now a.starts.now) l.out l.p l.h
+    (fan_rows_all (edges_in a.job.now a.c) (uses_in a.uses.now) a.removed.now a.fans.now a.starts.now l.h
     (omega (arith, l.invariant.0, l.invariant.1))) l.invariant.2

@@ -1,5 +1,5 @@
-use Rattle.result_out.specs.EdgeLaws.{loop-row}
-use Rattle.stages_out.specs.Writing.{place-after}
+use Rattle.result_out.specs.EdgeLaws.{loop_row_lem}
+use Rattle.stages_out.specs.Writing.{place_after_lem}
 use lib.ListN.{length}
 use mathlib.Core.List.{[], ◌∷◌}
 use native.Mathlib.Omega.{arith}
@@ -12,7 +12,7 @@ put_items-requires c =
       omega (
         arith,
         c.requires.1,
-        place-after (a.face ∷ length a.part.now ∷ []) a.out.now
+        place_after_lem (a.face ∷ length a.part.now ∷ []) a.out.now
             c.put_two-p.new.out a.at c.put_two-p.result c.put_two-p.ensures,
       ),
     )
@@ -20,5 +20,5 @@ put_items-requires c =
 pub returns : goal.returns
 returns c =
     let a = c.args in
-    loop-row a.face a.part.now a.out.now c.put_two-p.new.out c.put_items.new.out a.at c.put_two-p.result
+    loop_row_lem a.face a.part.now a.out.now c.put_two-p.new.out c.put_items.new.out a.at c.put_two-p.result
     c.put_items.result c.put_two-p.ensures c.put_items.ensures

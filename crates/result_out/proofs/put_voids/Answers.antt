@@ -1,13 +1,13 @@
-use Rattle.result_out.specs.LumpLaws.{void-short, void-rows-all}
-use Rattle.result_out.specs.Writing.{rowed-start, rowed-step, rowed-end}
-use Rattle.result_out.specs.Rows.{voidOr, voidRows}
+use Rattle.result_out.specs.LumpLaws.{void_short, void_rows_all}
+use Rattle.result_out.specs.Writing.{rowed_start, rowed_step, rowed_end}
+use Rattle.result_out.specs.Rows.{void_or, void_rows}
 use native.Mathlib.Omega.{arith}
 use Rattle.result_out.proofs.put_voids.Goals as goal
 
 pub loop-k-init : goal.loop-k-init
 loop-k-init c =
     let a = c.args in
-    (omega arith, rowed-start (voidOr a.boundaries.now a.members.now a.table.now a.home a.number) 258 a.out.now a.at)
+    (omega arith, rowed_start (void_or a.boundaries.now a.members.now a.table.now a.home a.number) 258 a.out.now a.at)
 
 pub put_void-p-requires : goal.put_void-p-requires
 put_void-p-requires c = (
@@ -22,9 +22,9 @@ loop-k-preserved c =
     let a = c.args in
     let l = c.loop-k in (
       omega arith,
-      rowed-step (voidOr a.boundaries.now a.members.now a.table.now a.home a.number) 258 a.out.now a.at l.out
+      rowed_step (void_or a.boundaries.now a.members.now a.table.now a.home a.number) 258 a.out.now a.at l.out
           c.put_void-p.new.out l.p l.k c.put_void-p.result
-          (void-short a.boundaries.now a.members.now a.table.now a.home a.number l.k c.requires.0) l.invariant.1
+          (void_short a.boundaries.now a.members.now a.table.now a.home a.number l.k c.requires.0) l.invariant.1
           c.put_void-p.ensures,
     )
 
@@ -32,6 +32,6 @@ pub returns : goal.returns
 returns c =
     let a = c.args in
     let l = c.loop-k in
-    rowed-end (voidOr a.boundaries.now a.members.now a.table.now a.home a.number) 258 a.out.now a.at
-    (voidRows a.boundaries.now a.members.now a.table.now a.n a.home a.number) l.out l.p l.k
-    (void-rows-all a.boundaries.now a.members.now a.table.now a.n l.k a.home a.number (omega arith)) l.invariant.1
+    rowed_end (void_or a.boundaries.now a.members.now a.table.now a.home a.number) 258 a.out.now a.at
+    (void_rows a.boundaries.now a.members.now a.table.now a.n a.home a.number) l.out l.p l.k
+    (void_rows_all a.boundaries.now a.members.now a.table.now a.n l.k a.home a.number (omega arith)) l.invariant.1

@@ -1,10 +1,10 @@
 use mathlib.Core.Path.{sym}
-use Rattle.progress.specs.Endings.{ends-as}
-use Rattle.progress.specs.StageLaws.{stage-joining}
+use Rattle.progress.specs.Endings.{ends_as}
+use Rattle.progress.specs.StageLaws.{stage_joining}
 use lib.ListN.{length}
 use Rattle.sewing.proofs.joining_stage.Goals as goal
 
 pub returns : goal.returns
 returns c =
-    ends-as _ _ c.args.out.now c.run.new.out c.run.result (sym (stage-joining c.args.job.now (length c.args.out.now)))
+    ends_as _ _ c.args.out.now c.run.new.out c.run.result (sym (stage_joining c.args.job.now (length c.args.out.now)))
     c.run.ensures

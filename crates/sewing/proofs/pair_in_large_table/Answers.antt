@@ -1,6 +1,6 @@
-use Rattle.progress.specs.Endings.{ends-as, ends-refused}
-use Rattle.sewing.specs.StepLaws.{pair-ready, pairs-refused, pairs-made, pairs-on}
-use Rattle.uses.specs.Table.{usesIn}
+use Rattle.progress.specs.Endings.{ends_as, ends_refused}
+use Rattle.sewing.specs.StepLaws.{pair_ready, pairs_refused, pairs_made, pairs_on}
+use Rattle.uses.specs.Table.{uses_in}
 use mathlib.Core.Path.{sym}
 use lib.Seq.{length-take-le}
 use lib.ListN.{length, take}
@@ -10,13 +10,13 @@ use Rattle.sewing.proofs.pair_in_large_table.Goals as goal
 pub pair-p-requires : goal.pair-p-requires
 pair-p-requires c =
     let a = c.args in
-    pair-ready a.job.now a.index.now a.c (usesIn a.uses.now) a.firsts.now a.nexts.now a.kept.now 2048 c.requires.0
+    pair_ready a.job.now a.index.now a.c (uses_in a.uses.now) a.firsts.now a.nexts.now a.kept.now 2048 c.requires.0
     c.requires.1
 
 pub returns-then-p-ne0 : goal.returns-then-p-ne0
 returns-then-p-ne0 c =
     let a = c.args in
-    ends-refused _ a.out.now _ _ (pairs-refused a.job.now a.index.now a.c (usesIn a.uses.now) c.requires.0.read a.stage
+    ends_refused _ a.out.now _ _ (pairs_refused a.job.now a.index.now a.c (uses_in a.uses.now) c.requires.0.read a.stage
     (length a.out.now)
     c.pair-p.result.refusal c.pair-p.result.place c.pair-p.result.twins c.pair-p.ensures.0 c.if-p-ne0.true)
 
@@ -31,18 +31,18 @@ slice_bounds-on_paired-end c =
 pub on_paired-requires : goal.on_paired-requires
 on_paired-requires c =
     let a = c.args in (
-      pairs-made a.job.now a.index.now a.c (usesIn a.uses.now) c.requires.0.read a.stage (length a.out.now)
+      pairs_made a.job.now a.index.now a.c (uses_in a.uses.now) c.requires.0.read a.stage (length a.out.now)
           c.pair-p.result.refusal
           c.pair-p.result.place c.pair-p.result.twins c.pair-p.ensures.0 c.if-p-ne0.false,
-      c.requires.0.kept-size,
+      c.requires.0.kept_size,
     )
 
 pub returns : goal.returns
 returns c =
     let a = c.args in
-    ends-as _ _ a.out.now c.on_paired.new.out c.on_paired.result
-    (sym (pairs-on a.job.now a.index.now a.c (usesIn a.uses.now) c.requires.0.read a.stage (length a.out.now)
+    ends_as _ _ a.out.now c.on_paired.new.out c.on_paired.result
+    (sym (pairs_on a.job.now a.index.now a.c (uses_in a.uses.now) c.requires.0.read a.stage (length a.out.now)
     (take a.c.uses c.pair-p.result.twins)
-    (pairs-made a.job.now a.index.now a.c (usesIn a.uses.now) c.requires.0.read a.stage (length a.out.now)
+    (pairs_made a.job.now a.index.now a.c (uses_in a.uses.now) c.requires.0.read a.stage (length a.out.now)
     c.pair-p.result.refusal
     c.pair-p.result.place c.pair-p.result.twins c.pair-p.ensures.0 c.if-p-ne0.false))) c.on_paired.ensures

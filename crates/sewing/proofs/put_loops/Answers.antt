@@ -1,11 +1,11 @@
-use Rattle.progress.specs.Parts.{lent-cut, lent-part, lent-room, part-size, zeros}
+use Rattle.progress.specs.Parts.{lent_cut, lent_part, lent_room, part_size, zeros}
 use Prim.Native.Nat.{◌≤◌}
-use Rattle.sewing.specs.StepLaws.{ends-staged, following-back, loops-back}
-use Rattle.stages_out.specs.Rows.{roundRows}
-use Rattle.progress.specs.Known.{numbersIn}
-use Rattle.rules.specs.Walk.{circuits, loopsOf}
-use Rattle.walk.specs.Walks.{loopsIn}
-use Rattle.uses.specs.Table.{usesIn}
+use Rattle.sewing.specs.StepLaws.{ends_staged, following_back, loops_back}
+use Rattle.stages_out.specs.Rows.{round_rows}
+use Rattle.progress.specs.Known.{numbers_in}
+use Rattle.rules.specs.Walk.{circuits, loops_of}
+use Rattle.walk.specs.Walks.{loops_in}
+use Rattle.uses.specs.Table.{uses_in}
 use mathlib.Core.Path.{refl, sym, ap, ◌∙◌}
 use mathlib.Core.List.{◌++◌}
 use lib.Seq.{length-take-le}
@@ -19,7 +19,7 @@ slice_bounds-ways-end c = c.requires.few
 
 pub slice_bounds-loops-end : goal.slice_bounds-loops-end
 unfolding zeros
-slice_bounds-loops-end c = part-size (length c.args.succ.now) 2048 c.requires.few
+slice_bounds-loops-end c = part_size (length c.args.succ.now) 2048 c.requires.few
 
 pub overflow_mul-stretches : goal.overflow_mul-stretches
 overflow_mul-stretches c = omega (arith, c.requires.few)
@@ -29,34 +29,34 @@ slice_bounds-stretches-end c = omega (arith, c.requires.few)
 
 pub slice_bounds-loops-end-2 : goal.slice_bounds-loops-end-2
 unfolding zeros
-slice_bounds-loops-end-2 c = part-size (2 * length c.args.succ.now) 4096 (omega (arith, c.requires.few))
+slice_bounds-loops-end-2 c = part_size (2 * length c.args.succ.now) 4096 (omega (arith, c.requires.few))
 
 pub loops-k-requires : goal.loops-k-requires
 unfolding zeros
 loops-k-requires c = (
   c.requires.permuted,
   c.requires.few,
-  sym (part-size (length c.args.succ.now) 2048 c.requires.few),
+  sym (part_size (length c.args.succ.now) 2048 c.requires.few),
   sym
-      (part-size (2 * length c.args.succ.now) 4096 (omega (arith, c.requires.few))),
+      (part_size (2 * length c.args.succ.now) 4096 (omega (arith, c.requires.few))),
 )
 
 pub slice_bounds-numbers-end : goal.slice_bounds-numbers-end
-slice_bounds-numbers-end c = omega (arith, c.requires.faces, c.requires.numbers-size)
+slice_bounds-numbers-end c = omega (arith, c.requires.faces, c.requires.numbers_size)
 
 pub slice_bounds-write_loops-end : goal.slice_bounds-write_loops-end
 slice_bounds-write_loops-end c =
-    sym (length-take-le c.args.c.faces c.args.m.numbers (omega (arith, c.requires.faces, c.requires.numbers-size)))
+    sym (length-take-le c.args.c.faces c.args.m.numbers (omega (arith, c.requires.faces, c.requires.numbers_size)))
 
 pub slice_bounds-ways-end-2 : goal.slice_bounds-ways-end-2
 unfolding zeros
 slice_bounds-ways-end-2 c =
-    lent-room 2048 (length c.args.succ.now) c.loops-k.new.ways c.loops-k.auto.ways c.requires.few
+    lent_room 2048 (length c.args.succ.now) c.loops-k.new.ways c.loops-k.auto.ways c.requires.few
 
 pub slice_bounds-write_loops-end-2 : goal.slice_bounds-write_loops-end-2
 unfolding zeros
 slice_bounds-write_loops-end-2 c =
-    lent-cut 2048 (length c.args.succ.now) c.loops-k.new.ways c.loops-k.auto.ways c.requires.few
+    lent_cut 2048 (length c.args.succ.now) c.loops-k.new.ways c.loops-k.auto.ways c.requires.few
 
 pub overflow_mul-stretches-2 : goal.overflow_mul-stretches-2
 overflow_mul-stretches-2 c = omega (arith, c.requires.few)
@@ -64,13 +64,13 @@ overflow_mul-stretches-2 c = omega (arith, c.requires.few)
 pub slice_bounds-stretches-end-2 : goal.slice_bounds-stretches-end-2
 unfolding zeros
 slice_bounds-stretches-end-2 c =
-    lent-room 4096 (2 * length c.args.succ.now) c.loops-k.new.stretches c.loops-k.auto.stretches
+    lent_room 4096 (2 * length c.args.succ.now) c.loops-k.new.stretches c.loops-k.auto.stretches
     (omega (arith, c.requires.few))
 
 pub slice_bounds-write_loops-end-3 : goal.slice_bounds-write_loops-end-3
 unfolding zeros
 slice_bounds-write_loops-end-3 c =
-    lent-cut 4096 (2 * length c.args.succ.now) c.loops-k.new.stretches c.loops-k.auto.stretches
+    lent_cut 4096 (2 * length c.args.succ.now) c.loops-k.new.stretches c.loops-k.auto.stretches
     (omega (arith, c.requires.few))
 
 pub write_loops-requires : goal.write_loops-requires
@@ -79,14 +79,14 @@ write_loops-requires c = let n = length c.args.succ.now in
     let w = c.loops-k.new.ways in
     let s = c.loops-k.new.stretches in
     let long : 2 * n ≤ 4096 = omega (arith, c.requires.few) in
-    let ew = lent-part 2048 n w c.loops-k.auto.ways c.requires.few in
-    let es = lent-part 4096 (2 * n) s c.loops-k.auto.stretches long in (
-      following-back c.loops-k.result (take n (w ++ drop n (zeros 2048))) w
+    let ew = lent_part 2048 n w c.loops-k.auto.ways c.requires.few in
+    let es = lent_part 4096 (2 * n) s c.loops-k.auto.stretches long in (
+      following_back c.loops-k.result (take n (w ++ drop n (zeros 2048))) w
           (take (2 * n) (s ++ drop (2 * n) (zeros 4096))) s ew es c.loops-k.ensures.2,
       omega
           (arith, c.loops-k.ensures.1, c.requires.few),
       omega
-          (arith, sym (lent-cut 2048 n w c.loops-k.auto.ways c.requires.few), c.requires.few),
+          (arith, sym (lent_cut 2048 n w c.loops-k.auto.ways c.requires.few), c.requires.few),
     )
 
 pub returns : goal.returns
@@ -96,12 +96,12 @@ returns c = let a = c.args in
     let w = c.loops-k.new.ways in
     let s = c.loops-k.new.stretches in
     let long : 2 * n ≤ 4096 = omega (arith, c.requires.few) in
-    let ew = lent-part 2048 n w c.loops-k.auto.ways c.requires.few in
-    let es = lent-part 4096 (2 * n) s c.loops-k.auto.stretches long in
-    ends-staged (roundRows (usesIn a.uses.now) (numbersIn a.c a.m)
-    (loopsIn c.loops-k.result (take n (w ++ drop n (zeros 2048))) (take (2 * n) (s ++ drop (2 * n) (zeros 4096)))))
-    (roundRows (usesIn a.uses.now) (numbersIn a.c a.m) (loopsOf (circuits a.removed.now a.succ.now))) a.out.now
+    let ew = lent_part 2048 n w c.loops-k.auto.ways c.requires.few in
+    let es = lent_part 4096 (2 * n) s c.loops-k.auto.stretches long in
+    ends_staged (round_rows (uses_in a.uses.now) (numbers_in a.c a.m)
+    (loops_in c.loops-k.result (take n (w ++ drop n (zeros 2048))) (take (2 * n) (s ++ drop (2 * n) (zeros 4096)))))
+    (round_rows (uses_in a.uses.now) (numbers_in a.c a.m) (loops_of (circuits a.removed.now a.succ.now))) a.out.now
     c.write_loops.new.out c.write_loops.result
-    (ap (roundRows (usesIn a.uses.now) (numbersIn a.c a.m))
-    (loops-back c.loops-k.result (take n (w ++ drop n (zeros 2048))) w
+    (ap (round_rows (uses_in a.uses.now) (numbers_in a.c a.m))
+    (loops_back c.loops-k.result (take n (w ++ drop n (zeros 2048))) w
     (take (2 * n) (s ++ drop (2 * n) (zeros 4096))) s ew es ∙ c.loops-k.ensures.0)) refl c.write_loops.ensures

@@ -1,27 +1,27 @@
-use Rattle.sewing.specs.StepLaws.{tables-made}
-use Rattle.progress.specs.Parts.{zeros, part-size}
+use Rattle.sewing.specs.StepLaws.{tables_made}
+use Rattle.progress.specs.Parts.{zeros, part_size}
 use Prim.Native.Nat.{◌*◌}
 use native.Mathlib.Omega.{arith}
 use Rattle.sewing.proofs.read_in_large_tables.Goals as goal
 
 pub slice_bounds-read_in-end : goal.slice_bounds-read_in-end
 unfolding zeros
-slice_bounds-read_in-end c = part-size (4 * c.args.c.uses) 8192 (omega (arith, c.requires.1))
+slice_bounds-read_in-end c = part_size (4 * c.args.c.uses) 8192 (omega (arith, c.requires.1))
 
 pub slice_bounds-read_in-end-2 : goal.slice_bounds-read_in-end-2
 unfolding zeros
-slice_bounds-read_in-end-2 c = part-size c.args.c.edges 1024 c.requires.2
+slice_bounds-read_in-end-2 c = part_size c.args.c.edges 1024 c.requires.2
 
 pub slice_bounds-read_in-end-3 : goal.slice_bounds-read_in-end-3
 unfolding zeros
-slice_bounds-read_in-end-3 c = part-size c.args.c.uses 2048 c.requires.1
+slice_bounds-read_in-end-3 c = part_size c.args.c.uses 2048 c.requires.1
 
 pub slice_bounds-read_in-end-4 : goal.slice_bounds-read_in-end-4
 unfolding zeros
-slice_bounds-read_in-end-4 c = part-size (2 * c.args.c.loops) 2048 (omega (arith, c.requires.3))
+slice_bounds-read_in-end-4 c = part_size (2 * c.args.c.loops) 2048 (omega (arith, c.requires.3))
 
 pub read_in-requires : goal.read_in-requires
 unfolding zeros
 read_in-requires c =
-    let made = tables-made c.args.c 2048 1024 1024 c.requires.1 c.requires.2 c.requires.3 in
+    let made = tables_made c.args.c 2048 1024 1024 c.requires.1 c.requires.2 c.requires.3 in
     (c.requires.0, made.0, made.1)

@@ -1,10 +1,10 @@
 use mathlib.Core.Path.{sym}
-use Rattle.progress.specs.Endings.{ends-as}
-use Rattle.progress.specs.StageLaws.{stage-vertex-loops}
+use Rattle.progress.specs.Endings.{ends_as}
+use Rattle.progress.specs.StageLaws.{stage_vertex_loops}
 use lib.ListN.{length}
 use Rattle.sewing.proofs.vertex_loop_stage.Goals as goal
 
 pub returns : goal.returns
 returns c =
-    ends-as _ _ c.args.out.now c.run.new.out c.run.result
-    (sym (stage-vertex-loops c.args.job.now (length c.args.out.now))) c.run.ensures
+    ends_as _ _ c.args.out.now c.run.new.out c.run.result
+    (sym (stage_vertex_loops c.args.job.now (length c.args.out.now))) c.run.ensures

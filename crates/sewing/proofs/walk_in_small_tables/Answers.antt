@@ -1,19 +1,19 @@
-use Rattle.sewing.specs.StepLaws.{unsetFlags, flags-size, walk-tables-made}
-use Rattle.progress.specs.Parts.{zeros, part-size}
+use Rattle.sewing.specs.StepLaws.{unset_flags, flags_size, walk_tables_made}
+use Rattle.progress.specs.Parts.{zeros, part_size}
 use Rattle.sewing.proofs.walk_in_small_tables.Goals as goal
 
 pub slice_bounds-walk_in-end : goal.slice_bounds-walk_in-end
-unfolding unsetFlags
-slice_bounds-walk_in-end c = flags-size c.args.c.uses 64 c.requires.1
+unfolding unset_flags
+slice_bounds-walk_in-end c = flags_size c.args.c.uses 64 c.requires.1
 
 pub slice_bounds-walk_in-end-2 : goal.slice_bounds-walk_in-end-2
 unfolding zeros
-slice_bounds-walk_in-end-2 c = part-size c.args.c.uses 64 c.requires.1
+slice_bounds-walk_in-end-2 c = part_size c.args.c.uses 64 c.requires.1
 
 pub slice_bounds-walk_in-end-3 : goal.slice_bounds-walk_in-end-3
 unfolding zeros
-slice_bounds-walk_in-end-3 c = part-size c.args.c.uses 64 c.requires.1
+slice_bounds-walk_in-end-3 c = part_size c.args.c.uses 64 c.requires.1
 
 pub walk_in-requires : goal.walk_in-requires
-unfolding zeros unsetFlags
-walk_in-requires c = (c.requires.0, walk-tables-made c.args.c.uses 64 c.requires.1)
+unfolding zeros unset_flags
+walk_in-requires c = (c.requires.0, walk_tables_made c.args.c.uses 64 c.requires.1)

@@ -1,13 +1,13 @@
 use mathlib.Core.Path.{sym}
-use Rattle.progress.specs.Endings.{ends-as}
-use Rattle.progress.specs.StageLaws.{stage-walk}
+use Rattle.progress.specs.Endings.{ends_as}
+use Rattle.progress.specs.StageLaws.{stage_walk}
 use Rattle.sewing.specs.StepLaws.{promised}
 use lib.ListN.{length}
 use Rattle.sewing.proofs.walk_stage.Goals as goal
 
 pub returns : goal.returns
 returns c = (
-  ends-as _ _ c.args.out.now c.run.new.out c.run.result (sym (stage-walk c.args.job.now (length c.args.out.now)))
+  ends_as _ _ c.args.out.now c.run.new.out c.run.result (sym (stage_walk c.args.job.now (length c.args.out.now)))
       c.run.ensures,
   promised c.args.job.now,
 )

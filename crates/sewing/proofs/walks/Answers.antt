@@ -1,4 +1,4 @@
-use Rattle.lists.specs.Lists.{sumOf}
+use Rattle.lists.specs.Lists.{sum_of}
 use mathlib.Core.Path.{refl, sym, ap, ◌∙◌}
 use lib.Seq.{length-take-le}
 use Rattle.sewing.proofs.walks.Goals as goal
@@ -15,6 +15,6 @@ returns c = let removing = c.remove-gone.ensures in
       counts = walking.1;
       gone = removing.1;
       passed = walking.2 ∙ ap
-          (sumOf (λ k. k)) walking.1;
+          (sum_of (λ k. k)) walking.1;
       kept = refl;
     }

@@ -1,11 +1,11 @@
-use Rattle.shells.specs.NestLaws.{home-outer, home-refused, home-none, home-found}
-use Rattle.job.specs.Lists.{answersIn}
+use Rattle.shells.specs.NestLaws.{home_outer, home_refused, home_none, home_found}
+use Rattle.job.specs.Lists.{answers_in}
 use Rattle.shells.proofs.home.Goals as goal
 
 pub returns-then-shell_outer : goal.returns-then-shell_outer
 returns-then-shell_outer c =
     let a = c.args in (
-      home-outer (answersIn a.job.now a.index.now a.c) a.table.now a.n a.k c.shell_low-low.result c.shell_outer.result
+      home_outer (answers_in a.job.now a.index.now a.c) a.table.now a.n a.k c.shell_low-low.result c.shell_outer.result
           c.shell_low-low.ensures.0 c.shell_outer.ensures c.if-shell_outer.true,
       c.shell_low-low.ensures.1,
     )
@@ -13,7 +13,7 @@ returns-then-shell_outer c =
 pub returns-then-n-taken : goal.returns-then-n-taken
 returns-then-n-taken c =
     let a = c.args in (
-      home-none (answersIn a.job.now a.index.now a.c) a.table.now a.n a.k c.shell_low-low.result c.shell_outer.result
+      home_none (answers_in a.job.now a.index.now a.c) a.table.now a.n a.k c.shell_low-low.result c.shell_outer.result
           c.shell_low-low.ensures.0 c.shell_outer.ensures c.if-shell_outer.false c.enclosing_shell-r.result
           c.enclosing_shell-r.ensures _ c.in-Value.is c.if-n-taken.true,
       tt,
@@ -22,7 +22,7 @@ returns-then-n-taken c =
 pub returns-in-Refused : goal.returns-in-Refused
 returns-in-Refused c =
     let a = c.args in (
-      home-refused (answersIn a.job.now a.index.now a.c) a.table.now a.n a.k c.shell_low-low.result c.shell_outer.result
+      home_refused (answers_in a.job.now a.index.now a.c) a.table.now a.n a.k c.shell_low-low.result c.shell_outer.result
           c.shell_low-low.ensures.0 c.shell_outer.ensures c.if-shell_outer.false c.enclosing_shell-r.result
           c.enclosing_shell-r.ensures _ _ c.in-Refused.is,
       tt,
@@ -31,7 +31,7 @@ returns-in-Refused c =
 pub returns-else-n-taken : goal.returns-else-n-taken
 returns-else-n-taken c =
     let a = c.args in (
-      home-found (answersIn a.job.now a.index.now a.c) a.table.now a.n a.k c.shell_low-low.result c.shell_outer.result
+      home_found (answers_in a.job.now a.index.now a.c) a.table.now a.n a.k c.shell_low-low.result c.shell_outer.result
           c.shell_low-low.ensures.0 c.shell_outer.ensures c.if-shell_outer.false c.enclosing_shell-r.result
           c.enclosing_shell-r.ensures _ c.shell_low.result c.in-Value.is c.if-n-taken.false c.shell_low.ensures.0,
       c.shell_low.ensures.1,

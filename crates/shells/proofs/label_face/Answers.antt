@@ -1,4 +1,4 @@
-use Rattle.shells.specs.LumpLaws.{labels-few, labels-own, labels-old}
+use Rattle.shells.specs.LumpLaws.{labels_few, labels_own, labels_old}
 use native.Mathlib.Omega.{arith}
 use Rattle.shells.proofs.label_face.Goals as goal
 
@@ -7,7 +7,7 @@ shell_home-requires c =
     let a = c.args in
     omega (
       arith,
-      labels-few a.boundaries.now a.table.now a.labels.now a.count a.f c.requires.0 c.requires.1,
+      labels_few a.boundaries.now a.table.now a.labels.now a.count a.f c.requires.0 c.requires.1,
       c.requires.1,
       c.requires.2,
     )
@@ -18,7 +18,7 @@ overflow_add-result c =
     record {
       fits = omega (
         arith,
-        labels-few a.boundaries.now a.table.now a.labels.now a.count a.f c.requires.0
+        labels_few a.boundaries.now a.table.now a.labels.now a.count a.f c.requires.0
             c.requires.1,
         c.requires.1,
         c.requires.2,
@@ -28,11 +28,11 @@ overflow_add-result c =
 pub returns-then-b-f : goal.returns-then-b-f
 returns-then-b-f c =
     let a = c.args in
-    labels-own a.boundaries.now a.table.now a.labels.now a.count a.f c.requires.0 c.requires.1 c.get-b.result
+    labels_own a.boundaries.now a.table.now a.labels.now a.count a.f c.requires.0 c.requires.1 c.get-b.result
     c.shell_home.result c.put.new.t c.get-b.ensures.0 c.if-b-f.true c.shell_home.ensures.0 c.put.ensures
 
 pub returns : goal.returns
 returns c =
     let a = c.args in
-    labels-old a.boundaries.now a.table.now a.labels.now a.count a.f c.requires.0 c.requires.1 c.get-b.result
+    labels_old a.boundaries.now a.table.now a.labels.now a.count a.f c.requires.0 c.requires.1 c.get-b.result
     c.get.result c.put-2.new.t c.get-b.ensures.0 c.if-b-f.false c.get.ensures.0 c.put-2.ensures

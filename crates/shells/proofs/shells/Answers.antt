@@ -1,7 +1,7 @@
-use Rattle.shells.specs.ShellLaws.{ShellsTo, shells-start, shells-end}
+use Rattle.shells.specs.ShellLaws.{ShellsTo, shells_start, shells_end}
 use Prim.Native.Nat.{◌+◌}
 use Rattle.rules.specs.Fields.{le32}
-use Rattle.job.specs.Lists.{answersIn}
+use Rattle.job.specs.Lists.{answers_in}
 use mathlib.Core.Path.{refl, subst, ◌∙◌}
 use Rattle.shells.proofs.shells.Goals as goal
 
@@ -11,7 +11,7 @@ loop-b-init c =
       c.lows-2-1.given,
       c.low_faces.ensures,
       refl,
-      shells-start (answersIn a.job.now a.index.now a.c) (le32 a.job.now 6)
+      shells_start (answers_in a.job.now a.index.now a.c) (le32 a.job.now 6)
           a.boundaries.now a.members.now a.table.now,
     )
 
@@ -25,7 +25,7 @@ returns-in-Refused c =
     let a = c.args in
     let l = c.loop-b in
     let call = c.next_shell-r in (
-      subst (λ r. ShellsTo (answersIn a.job.now a.index.now a.c) (le32 a.job.now 6) a.boundaries.now a.members.now
+      subst (λ r. ShellsTo (answers_in a.job.now a.index.now a.c) (le32 a.job.now 6) a.boundaries.now a.members.now
           call.new.table r (l.b + 1)) c.in-Refused.is (call.ensures a.members.now l.invariant.1 l.invariant.3),
       tt,
     )
@@ -39,7 +39,7 @@ loop-b-preserved c =
       l.invariant.1,
       c.table-1.given ∙ l.invariant.2,
       subst
-          (λ r. ShellsTo (answersIn a.job.now a.index.now a.c) (le32 a.job.now 6) a.boundaries.now a.members.now
+          (λ r. ShellsTo (answers_in a.job.now a.index.now a.c) (le32 a.job.now 6) a.boundaries.now a.members.now
           call.new.table r (l.b + 1)) c.in-Done.is (call.ensures a.members.now l.invariant.1 l.invariant.3),
     )
 
@@ -47,5 +47,5 @@ pub returns : goal.returns
 returns c =
     let a = c.args in
     let l = c.loop-b in
-    shells-end (answersIn a.job.now a.index.now a.c) (le32 a.job.now 6) a.boundaries.now a.members.now l.table l.count
+    shells_end (answers_in a.job.now a.index.now a.c) (le32 a.job.now 6) a.boundaries.now a.members.now l.table l.count
     l.b l.invariant.3 c.loop-b-test.false (l.invariant.2 ∙ c.requires.1)

@@ -1,6 +1,6 @@
-use Rattle.uses.specs.TableLaws.{length-uses}
+use Rattle.uses.specs.TableLaws.{length_uses}
 use mathlib.Core.Path.{sym}
 use Rattle.uses.proofs.count.Goals as goal
 
 pub returns : goal.returns
-returns c = sym (length-uses c.args.uses.now)
+returns c = sym (length_uses c.args.uses.now)

@@ -1,5 +1,5 @@
-use Rattle.vertex_loops.specs.KeptLaws.{keeping-start, keeping-step, keeping-stop, keeping-end}
-use Rattle.job.specs.Lists.{answersIn, pointsIn}
+use Rattle.vertex_loops.specs.KeptLaws.{keeping_start, keeping_step, keeping_stop, keeping_end}
+use Rattle.job.specs.Lists.{answers_in, points_in}
 use mathlib.Core.Path.{refl, ◌∙◌}
 use native.Mathlib.Omega.{arith}
 use Rattle.vertex_loops.proofs.vertex_loops.Goals as goal
@@ -8,7 +8,7 @@ pub loop-l-init : goal.loop-l-init
 loop-l-init c =
     let a = c.args in (
       refl,
-      keeping-start (answersIn a.job.now a.index.now a.c) (pointsIn a.job.now a.c) a.numbers.now a.job.now
+      keeping_start (answers_in a.job.now a.index.now a.c) (points_in a.job.now a.c) a.numbers.now a.job.now
           a.index.now a.c a.kept.now,
     )
 
@@ -28,7 +28,7 @@ pub returns-in-Refused : goal.returns-in-Refused
 returns-in-Refused c =
     let a = c.args in
     let l = c.loop-l in (
-      keeping-stop (answersIn a.job.now a.index.now a.c) (pointsIn a.job.now a.c) a.numbers.now a.job.now a.index.now a.c
+      keeping_stop (answers_in a.job.now a.index.now a.c) (points_in a.job.now a.c) a.numbers.now a.job.now a.index.now a.c
           l.kept c.keep_loop-k.new.kept l.count l.l l.invariant.1 c.loop-l-test.true c.keep_loop-k.result _ _
           c.in-Refused.is c.keep_loop-k.ensures.0,
       tt,
@@ -39,7 +39,7 @@ loop-l-preserved c =
     let a = c.args in
     let l = c.loop-l in (
       c.kept-1.given ∙ l.invariant.0,
-      keeping-step (answersIn a.job.now a.index.now a.c) (pointsIn a.job.now a.c)
+      keeping_step (answers_in a.job.now a.index.now a.c) (points_in a.job.now a.c)
           a.numbers.now a.job.now a.index.now a.c l.kept c.keep_loop-k.new.kept l.count l.l l.invariant.1
           c.loop-l-test.true c.keep_loop-k.result _ c.in-Done.is c.keep_loop-k.ensures.0 c.keep_loop-k.ensures.1,
     )
@@ -48,5 +48,5 @@ pub returns : goal.returns
 returns c =
     let a = c.args in
     let l = c.loop-l in
-    keeping-end (answersIn a.job.now a.index.now a.c) (pointsIn a.job.now a.c) a.numbers.now a.job.now a.index.now a.c
+    keeping_end (answers_in a.job.now a.index.now a.c) (points_in a.job.now a.c) a.numbers.now a.job.now a.index.now a.c
     l.kept l.count l.l l.invariant.1 c.loop-l-test.false

@@ -1,5 +1,5 @@
 use Rattle.vertex_loops.specs.KeptLaws.{KeepingAt}
-use Rattle.job.specs.Lists.{answersIn, pointsIn}
+use Rattle.job.specs.Lists.{answers_in, points_in}
 use lib.ListN.{length}
 use Prim.Native.Nat.{◌-◌}
 use mathlib.Core.Path.{◌≡◌}
@@ -7,7 +7,7 @@ use Rattle.vertex_loops.proofs.vertex_loops.Given as goal
 
 abbrev pub invariant-loop-l : goal.invariant-loop-l
 invariant-loop-l l =
-    (length l.kept ≡ length l.initial.kept) × KeepingAt (answersIn l.job l.index l.c) (pointsIn l.job l.c) l.numbers
+    (length l.kept ≡ length l.initial.kept) × KeepingAt (answers_in l.job l.index l.c) (points_in l.job l.c) l.numbers
     l.job l.index l.c l.kept l.count l.l
 
 abbrev pub decreases-loop-l : goal.decreases-loop-l

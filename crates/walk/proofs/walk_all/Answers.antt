@@ -1,5 +1,5 @@
 use mathlib.Core.Path.{refl, ◌∙◌}
-use Rattle.walk.specs.LoopLaws.{walking-start, walking-end}
+use Rattle.walk.specs.LoopLaws.{walking_start, walking_end}
 use native.Mathlib.Omega.{arith}
 use Rattle.walk.proofs.walk_all.Goals as goal
 
@@ -7,7 +7,7 @@ pub loop-h-init : goal.loop-h-init
 loop-h-init c = (
   omega arith,
   refl,
-  walking-start c.args.removed.now c.args.succ.now c.requires.0 c.args.visited.now c.args.ways.now
+  walking_start c.args.removed.now c.args.succ.now c.requires.0 c.args.visited.now c.args.ways.now
       c.args.stretches.now c.requires.2 c.requires.3 c.requires.4,
   refl,
   refl,
@@ -30,5 +30,5 @@ loop-h-preserved c = (
 
 pub returns : goal.returns
 returns c =
-    walking-end c.args.removed.now c.args.succ.now c.requires.0 c.loop-h.h c.loop-h.visited c.loop-h.ways
+    walking_end c.args.removed.now c.args.succ.now c.requires.0 c.loop-h.h c.loop-h.visited c.loop-h.ways
     c.loop-h.stretches c.loop-h.so.count c.loop-h.so.at (omega arith) c.loop-h.invariant.0 c.loop-h.invariant.2

@@ -1,23 +1,23 @@
 use mathlib.Core.Path.{sym, ◌∙◌}
-use Rattle.walk.specs.LoopLaws.{walking-removed, walking-visited, walking-closes, walking-room, walking-starts}
+use Rattle.walk.specs.LoopLaws.{walking_removed, walking_visited, walking_closes, walking_room, walking_starts}
 use native.Mathlib.Omega.{arith}
 use Rattle.walk.proofs.walk_from.Goals as goal
 
 pub returns-then-is_set : goal.returns-then-is_set
 returns-then-is_set c =
-    walking-removed c.args.removed.now c.args.succ.now c.requires.0 c.args.h c.args.visited.now c.args.ways.now
+    walking_removed c.args.removed.now c.args.succ.now c.requires.0 c.args.h c.args.visited.now c.args.ways.now
     c.args.stretches.now c.args.so.count c.args.so.at c.requires.2 c.requires.3
     (sym c.if-is_set.true ∙ c.is_set.ensures)
 
 pub returns-then-is_set-2 : goal.returns-then-is_set-2
 returns-then-is_set-2 c =
-    walking-visited c.args.removed.now c.args.succ.now c.requires.0 c.args.h c.args.visited.now c.args.ways.now
+    walking_visited c.args.removed.now c.args.succ.now c.requires.0 c.args.h c.args.visited.now c.args.ways.now
     c.args.stretches.now c.args.so.count c.args.so.at c.requires.2 c.requires.3
     (sym c.if-is_set-2.true ∙ c.is_set-2.ensures)
 
 pub walk_loop-end-requires : goal.walk_loop-end-requires
 walk_loop-end-requires c = (
-  walking-closes c.args.removed.now c.args.succ.now c.requires.0 c.args.h c.args.visited.now c.args.ways.now
+  walking_closes c.args.removed.now c.args.succ.now c.requires.0 c.args.h c.args.visited.now c.args.ways.now
       c.args.stretches.now c.args.so.count c.args.so.at c.requires.2 c.requires.3
       (sym c.if-is_set.false ∙ c.is_set.ensures) (sym c.if-is_set-2.false ∙ c.is_set-2.ensures),
   omega arith,
@@ -42,7 +42,7 @@ pub put-requires-2 : goal.put-requires-2
 put-requires-2 c =
     omega (
       arith,
-      walking-room c.args.removed.now c.args.succ.now c.requires.0 c.args.h c.args.visited.now
+      walking_room c.args.removed.now c.args.succ.now c.requires.0 c.args.h c.args.visited.now
           c.args.ways.now c.args.stretches.now c.args.so.count c.args.so.at c.requires.2 c.requires.3
           (sym c.if-is_set.false ∙ c.is_set.ensures) (sym c.if-is_set-2.false ∙ c.is_set-2.ensures)
           c.walk_loop-end.new.visited c.walk_loop-end.new.ways c.walk_loop-end.result c.walk_loop-end.ensures,
@@ -53,7 +53,7 @@ overflow_add-result c = omega (arith, c.requires.3.0)
 
 pub returns : goal.returns
 returns c =
-    walking-starts c.args.removed.now c.args.succ.now c.requires.0 c.args.h c.args.visited.now c.args.ways.now
+    walking_starts c.args.removed.now c.args.succ.now c.requires.0 c.args.h c.args.visited.now c.args.ways.now
     c.args.stretches.now c.args.so.count c.args.so.at c.requires.2 c.requires.3
     (sym c.if-is_set.false ∙ c.is_set.ensures) (sym c.if-is_set-2.false ∙ c.is_set-2.ensures)
     c.walk_loop-end.new.visited c.walk_loop-end.new.ways c.walk_loop-end.result c.walk_loop-end.ensures c.put.new.t
