@@ -16,11 +16,8 @@ fn main(rt: HostRuntime) {
         name: "listing",
         usage: "listing [FILE]: lists the body of a job; without FILE the job is read from standard input",
     };
-    let Some(words) = programs::words(&rt, program) else {
-        return;
-    };
     let mut job = [0u8; JOB];
-    let Some(n) = programs::read_job(&rt, program, words.as_slice(), 1, &mut job) else {
+    let Some(n) = programs::read_job(&rt, program, 1, &mut job) else {
         return;
     };
     let mut out = [0u8; 65536];

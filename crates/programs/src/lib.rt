@@ -9,9 +9,17 @@ ghost use Rattle.rules.specs.Operation.{operation};
 ghost use Rattle.lines.specs.StageListed.{StagedInto, StageLists};
 
 use rules::Ending;
+use std::env::FillError;
 use std::io::Read;
 use std::rt::{Env, Files};
-use std::{env, fs, io};
+use std::str::from_utf8;
+use std::{fs, io};
+
+// No path is longer, its end counted.
+const PATH: usize = 4096;
+
+// The system's number of the error that a name is too long.
+const NAME_TOO_LONG: i32 = 36;
 
 // Reads until the buffer is full or the input ends, and says how many bytes were read. A read that fails is told from the
 // end of the input.
@@ -91,32 +99,15 @@ pub fn print(rt: &(impl Print + Eprint), program: Program<'_>, text: &[u8]) {
     }
 }
 
-// The words that the program was called with, its own name first. Where they cannot be had, that is told.
-pub fn words<R: Env + AllocGlobal + Eprint>(rt: &R, program: Program<'_>) -> Option<Vec<String>> {
-    match all_words(rt) {
-        Ok(words) => Some(words),
-        Err(why) => {
-            fail(rt, program, "its words", &why);
-            None
-        }
-    }
-}
-
-fn all_words<R: Env + AllocGlobal>(rt: &R) -> io::Result<Vec<String>> {
-    let words = env::args(rt)?.collect(rt.alloc())?;
-    Ok(words)
-}
-
 // Reads the file that word i names, or standard input if there is no such word, and says how many bytes were read. What is
 // wrong is told on standard error, with the words that the program takes where it lies in these.
-pub fn read_job<R: Files + Input + Eprint>(
+pub fn read_job<R: Env + Files + Input + Eprint>(
     rt: &R,
     program: Program<'_>,
-    words: &[String],
     i: usize,
     buffer: &mut [u8],
 ) -> Option<usize> {
-    if words.len() <= i {
+    if !is_there(rt, i) {
         return told(
             rt,
             program,
@@ -124,39 +115,76 @@ pub fn read_job<R: Files + Input + Eprint>(
             read_to_end(&mut rt.reader(), buffer),
         );
     }
-    read_file(rt, program, words, i, buffer)
+    read_file(rt, program, i, buffer)
 }
 
 // Reads the file that word i names, which must be the last word. What is wrong is told as by `read_job`.
-pub fn read_file<R: Files + Eprint>(
+pub fn read_file<R: Env + Files + Eprint>(
     rt: &R,
     program: Program<'_>,
-    words: &[String],
     i: usize,
     buffer: &mut [u8],
 ) -> Option<usize> {
-    let Some(word) = words.get(i) else {
-        explain(rt, program);
-        return None;
-    };
-    let name = word.as_str();
-    if words.len() - i != 1 || !is_name(name) {
+    if !is_last(rt, i) {
         explain(rt, program);
         return None;
     }
-    let read = told(rt, program, name, read_named(rt, name, buffer));
+    let mut word = [0u8; PATH];
+    let read = match rt.arg(i, &mut word) {
+        Ok(length) => read_word(rt, program, &word[..length], buffer),
+        // A word that is longer than any path: its front may name another file.
+        Err(_) => told(
+            rt,
+            program,
+            "FILE",
+            Err(io::Error::from_raw_os_error(NAME_TOO_LONG)),
+        ),
+    };
     if read.is_none() {
         explain(rt, program);
     }
     read
 }
 
-// Whether a word can name a file: one that begins with `-` would be an option, and there are none.
-fn is_name(word: &str) -> bool {
-    !word.is_empty() && !word.starts_with('-')
+// Whether there is a word i, the program's own name being word 0.
+fn is_there(rt: &impl Env, i: usize) -> bool {
+    let mut front = [0u8; 1];
+    !matches!(rt.arg(i, &mut front), Err(FillError::NotPresent))
 }
 
-// Reads the file of a name to its end.
+// Whether word i is there and none comes after it.
+fn is_last(rt: &impl Env, i: usize) -> bool {
+    is_there(rt, i) && i < usize::MAX && !is_there(rt, i + 1)
+}
+
+// Whether a word can name a file: one that begins with `-` would be an option, and there are none.
+fn is_name(word: &[u8]) -> bool {
+    word.len() != 0 && word[0] != b'-'
+}
+
+// Reads the file of a name to its end; where the word can name none, nothing is told.
+fn read_word<R: Files + Eprint>(
+    rt: &R,
+    program: Program<'_>,
+    word: &[u8],
+    buffer: &mut [u8],
+) -> Option<usize> {
+    if !is_name(word) {
+        return None;
+    }
+    // The names of files are text here.
+    let Ok(name) = from_utf8(word) else {
+        return told(
+            rt,
+            program,
+            "FILE",
+            Err(io::Error::from(io::ErrorKind::InvalidFilename)),
+        );
+    };
+    told(rt, program, name, read_named(rt, name, buffer))
+}
+
+// Opens the file of a name and reads it to its end.
 fn read_named<R: Files>(rt: &R, name: &str, buffer: &mut [u8]) -> io::Result<usize> {
     let mut file = fs::open(rt, name)?;
     read_to_end(&mut file, buffer)

@@ -4,16 +4,13 @@
 
 #![tactic(auto)]
 
-ghost use Rattle.std.specs.Prelude.{◌≡◌, ◌+◌, ◌<◌, ◌≤◌, ◌^◌, length, IfOk, vec_len};
+ghost use Rattle.std.specs.Prelude.{◌≡◌, ◌+◌, ◌<◌, ◌≤◌, ◌^◌, length};
 ghost use Rattle.replay.specs.Counted.{Counted};
 
 use fields::{put_word, word};
 use load::Stretched;
 use programs::Program;
 use rules::Ending;
-use std::alloc::Global;
-use std::io;
-use std::rt::Files;
 
 // One byte more than a packed file may have: a longer file is told by its length.
 const FILE: usize = 2000001;
@@ -493,30 +490,17 @@ fn replay(rt: &(impl Print + Eprint), bytes: &[u8])
     }
 }
 
-// Room for a file, all zeros.
-fn blank(alloc: Global) -> io::Result<Vec<u8>>
-    ensures { IfOk result (λ v. vec_len v ≡ FILE) }
+// Room for a file.
+fn blank() -> [u8; FILE]
+    ensures { 2000001 ≡ length result }
 {
-    let file = vec![in alloc; 0u8; FILE]?;
-    Ok(file)
-}
-
-// Replays the file that the first word names.
-fn replay_file(rt: &(impl Files + Print + Eprint), words: &[String], file: &mut [u8])
-    requires { length file.old ≡ FILE }
-{
-    let Some(n) = programs::read_file(rt, PROGRAM, words, 1, file) else {
-        return;
-    };
-    replay(rt, part(file, 0, n));
+    [0; FILE]
 }
 
 fn main(rt: HostRuntime) {
-    let Some(words) = programs::words(&rt, PROGRAM) else {
+    let mut file = blank();
+    let Some(n) = programs::read_file(&rt, PROGRAM, 1, &mut file) else {
         return;
     };
-    match blank(rt.alloc()) {
-        Ok(mut file) => replay_file(&rt, words.as_slice(), file.as_mut_slice()),
-        Err(why) => programs::fail(&rt, PROGRAM, "room for a file", &why),
-    }
+    replay(&rt, part(&file, 0, n));
 }

@@ -4,6 +4,7 @@
 #![tactic(auto)]
 
 use programs::Program;
+use std::rt::Env;
 
 // One byte more than a job may have: a longer job is refused by its length.
 const JOB: usize = 65537;
@@ -15,10 +16,11 @@ const OUT: usize = 131072;
 const PAGE: usize = 360448;
 
 // The number of the stage that the first word names; 0 if it names none.
-fn stage_named(words: &[String]) -> usize {
-    match words.get(1) {
-        Some(name) => lines::stage_number(name.as_bytes()),
-        None => 0,
+fn stage_named(rt: &impl Env) -> usize {
+    let mut name = [0u8; 16];
+    match rt.arg(1, &mut name) {
+        Ok(length) => lines::stage_number(&name[..length]),
+        Err(_) => 0,
     }
 }
 
@@ -35,16 +37,13 @@ fn main(rt: HostRuntime) {
         name: "stage",
         usage: "stage NAME [FILE]: NAME is read, pair, merge, vertex-loops, walk, loops, fans, edges, joining, shells or lumps; without FILE the job is read from standard input",
     };
-    let Some(words) = programs::words(&rt, program) else {
-        return;
-    };
-    let stage = stage_named(words.as_slice());
+    let stage = stage_named(&rt);
     if stage == 0 {
         programs::explain(&rt, program);
         return;
     }
     let mut job = [0u8; JOB];
-    let Some(n) = programs::read_job(&rt, program, words.as_slice(), 2, &mut job) else {
+    let Some(n) = programs::read_job(&rt, program, 2, &mut job) else {
         return;
     };
     print_stage(&rt, program, stage, lines::front(&job, n));
