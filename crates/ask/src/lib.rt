@@ -3,7 +3,7 @@
 #![tactic(auto)]
 
 ghost use Rattle.std.specs.Prelude.{◌≡◌, [], ◌∷◌, ◌≢◌, ◌<◌};
-ghost use Rattle.rules.specs.Questions.{surface_answer, verdict as verdictOf, find as findAnswer, ask_yes, ask_same, ask_radial};
+ghost use Rattle.rules.specs.Questions.{surface_answer, verdict as verdict_of, find as find_answer, ask_yes, ask_same, ask_radial};
 ghost use Rattle.job.specs.Lists.{answers_in};
 ghost use Rattle.answers.specs.Question.{key_of, Shaped};
 ghost use Rattle.answers.specs.Index.{Indexed};
@@ -58,7 +58,7 @@ pub enum Order {
 
 fn answer_to(job: &[u8], index: &[u32], c: Counts, q: Question) -> Answer
     requires { Indexed job.now index.now c × Shaped q × (q.kind ≢ 7) }
-    ensures { result ≡ value_of (findAnswer (answers_in job.now index.now c) q.kind (key_of q)) }
+    ensures { result ≡ value_of (find_answer (answers_in job.now index.now c) q.kind (key_of q)) }
 {
     let f = answers::find(job, index, q);
     match f {
@@ -82,7 +82,7 @@ pub fn surface_answer(v: usize) -> SurfaceAnswer
 
 // The answer of kinds 9 to 13 that has a number.
 pub fn verdict(v: usize) -> Verdict
-    ensures { result ≡ verdictOf v }
+    ensures { result ≡ verdict_of v }
 {
     match v {
         0 => Verdict::No,
@@ -94,7 +94,7 @@ pub fn verdict(v: usize) -> Verdict
 // What is on record for a question of kinds 9 to 13.
 fn recorded(job: &[u8], index: &[u32], c: Counts, q: Question) -> Answered
     requires { Indexed job.now index.now c × Shaped q × (q.kind ≢ 7) }
-    ensures { result ≡ answered_by (findAnswer (answers_in job.now index.now c) q.kind (key_of q)) }
+    ensures { result ≡ answered_by (find_answer (answers_in job.now index.now c) q.kind (key_of q)) }
 {
     let a = answer_to(job, index, c, q);
     match a {
@@ -133,7 +133,7 @@ pub fn ask_same(job: &[u8], index: &[u32], c: Counts, kind: usize, a: usize, b: 
 // Kind 8, for the lower use of a pair.
 pub fn ask_surface(job: &[u8], index: &[u32], c: Counts, h: usize) -> Surface
     requires { Indexed job.now index.now c × (h < 4294967296) }
-    ensures { result ≡ surface_by (findAnswer (answers_in job.now index.now c) 8 (h ∷ [])) }
+    ensures { result ≡ surface_by (find_answer (answers_in job.now index.now c) 8 (h ∷ [])) }
 {
     let a = answer_to(job, index, c, answers::about_one(8, h));
     match a {

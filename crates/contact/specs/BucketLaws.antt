@@ -119,7 +119,7 @@ module _ (w : ℕ) (starts names heads nexts : List ℕ) (k : ℕ) (s : Bucketed
           in_some test (subst (λ e. j ∈ chain (next_fan nexts) e) (ap (λ q. get_or heads (q % w) 0) point ∙ sym ee) (s.holds j lj)) (agree (get_or names j 0) ∙ ap meet g ∙ r.2)
 
   -- the fan at place k on the chain of its point p
-  module _ (v p entry : ℕ) (ev : v ≡ get_or names k 0) (ep : p ≡ fan_point starts v) (ee : entry ≡ get_or heads (p % w) 0) (room : k < length nexts) (some-chains : 0 < w) (wide : length heads ≡ w) where
+  module _ (v p entry : ℕ) (ev : v ≡ get_or names k 0) (ep : p ≡ fan_point starts v) (ee : entry ≡ get_or heads (p % w) 0) (room : k < length nexts) (some_chains : 0 < w) (wide : length heads ≡ w) where
     abbrev heads' : List ℕ
     heads' = set heads (p % w) (k + 1)
 
@@ -127,7 +127,7 @@ module _ (w : ℕ) (starts names heads nexts : List ℕ) (k : ℕ) (s : Bucketed
     nexts' = set nexts k entry
 
     bucket : p % w < length heads
-    bucket = omega (arith, mod-lt p some-chains, wide)
+    bucket = omega (arith, mod-lt p some_chains, wide)
 
     falls : Falling (next_fan nexts')
     falls j = set_each (λ i x. x ≤ i) nexts k entry 0 room (omega (arith, s.entries (p % w))) j (λ n. s.falling j)

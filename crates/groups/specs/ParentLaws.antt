@@ -8,7 +8,7 @@ use Rattle.lists.specs.Lists.{below}
 use Rattle.lists.specs.Runs.{length_below, get_or_below, length_table, get_or_table}
 use Rattle.lists.specs.Tables.{set_each}
 use Rattle.rules.specs.Groups.{alone, label_of, joined}
-use Rattle.rules.proofs.GroupLaws.{length_joined, joined_at, joined_same as joined-none}
+use Rattle.rules.proofs.GroupLaws.{length_joined, joined_at, joined_same as joined_none}
 use Rattle.groups.specs.Parents.{Ordered, Stands, Rooted, JoinedIn, SeparateIn}
 
 past : (l : List ℕ) (i : ℕ) → length l ≤ i → get_or l i 0 ≡ 0
@@ -199,7 +199,7 @@ module _ (p m q : List ℕ) (a b ra rb : ℕ) (x : Rooted p m a ra) (y : Rooted 
     stands = λ ls s.
         let u = x.stands ls s in
         let v = y.stands ls u.1 in
-        subst (Stands q) (sym (joined-none ls a b (sym u.0 ∙ e ∙ v.0))) v.1;
+        subst (Stands q) (sym (joined_none ls a b (sym u.0 ∙ e ∙ v.0))) v.1;
   }
 
   -- two roots that differ were of separate groups, equal ones of one

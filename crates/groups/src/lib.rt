@@ -5,7 +5,7 @@
 
 ghost use Rattle.std.specs.Prelude.{◌≡◌, List, map, ℕ, ◌-◌, ◌≤◌, length};
 ghost use Rattle.lists.specs.Lists.{below};
-ghost use Rattle.rules.specs.Groups.{alone as aloneOf, label_of};
+ghost use Rattle.rules.specs.Groups.{alone as alone_of, label_of};
 ghost use Rattle.groups.specs.Parents.{Ordered, Stands, Rooted, JoinedIn, SeparateIn, padded};
 
 use fields::{get, put};
@@ -13,7 +13,7 @@ use fields::{get, put};
 // Each number is alone.
 pub fn alone(parents: &mut [u32])
     requires { length parents.old ≤ 4294967296 }
-    ensures { (parents.new ≡ aloneOf (length parents.old)) × Stands parents.new (aloneOf (length parents.old)) }
+    ensures { (parents.new ≡ alone_of (length parents.old)) × Stands parents.new (alone_of (length parents.old)) }
 {
     let mut i: usize = 0;
     while i < parents.len() {
@@ -72,7 +72,7 @@ pub fn settle(parents: &mut [u32])
 // GROUPS LENT WITH THEIR PARENTS INSIDE
 
 // Groups of at most 256 numbers.
-#[derive(Drop)]
+#[derive(Clone, Copy)]
 pub struct Groups {
     pub parents: [u32; 256],
 }
@@ -80,7 +80,7 @@ pub struct Groups {
 // Each of n numbers alone; past them every number is in the group of 0.
 pub fn new(n: usize) -> Groups
     requires { n ≤ 256 }
-    ensures { Stands result.parents (padded (256 - n) (aloneOf n)) }
+    ensures { Stands result.parents (padded (256 - n) (alone_of n)) }
 {
     let mut parents = [0u32; 256];
     alone(&mut parents[..n]);

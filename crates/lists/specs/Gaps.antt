@@ -63,7 +63,7 @@ module _ {n : ℕ} {f : ℕ → ℕ} {gone : ℕ → Bool} (P : Perm n f (λ x. 
       (λ none. absurd (true≢false (sym (not-false (gone (iterate f p.0 a)) (none p.0 (omega arith))) ∙ back)))
       (least_below (λ k. not (gone (iterate f k a))) (suc p.0))
 
-  -- one-source, where the first place is not the later one
+  -- one_source, where the first place is not the later one
   earlier : (a b i j : ℕ) → Entry n f gone a → Entry n f gone b → i ≤ j → ((l : ℕ) → l < j → gone (iterate f l b) ≡ true)
       → iterate f i a ≡ iterate f j b → (i ≡ j) × (a ≡ b)
   earlier a b i j E F le r e = go (j - i) refl

@@ -145,26 +145,26 @@ module _ (bytes ix : List ℕ) (c : Counts) (at : ℕ) (k : Kind) (size : ℕ) (
     pub judge_limit : (t : Bool) → t ≡ limit_passed k c n → t ≡ true → Judged bytes ix c at k 5
     judge_limit t a b = stop bytes ix c at k 5 (omega arith) (stop_limit f s k (sym H.kind) refl right p (limit t true a b))
 
-    module _ (m : Bool) (m-is : m ≡ limit_passed k c n) (room : m ≡ false) (x : Bool) (x-is : x ≡ fields_permitted k c (fields_in n (drop (at + 6) bytes))) where
+    module _ (m : Bool) (m_is : m ≡ limit_passed k c n) (room : m ≡ false) (x : Bool) (x_is : x ≡ fields_permitted k c (fields_in n (drop (at + 6) bytes))) where
       permitted : (u : Bool) → x ≡ u → fields_permitted k c (fields_at bytes at) ≡ u
-      permitted u b = ap (fields_permitted k c) (sym (fields n e)) ∙ sym x-is ∙ b
+      permitted u b = ap (fields_permitted k c) (sym (fields n e)) ∙ sym x_is ∙ b
 
       -- 4
       pub judge_fields : x ≡ false → Judged bytes ix c at k 4
-      judge_fields b = stop bytes ix c at k 4 (omega arith) (stop_fields f s k (sym H.kind) refl right p (limit m false m-is room) (permitted false b))
+      judge_fields b = stop bytes ix c at k 4 (omega arith) (stop_fields f s k (sym H.kind) refl right p (limit m false m_is room) (permitted false b))
 
-      module _ (x-ok : x ≡ true) (q : Bool) (q-is : q ≡ selected_before k (faces_in bytes ix c) (fields_at bytes at)) where
+      module _ (x_ok : x ≡ true) (q : Bool) (q_is : q ≡ selected_before k (faces_in bytes ix c) (fields_at bytes at)) where
         fresh : (u : Bool) → q ≡ u → selected_before k (job_in bytes ix c).faces (fields_at bytes at) ≡ u
         unfolding job_in
-        fresh u b = sym q-is ∙ b
+        fresh u b = sym q_is ∙ b
 
         -- 45
         pub judge_selected : q ≡ true → Judged bytes ix c at k 45
         judge_selected b =
             stop bytes ix c at k 45 (omega arith)
-            (stop_selected f s k (sym H.kind) refl right p (limit m false m-is room) (permitted true x-ok) (fresh true b))
+            (stop_selected f s k (sym H.kind) refl right p (limit m false m_is room) (permitted true x_ok) (fresh true b))
 
-        module _ (q-no : q ≡ false) (j : Bool) (j_is : j ≡ right_joints k (points_in bytes c) (edges_in bytes c) (fields_in n (drop (at + 6) bytes))) where
+        module _ (q_no : q ≡ false) (j : Bool) (j_is : j ≡ right_joints k (points_in bytes c) (edges_in bytes c) (fields_in n (drop (at + 6) bytes))) where
           joints : (u : Bool) → j ≡ u → right_joints k (job_in bytes ix c).points (job_in bytes ix c).edges (fields_at bytes at) ≡ u
           unfolding job_in
           joints u b = ap (right_joints k (points_in bytes c) (edges_in bytes c)) (sym (fields n e)) ∙ sym j_is ∙ b
@@ -173,18 +173,18 @@ module _ (bytes ix : List ℕ) (c : Counts) (at : ℕ) (k : Kind) (size : ℕ) (
           pub judge_joints : j ≡ false → Judged bytes ix c at k 6
           judge_joints b =
               stop bytes ix c at k 6 (omega arith)
-              (stop_joints f s k (sym H.kind) refl right p (limit m false m-is room) (permitted true x-ok) (fresh false q-no) (joints false b))
+              (stop_joints f s k (sym H.kind) refl right p (limit m false m_is room) (permitted true x_ok) (fresh false q_no) (joints false b))
 
-          module _ (j-ok : j ≡ true) (a : Bool) (a-is : a ≡ answered_before k (answers_in bytes ix c) (fields_at bytes at)) where
+          module _ (j_ok : j ≡ true) (a : Bool) (a_is : a ≡ answered_before k (answers_in bytes ix c) (fields_at bytes at)) where
             before : (u : Bool) → a ≡ u → answered_before k (job_in bytes ix c).answers (fields_at bytes at) ≡ u
             unfolding job_in
-            before u b = sym a-is ∙ b
+            before u b = sym a_is ∙ b
 
             -- 7
             pub judge_answered : a ≡ true → Judged bytes ix c at k 7
             judge_answered b =
                 stop bytes ix c at k 7 (omega arith)
-                (stop_answered f s k (sym H.kind) refl right p (limit m false m-is room) (permitted true x-ok) (fresh false q-no) (joints true j-ok)
+                (stop_answered f s k (sym H.kind) refl right p (limit m false m_is room) (permitted true x_ok) (fresh false q_no) (joints true j_ok)
                 (before true b))
 
             -- no refusal
@@ -194,9 +194,9 @@ module _ (bytes ix : List ℕ) (c : Counts) (at : ℕ) (k : Kind) (size : ℕ) (
               passed = λ z. record {
                 right = right;
                 position = p;
-                limit = limit m false m-is room;
-                new = sym a-is ∙ b;
-                taken = record_taken f s k (sym H.kind) refl right p (limit m false m-is room) (permitted true x-ok) (fresh false q-no) (joints true j-ok)
+                limit = limit m false m_is room;
+                new = sym a_is ∙ b;
+                taken = record_taken f s k (sym H.kind) refl right p (limit m false m_is room) (permitted true x_ok) (fresh false q_no) (joints true j_ok)
                     (before false b);
               };
             }

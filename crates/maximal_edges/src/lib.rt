@@ -6,7 +6,7 @@ ghost use Rattle.std.specs.Prelude.{◌≡◌, ℕ, ◌+◌, ◌*◌, ◌<◌, �
 ghost use Rattle.lists.specs.Lists.{◌∈◌, Nodup, same};
 ghost use Rattle.rules.specs.Sense.{reverse};
 ghost use Rattle.rules.specs.Questions.{ask_yes};
-ghost use Rattle.rules.specs.Join.{edge_data_at, not_singular, may_join, joined_edge, retired as retiredEdge, ring_of, maximal_edges};
+ghost use Rattle.rules.specs.Join.{edge_data_at, not_singular, may_join, joined_edge, retired as retired_edge, ring_of, maximal_edges};
 ghost use Rattle.job.specs.Lists.{answers_in};
 ghost use Rattle.answers.specs.Index.{Indexed};
 ghost use Rattle.ask.specs.Told.{told_of};
@@ -377,7 +377,7 @@ fn joined_edge(v: usize, a: EdgeData, b: EdgeData) -> EdgeData
 
 // An edge taken by a join.
 fn retired(e: EdgeData) -> EdgeData
-    ensures { result ≡ retiredEdge e }
+    ensures { result ≡ retired_edge e }
 {
     let sense = e.sense;
     let faces = e.faces;

@@ -8,7 +8,7 @@ ghost use Rattle.rules.specs.Outcome.{ok};
 ghost use Rattle.rules.specs.Read.{face_of_use};
 ghost use Rattle.rules.specs.Groups.{Grouping, lowest_members, group_numbers, Lowest};
 ghost use Rattle.rules.specs.Rules.{full_table};
-ghost use Rattle.rules.specs.Merge.{boundaries as boundariesOf, other_face, joins_faces, merge_step, merged_groups, removes, removed_uses};
+ghost use Rattle.rules.specs.Merge.{boundaries as boundaries_of, other_face, joins_faces, merge_step, merged_groups, removes, removed_uses};
 ghost use Rattle.job.specs.Lists.{faces_in, answers_in};
 ghost use Rattle.uses.specs.Table.{uses_in};
 ghost use Rattle.groups.specs.Parents.{Ordered, Stands};
@@ -69,7 +69,7 @@ pub fn join_pairs(g: Groups, uses: &[u32], twins: &[u32], n: usize) -> Groups
 // The faces of every twin pair join. Each face's label in the end.
 pub fn boundaries(uses: &[u32], twins: &[u32], labels: &mut [u32])
     requires { length labels.old ≤ 256 }
-    ensures { labels.new ≡ boundariesOf (uses_in uses.now) twins.now (length labels.old) }
+    ensures { labels.new ≡ boundaries_of (uses_in uses.now) twins.now (length labels.old) }
 {
     let alone = groups::new(labels.len());
     let joined = join_pairs(alone, uses, twins, uses::count(uses));

@@ -3,10 +3,10 @@
 #![tactic(auto)]
 
 ghost use Rattle.std.specs.Prelude.{◌≡◌, ◌+◌, ◌*◌, ◌<◌, ◌≤◌, length, drop, replicate};
-ghost use Rattle.lists.specs.Lists.{has as hasNumber, all, index_of};
+ghost use Rattle.lists.specs.Lists.{has as has_number, all, index_of};
 ghost use Rattle.rules.specs.Fields.{fields_in};
 ghost use Rattle.rules.specs.Job.{unset};
-ghost use Rattle.rules.specs.Pair.{uses_of_edge, twinned, same_use, pair_two, take_predecessor, take_predecessors, last_of, pair_round, pair_edge, pair as pairAll};
+ghost use Rattle.rules.specs.Pair.{uses_of_edge, twinned, same_use, pair_two, take_predecessor, take_predecessors, last_of, pair_round, pair_edge, pair as pair_all};
 ghost use Rattle.job.specs.Lists.{answers_in};
 ghost use Rattle.answers.specs.Index.{Indexed};
 ghost use Rattle.fields.specs.Chains.{Falling};
@@ -27,7 +27,7 @@ enum Pairs {
 }
 
 // The twins of all uses, the entries after them unset; refusal 0: none.
-#[derive(Drop)]
+#[derive(Clone, Copy)]
 pub struct Paired {
     pub refusal: usize,
     pub place: usize,
@@ -35,7 +35,7 @@ pub struct Paired {
 }
 
 // The same of a part with at most 64 uses: a small table is cleared and handed on sooner.
-#[derive(Drop)]
+#[derive(Clone, Copy)]
 pub struct SmallPaired {
     pub refusal: usize,
     pub place: usize,
@@ -80,7 +80,7 @@ fn pair_two(uses: &[u32], twins: &mut [u32], e: usize, a: usize, b: usize) -> Pa
 // Among the n numbers from a byte of the job on is h.
 fn has(job: &[u8], from: usize, n: usize, h: usize) -> bool
     requires { (from < 4294967306) × (n < 1073741824) }
-    ensures { result ≡ hasNumber h (fields_in n (drop from job.now)) }
+    ensures { result ≡ has_number h (fields_in n (drop from job.now)) }
 {
     let mut i = 0;
     while i < n {
@@ -95,7 +95,7 @@ fn has(job: &[u8], from: usize, n: usize, h: usize) -> bool
 // Among the n numbers from a byte of the job on is each use of an edge.
 fn has_all(job: &[u8], from: usize, n: usize, firsts: &[u32], nexts: &[u32], e: usize) -> bool
     requires { (from < 4294967306) × (n < 1073741824) × Falling (next_use nexts.now) }
-    ensures { result ≡ all (λ h. hasNumber h (fields_in n (drop from job.now))) (uses_on firsts.now nexts.now e) }
+    ensures { result ≡ all (λ h. has_number h (fields_in n (drop from job.now))) (uses_on firsts.now nexts.now e) }
 {
     let mut i = get(firsts, e);
     while 0 < i {
@@ -237,7 +237,7 @@ fn pair_edges(
     twins: &mut [u32],
 ) -> Pairs
     requires { Indexed job.now index.now c × Linked (uses_in uses.now) firsts.now nexts.now × (length firsts.now ≡ c.edges) × (c.edges ≤ 1024) × (twins.old ≡ replicate (length (uses_in uses.now)) unset) }
-    ensures { pairs_of result twins.new ≡ pairAll (answers_in job.now index.now c) (uses_in uses.now) c.edges }
+    ensures { pairs_of result twins.new ≡ pair_all (answers_in job.now index.now c) (uses_in uses.now) c.edges }
 {
     let mut e = 0;
     while e < c.edges {
@@ -267,7 +267,7 @@ pub fn pair(
     nexts: &[u32],
 ) -> Paired
     requires { Indexed job.now index.now c × Linked (uses_in uses.now) firsts.now nexts.now × (length (uses_in uses.now) ≤ 2048) × (length firsts.now ≡ c.edges) × (c.edges ≤ 1024) }
-    ensures { (twins_of (length (uses_in uses.now)) result.refusal result.place result.twins ≡ pairAll (answers_in job.now index.now c) (uses_in uses.now) c.edges) × (length result.twins ≡ 2048) }
+    ensures { (twins_of (length (uses_in uses.now)) result.refusal result.place result.twins ≡ pair_all (answers_in job.now index.now c) (uses_in uses.now) c.edges) × (length result.twins ≡ 2048) }
 {
     let n = uses::count(uses);
     let mut twins = [NONE; 2048];
@@ -296,7 +296,7 @@ pub fn pair_small(
     nexts: &[u32],
 ) -> SmallPaired
     requires { Indexed job.now index.now c × Linked (uses_in uses.now) firsts.now nexts.now × (length (uses_in uses.now) ≤ 64) × (length firsts.now ≡ c.edges) × (c.edges ≤ 1024) }
-    ensures { (twins_of (length (uses_in uses.now)) result.refusal result.place result.twins ≡ pairAll (answers_in job.now index.now c) (uses_in uses.now) c.edges) × (length result.twins ≡ 64) }
+    ensures { (twins_of (length (uses_in uses.now)) result.refusal result.place result.twins ≡ pair_all (answers_in job.now index.now c) (uses_in uses.now) c.edges) × (length result.twins ≡ 64) }
 {
     let n = uses::count(uses);
     let mut twins = [NONE; 64];

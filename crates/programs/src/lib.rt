@@ -10,7 +10,7 @@ ghost use Rattle.lines.specs.StageListed.{StagedInto, StageLists};
 
 use rules::Ending;
 use std::env::FillError;
-use std::io::Read;
+use std::io::{Read, Write};
 use std::rt::{Env, Files};
 use std::str::from_utf8;
 use std::{fs, io};
@@ -81,10 +81,24 @@ pub struct Program<'a> {
     pub usage: &'a str,
 }
 
-// Says on standard error why a call failed, after the program's name.
+// Says on standard error why a call failed, after the program's name: in the system's words, without the number that the
+// library puts behind them.
 pub fn fail(rt: &impl Eprint, program: Program<'_>, what: &str, why: &io::Error) {
     let name = program.name;
-    let _told = eprintln!(rt; "{name}: {what}: {why}");
+    let mut text = [0u8; 256];
+    let mut room: &mut [u8] = &mut text;
+    let _written = write!(room, "{why}");
+    let words = front(from_utf8(&text).unwrap_or(""), "\0");
+    let reason = front(words, " (os error ");
+    let _told = eprintln!(rt; "{name}: {what}: {reason}");
+}
+
+// A text up to a mark, or all of it.
+fn front<'a>(text: &'a str, mark: &str) -> &'a str {
+    match text.split_once(mark) {
+        Some((front, _)) => front,
+        None => text,
+    }
 }
 
 // Says on standard error what words a program takes.

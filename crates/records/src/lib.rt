@@ -7,7 +7,7 @@ ghost use Rattle.lists.specs.Lists.{all, neighbours};
 ghost use Rattle.rules.specs.Fields.{le32, fields_in};
 ghost use Rattle.rules.specs.Job.{item_at, items_from, of_ring};
 ghost use Rattle.rules.specs.Kinds.{is_answer, in_turn, is_sense, is_body, exists, ends_permitted, items_permitted, fields_permitted, right_length, right_position, limit_passed};
-ghost use Rattle.rules.specs.Load.{joint, jointed as jointedOf, right_joints, counted};
+ghost use Rattle.rules.specs.Load.{joint, jointed as jointed_of, right_joints, counted};
 ghost use Rattle.theorems.specs.Sound.{Limited};
 ghost use Rattle.job.specs.Lists.{points_in, edges_in};
 ghost use Rattle.records.specs.Joints.{ends_of};
@@ -469,7 +469,7 @@ fn joined(job: &[u8], c: Counts, body: usize, n: usize) -> bool
 // A ring's use alone, or joints.
 fn jointed(job: &[u8], c: Counts, body: usize, n: usize) -> bool
     requires { Limited c × (body + 8 * n < 2 ^ 59) }
-    ensures { result ≡ jointedOf (points_in job.now c) (edges_in job.now c) (items_from job.now body n) }
+    ensures { result ≡ jointed_of (points_in job.now c) (edges_in job.now c) (items_from job.now body n) }
 {
     if n != 1 {
         return joined(job, c, body, n);

@@ -7,7 +7,7 @@
 ghost use Rattle.std.specs.Prelude.{◌≡◌, ℕ, ◌+◌, ◌*◌, ◌<◌, ◌≤◌, ◌^◌, List, map, length, get_or, replicate, eqb};
 ghost use Rattle.rules.specs.Fields.{le32};
 ghost use Rattle.rules.specs.Groups.{lowest_members, Lowest};
-ghost use Rattle.rules.specs.Shells.{shell_faces, shells as shellsBy, nested, innermost, enclosing_shell, none, lump_labels};
+ghost use Rattle.rules.specs.Shells.{shell_faces, shells as shells_by, nested, innermost, enclosing_shell, none, lump_labels};
 ghost use Rattle.job.specs.Lists.{answers_in};
 ghost use Rattle.answers.specs.Index.{Indexed};
 ghost use Rattle.ask.specs.Told.{asked_of, told_of};
@@ -141,7 +141,7 @@ pub fn shells(
     table: &mut [u32],
 ) -> Nesting
     requires { Indexed job.now index.now c × (length table.old ≡ 1024) × (length boundaries.now ≤ 256) × (length members.now ≤ 256) }
-    ensures { (shells_of boundaries.now members.now table.new result ≡ shellsBy (answers_in job.now index.now c) (le32 job.now 6) (map (shell_faces boundaries.now members.now) (lowest_members boundaries.now))) × Standing boundaries.now members.now table.new result }
+    ensures { (shells_of boundaries.now members.now table.new result ≡ shells_by (answers_in job.now index.now c) (le32 job.now 6) (map (shell_faces boundaries.now members.now) (lowest_members boundaries.now))) × Standing boundaries.now members.now table.new result }
 {
     let mut lows = [0u32; 256];
     low_faces(boundaries, members, &mut lows);

@@ -85,16 +85,16 @@ body_members b =
     ∙ append_none (map record_of b.faces)
 
 -- what is written of the selected faces behind one face
-abbrev told_of_lem : List Face → List ℕ → Record
-told_of_lem fs is = members_record (map (member_at fs) is)
+abbrev members_told : List Face → List ℕ → Record
+members_told fs is = members_record (map (member_at fs) is)
 
 faces_members : (fs : List Face) (groups actives : List ℕ) (ls : List FaceLoop) (ks : List KeptVertexLoop) (f : ℕ) (ms : List ℕ)
-    → map record_of (body_faces fs groups actives ls ks f ms) ≡ map (told_of_lem fs) (map (members_of groups) ms)
+    → map record_of (body_faces fs groups actives ls ks f ms) ≡ map (members_told fs) (map (members_of groups) ms)
 unfolding body_faces body_face
 faces_members fs groups actives ls ks f [] = refl
-faces_members fs groups actives ls ks f (m ∷ ms) = ap (λ rs. told_of_lem fs (members_of groups m) ∷ rs) (faces_members fs groups actives ls ks (suc f) ms)
+faces_members fs groups actives ls ks f (m ∷ ms) = ap (λ rs. members_told fs (members_of groups m) ∷ rs) (faces_members fs groups actives ls ks (suc f) ms)
 
-solid_members : (j : Job) (x : Joined) (ns : List Nested) → map record_of (body_of j x ns).faces ≡ map (told_of_lem j.faces) (behind_faces x.fan.walk)
+solid_members : (j : Job) (x : Joined) (ns : List Nested) → map record_of (body_of j x ns).faces ≡ map (members_told j.faces) (behind_faces x.fan.walk)
 unfolding body_of solid_body
 solid_members j x ns =
     faces_members j.faces x.fan.walk.merge.groups _ x.joining.loops x.fan.walk.vertex_loops 0 (lowest_members x.fan.walk.merge.groups)
@@ -146,8 +146,8 @@ module _ (t : Table) (job : List ℕ) (j : Job) (l : loaded job ≡ ok j) where
       let g : List ℕ = w.merge.groups in
       let G = grouped w walk.1 in
       let same : x.fan.walk ≡ w = ap (λ (y : Joined). y.fan.walk) (through_joined t j w x walk.1 S.joining).1 ∙ fan_of j w in
-      let faces : map record_of b.faces ≡ map (told_of_lem j.faces) (behind_faces w) =
-      ap (λ (y : Body). map record_of y.faces) S.body ∙ solid_members j x S.nests ∙ ap (λ (v : Walked). map (told_of_lem j.faces) (behind_faces v)) same in
+      let faces : map record_of b.faces ≡ map (members_told j.faces) (behind_faces w) =
+      ap (λ (y : Body). map record_of y.faces) S.body ∙ solid_members j x S.nests ∙ ap (λ (v : Walked). map (members_told j.faces) (behind_faces v)) same in
       record {
         body = b;
         rebuilt = r;
@@ -155,7 +155,7 @@ module _ (t : Table) (job : List ℕ) (j : Job) (l : loaded job ≡ ok j) where
         behind = behind_faces w;
         merged = λ v q. ap behind_faces (ok_one (sym walk.1 ∙ q));
         each =
-            sym (length-map (behind_faces w) (told_of_lem j.faces)) ∙ ap length (sym faces) ∙ length-map b.faces record_of ∙ sym (body_faces_lem b);
+            sym (length-map (behind_faces w) (members_told j.faces)) ∙ ap length (sym faces) ∙ length-map b.faces record_of ∙ sym (body_faces_lem b);
         records = body_members b ∙ faces;
         ascending = λ is m.
             let a = map_in (members_of g) (lowest_members g) is m in

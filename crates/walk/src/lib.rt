@@ -4,7 +4,7 @@
 
 ghost use Rattle.std.specs.Prelude.{◌≡◌, ◌+◌, ◌*◌, ◌<◌, ◌≤◌, false, length};
 ghost use Rattle.lists.specs.Lists.{sum_of};
-ghost use Rattle.rules.specs.Walk.{pass as passOf, successors as successorsOf, passed_counts, successor as successorAt, circuit, circuit_uses, circuits, loops_of};
+ghost use Rattle.rules.specs.Walk.{pass as pass_of, successors as successors_of, passed_counts, successor as successor_at, circuit, circuit_uses, circuits, loops_of};
 ghost use Rattle.theorems.specs.Circuits.{Permuted};
 ghost use Rattle.uses.specs.Table.{uses_in};
 ghost use Rattle.walk.specs.Walks.{Met, Succeeds, Closes, Round, loops_in, Following, Walking, unvisited};
@@ -22,7 +22,7 @@ pub struct Passed {
 // From a use on: while it is removed, on to the old successor of its twin, looking at most as often as there are uses.
 fn pass(uses: &[u32], twins: &[u32], removed: &[bool], from: usize) -> Passed
     requires { from < 4294967296 }
-    ensures { Met (length (uses_in uses.now)) (passOf (uses_in uses.now) twins.now removed.now (length (uses_in uses.now)) from 0) result.at result.passed }
+    ensures { Met (length (uses_in uses.now)) (pass_of (uses_in uses.now) twins.now removed.now (length (uses_in uses.now)) from 0) result.at result.passed }
 {
     let n = count(uses);
     let mut h = from;
@@ -65,7 +65,7 @@ pub fn successors(
     passed: &mut [u32],
 ) -> usize
     requires { (length (uses_in uses.now) ≤ 2048) × (length succ.old ≡ length (uses_in uses.now)) × (length passed.old ≡ length (uses_in uses.now)) }
-    ensures { (succ.new ≡ successorsOf (uses_in uses.now) twins.now removed.now) × (passed.new ≡ passed_counts (uses_in uses.now) twins.now removed.now) × (result ≡ sum_of (λ k. k) passed.new) }
+    ensures { (succ.new ≡ successors_of (uses_in uses.now) twins.now removed.now) × (passed.new ≡ passed_counts (uses_in uses.now) twins.now removed.now) × (result ≡ sum_of (λ k. k) passed.new) }
 {
     let n = count(uses);
     let mut total: usize = 0;
@@ -82,7 +82,7 @@ pub fn successors(
 
 // The successor of a use, from the table; the unset mark past its end.
 pub fn successor(succ: &[u32], h: usize) -> usize
-    ensures { (result ≡ successorAt succ.now h) × (result < 4294967296) }
+    ensures { (result ≡ successor_at succ.now h) × (result < 4294967296) }
 {
     if h < succ.len() {
         return get(succ, h);

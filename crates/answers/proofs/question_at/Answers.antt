@@ -53,9 +53,9 @@ returns-in-Radial c =
     let a = c.args in
     let half = c.half-k in
     let word = c.word-a in
-    let kind_of_lem = c.kind_of-kind in
-    read_one a.job.now a.at half.result kind_of_lem.result c.about_one.result half.ensures.0 half.ensures.1 kind_of_lem.ensures
-    word.result word.ensures.0 word.ensures.1 (by_one half.result a.job.now (a.at + 6) kind_of_lem.result
+    let kind_of_here = c.kind_of-kind in
+    read_one a.job.now a.at half.result kind_of_here.result c.about_one.result half.ensures.0 half.ensures.1 kind_of_here.ensures
+    word.result word.ensures.0 word.ensures.1 (by_one half.result a.job.now (a.at + 6) kind_of_here.result
     c.in-Radial.is) c.about_one.ensures
 
 pub returns-in-Points : goal.returns-in-Points
@@ -64,10 +64,10 @@ returns-in-Points c =
     let half = c.half-k in
     let word = c.word-a in
     let word2 = c.word-b in
-    let kind_of_lem = c.kind_of-kind in
-    read_either a.job.now a.at half.result kind_of_lem.result c.about_either.result half.ensures.0 half.ensures.1
-    kind_of_lem.ensures word.result word.ensures.0 word.ensures.1 word2.result word2.ensures.0 word2.ensures.1
-    (by_either half.result a.job.now (a.at + 6) kind_of_lem.result c.in-Points.is) c.about_either.ensures
+    let kind_of_here = c.kind_of-kind in
+    read_either a.job.now a.at half.result kind_of_here.result c.about_either.result half.ensures.0 half.ensures.1
+    kind_of_here.ensures word.result word.ensures.0 word.ensures.1 word2.result word2.ensures.0 word2.ensures.1
+    (by_either half.result a.job.now (a.at + 6) kind_of_here.result c.in-Points.is) c.about_either.ensures
 
 pub returns-in-Inside : goal.returns-in-Inside
 returns-in-Inside c =
@@ -75,10 +75,10 @@ returns-in-Inside c =
     let half = c.half-k in
     let word = c.word-a in
     let word2 = c.word-b in
-    let kind_of_lem = c.kind_of-kind in
-    read_two a.job.now a.at half.result kind_of_lem.result c.about_two.result half.ensures.0 half.ensures.1 kind_of_lem.ensures
+    let kind_of_here = c.kind_of-kind in
+    read_two a.job.now a.at half.result kind_of_here.result c.about_two.result half.ensures.0 half.ensures.1 kind_of_here.ensures
     word.result word.ensures.0 word.ensures.1 word2.result word2.ensures.0 word2.ensures.1
-    (by_two half.result a.job.now (a.at + 6) kind_of_lem.result c.in-Inside.is) c.about_two.ensures
+    (by_two half.result a.job.now (a.at + 6) kind_of_here.result c.in-Inside.is) c.about_two.ensures
 
 pub returns-in-Singular : goal.returns-in-Singular
 returns-in-Singular c =
@@ -86,20 +86,20 @@ returns-in-Singular c =
     let half = c.half-k in
     let word = c.word-a in
     let word2 = c.word-b in
-    let kind_of_lem = c.kind_of-kind in
+    let kind_of_here = c.kind_of-kind in
     let word3 = c.word-c in
-    read_four a.job.now a.at half.result kind_of_lem.result (about_four half.result word.result word2.result word3.result
-    c.word-d.result) half.ensures.0 half.ensures.1 kind_of_lem.ensures word.result word.ensures.0 word.ensures.1
+    read_four a.job.now a.at half.result kind_of_here.result (about_four half.result word.result word2.result word3.result
+    c.word-d.result) half.ensures.0 half.ensures.1 kind_of_here.ensures word.result word.ensures.0 word.ensures.1
     word2.result word2.ensures.0 word2.ensures.1 word3.result c.word-d.result word3.ensures.0 word3.ensures.1
-    c.word-d.ensures.0 c.word-d.ensures.1 (by_four half.result a.job.now (a.at + 6) kind_of_lem.result c.in-Singular.is)
+    c.word-d.ensures.0 c.word-d.ensures.1 (by_four half.result a.job.now (a.at + 6) kind_of_here.result c.in-Singular.is)
     refl
 
 pub returns-in_default : goal.returns-in_default
 returns-in_default c =
     let a = c.args in
     let half = c.half-k in
-    let kind_of_lem = c.kind_of-kind in
+    let kind_of_here = c.kind_of-kind in
     let o = c.in_default in
-    read_none a.job.now a.at half.result kind_of_lem.result (about_none half.result) half.ensures.0 half.ensures.1
-    kind_of_lem.ensures (by_none half.result a.job.now (a.at + 6) kind_of_lem.result o.not-Radial o.not-Surface o.not-Points
+    read_none a.job.now a.at half.result kind_of_here.result (about_none half.result) half.ensures.0 half.ensures.1
+    kind_of_here.ensures (by_none half.result a.job.now (a.at + 6) kind_of_here.result o.not-Radial o.not-Surface o.not-Points
     o.not-Curves o.not-Singular o.not-Orientation o.not-Inside) refl

@@ -15,6 +15,6 @@ ask_yes-requires c =
 pub returns : goal.returns
 returns c =
     let a = c.args in
-    let about_two_lem = c.about_two in
-    told_as (answers_in a.job.now a.index.now a.c) (told_of c.ask_yes.result) about_two_lem.result
-    (about_two 13 a.probe a.container) about_two_lem.ensures c.ask_yes.ensures
+    let about_two_here = c.about_two in
+    told_as (answers_in a.job.now a.index.now a.c) (told_of c.ask_yes.result) about_two_here.result
+    (about_two 13 a.probe a.container) about_two_here.ensures c.ask_yes.ensures

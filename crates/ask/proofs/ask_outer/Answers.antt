@@ -15,6 +15,6 @@ ask_yes-requires c =
 pub returns : goal.returns
 returns c =
     let a = c.args in
-    let about_one_lem = c.about_one in
-    told_as (answers_in a.job.now a.index.now a.c) (told_of c.ask_yes.result) about_one_lem.result (about_one 12 a.low)
-    about_one_lem.ensures c.ask_yes.ensures
+    let about_one_here = c.about_one in
+    told_as (answers_in a.job.now a.index.now a.c) (told_of c.ask_yes.result) about_one_here.result (about_one 12 a.low)
+    about_one_here.ensures c.ask_yes.ensures

@@ -18,11 +18,11 @@ pub returns-in_default : goal.returns-in_default
 returns-in_default c =
     let a = c.args in
     let pre = c.requires in
-    let about_one_lem = c.about_one in
+    let about_one_here = c.about_one in
     let find = c.find-f in (
-      radial_missing_lem a.job.now a.index.now a.c a.e about_one_lem.result find.result pre.0
-          (shaped_as about_one_lem.result (about_one 7 a.e) about_one_lem.ensures (shaped_one 7 a.e (omega arith) pre.1))
-          about_one_lem.ensures find.ensures.0 c.in_default.is,
+      radial_missing_lem a.job.now a.index.now a.c a.e about_one_here.result find.result pre.0
+          (shaped_as about_one_here.result (about_one 7 a.e) about_one_here.ensures (shaped_one 7 a.e (omega arith) pre.1))
+          about_one_here.ensures find.ensures.0 c.in_default.is,
       tt,
     )
 
@@ -35,12 +35,12 @@ pub returns-then-n-le1 : goal.returns-then-n-le1
 returns-then-n-le1 c =
     let a = c.args in
     let pre = c.requires in
-    let about_one_lem = c.about_one in
+    let about_one_here = c.about_one in
     let find = c.find-f in
     let told = c.in-At in (
-      radial_none a.job.now a.index.now a.c a.e about_one_lem.result find.result pre.0
-          (shaped_as about_one_lem.result (about_one 7 a.e) about_one_lem.ensures (shaped_one 7 a.e (omega arith) pre.1))
-          about_one_lem.ensures find.ensures.0 told.p c.word-n.result told.is c.word-n.ensures.0 c.if-n-le1.true,
+      radial_none a.job.now a.index.now a.c a.e about_one_here.result find.result pre.0
+          (shaped_as about_one_here.result (about_one 7 a.e) about_one_here.ensures (shaped_one 7 a.e (omega arith) pre.1))
+          about_one_here.ensures find.ensures.0 told.p c.word-n.result told.is c.word-n.ensures.0 c.if-n-le1.true,
       tt,
     )
 
@@ -54,11 +54,11 @@ pub returns : goal.returns
 returns c =
     let a = c.args in
     let pre = c.requires in
-    let about_one_lem = c.about_one in
+    let about_one_here = c.about_one in
     let find = c.find-f in
     let told = c.in-At in (
-      radial_uses a.job.now a.index.now a.c a.e about_one_lem.result find.result pre.0
-          (shaped_as about_one_lem.result (about_one 7 a.e) about_one_lem.ensures (shaped_one 7 a.e (omega arith) pre.1))
-          about_one_lem.ensures find.ensures.0 told.p c.word-n.result told.is c.word-n.ensures.0 c.if-n-le1.false,
+      radial_uses a.job.now a.index.now a.c a.e about_one_here.result find.result pre.0
+          (shaped_as about_one_here.result (about_one 7 a.e) about_one_here.ensures (shaped_one 7 a.e (omega arith) pre.1))
+          about_one_here.ensures find.ensures.0 told.p c.word-n.result told.is c.word-n.ensures.0 c.if-n-le1.false,
       (omega (arith, place_fits find.result told.p find.ensures.1 told.is), omega (arith, c.word-n.ensures.1)),
     )

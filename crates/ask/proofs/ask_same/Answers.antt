@@ -22,6 +22,6 @@ ask_yes-requires c =
 pub returns : goal.returns
 returns c =
     let a = c.args in
-    let about_either_lem = c.about_either in
-    same_asked (answers_in a.job.now a.index.now a.c) a.kind a.a a.b (told_of c.ask_yes.result) about_either_lem.result
-    (ne_eqb _ _ c.if-a-b.false) about_either_lem.ensures c.ask_yes.ensures
+    let about_either_here = c.about_either in
+    same_asked (answers_in a.job.now a.index.now a.c) a.kind a.a a.b (told_of c.ask_yes.result) about_either_here.result
+    (ne_eqb _ _ c.if-a-b.false) about_either_here.ensures c.ask_yes.ensures

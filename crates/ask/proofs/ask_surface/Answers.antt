@@ -16,20 +16,20 @@ answer_to-a-requires c =
 pub returns-in-Value : goal.returns-in-Value
 returns-in-Value c =
     let a = c.args in
-    let about_one_lem = c.about_one in
+    let about_one_here = c.about_one in
     let answer_to = c.answer_to-a in
     let told = c.in-Value in
     let l = answers_in a.job.now a.index.now a.c in
     surface_says (find l 8 (a.h ∷ [])) answer_to.result told.v c.surface_answer.result
-    (value_as l answer_to.result about_one_lem.result (about_one 8 a.h) about_one_lem.ensures answer_to.ensures) told.is
+    (value_as l answer_to.result about_one_here.result (about_one 8 a.h) about_one_here.ensures answer_to.ensures) told.is
     c.surface_answer.ensures
 
 pub returns-in-Missing : goal.returns-in-Missing
 returns-in-Missing c =
     let a = c.args in
-    let about_one_lem = c.about_one in
+    let about_one_here = c.about_one in
     let answer_to = c.answer_to-a in
     let l = answers_in a.job.now a.index.now a.c in
     surface_missing_lem (find l 8 (a.h ∷ [])) answer_to.result
-    (value_as l answer_to.result about_one_lem.result (about_one 8 a.h) about_one_lem.ensures answer_to.ensures)
+    (value_as l answer_to.result about_one_here.result (about_one 8 a.h) about_one_here.ensures answer_to.ensures)
     c.in-Missing.is
