@@ -1,6 +1,7 @@
 use Rattle.edges.specs.Table.{rows_in}
 use Rattle.links.specs.Tables.{links_of}
-use Rattle.links.specs.JoinLinks.{fuse_first, fuse_second, join_is}
+use Rattle.links.specs.JoinLinks.{in_code, fuse_first, fuse_second, join_is}
+use mathlib.Core.Path.{refl}
 use native.Mathlib.Omega.{arith}
 use Rattle.links.proofs.join_places.Goals as goal
 
@@ -13,11 +14,13 @@ in_code-y-requires c = omega (arith, c.requires.two.inside, c.requires.number, c
 pub overflow_mul-new : goal.overflow_mul-new
 overflow_mul-new c = omega (arith, c.requires.few)
 
+-- the first place alone: whatever the second is
 pub fuse-requires : goal.fuse-requires
 fuse-requires c = (
   fuse_first (rows_in c.args.rows.now) c.args.v c.args.a c.args.b c.args.new
       (links_of c.args.list.now c.args.nexts.now c.args.heads.now c.args.owners.now c.args.spots.now
-      c.args.stretches.now) c.requires c.in_code-x.result c.in_code-y.result c.in_code-x.ensures c.in_code-y.ensures,
+      c.args.stretches.now) c.requires c.in_code-x.result (in_code (rows_in c.args.rows.now) c.args.v c.args.b)
+      c.in_code-x.ensures refl,
   omega (arith, c.requires.few),
 )
 
