@@ -30,24 +30,29 @@ const HEAD: &str = "\
 -- Jobs of every class and ending with the judge's answers. Written by `judge table`.
 use Rattle.std.specs.Prelude.{◌≡◌, refl, List, [], ◌∷◌, Bool, true, false, not, ◌&&◌, cond, ℕ, eqb, replicate}
 use Rattle.lists.specs.Lists.{positions, same}
-use Rattle.rules.specs.Outcome.{Outcome, ok, refuse}
+use Rattle.rules.specs.Outcome.{Outcome, Ok, Err, fault_number}
 use Rattle.rules.specs.Rules.{ordinary}
 use Rattle.rules.specs.Sew.{sewn}
 use Rattle.rules.specs.Stage.{read_stage, pair_stage, merge_stage, vertex_loop_stage, walk_stage, loop_stage, fan_stage, edge_stage, joining_stage, shell_stage, lump_stage}
 use Rattle.rules.specs.Open.{computes}
+
+-- an answer of the judge: the bytes written, or a refusal's number and place
+pub data Told : Type 0 where
+  wrote : List ℕ → Told
+  refused : ℕ → ℕ → Told
 
 -- a job, the operation (0 sewing, 1 to 11 the stages), the room, the answer
 pub record Row : Type 0 where
   pub job : List ℕ
   pub operation : ℕ
   pub room : ℕ
-  pub answer : Outcome (List ℕ)
+  pub answer : Told
 
-abbrev agrees : Outcome (List ℕ) → Outcome (List ℕ) → Bool
-agrees (ok a) (ok b) = same a b
-agrees (ok a) (refuse n p) = false
-agrees (refuse n p) (ok b) = false
-agrees (refuse n p) (refuse m q) = eqb n m && eqb p q
+abbrev agrees : Outcome (List ℕ) → Told → Bool
+agrees (Ok a) (wrote b) = same a b
+agrees (Ok a) (refused n p) = false
+agrees (Err r) (wrote b) = false
+agrees (Err r) (refused n p) = eqb (fault_number r.fault) n && eqb r.place p
 
 unfoldable stages : ℕ → List ℕ → ℕ → Outcome (List ℕ)
 stages o job room =
@@ -197,8 +202,8 @@ fn module(rows: &[Row]) -> String {
         let _ = write!(text, "\nunfoldable table{i} : List Row\ntable{i} =\n");
         for row in chunk {
             let answer = match &row.answer {
-                Ok(bytes) => format!("ok ({})", list(bytes)),
-                Err(refusal) => format!("refuse {} {}", refusal.number, refusal.place),
+                Ok(bytes) => format!("wrote ({})", list(bytes)),
+                Err(refusal) => format!("refused {} {}", refusal.number, refusal.place),
             };
             let _ = writeln!(
                 text,

@@ -1,5 +1,5 @@
 -- Walks along the chains of answers.
-use Rattle.std.specs.Prelude.{ℕ, ◌+◌, ◌*◌, ◌-◌, ◌<◌, ◌≤◌, ◌≡◌, refl, List, [], ◌∷◌, Bool, true, false, cond, get_or, take, drop}
+use Rattle.std.specs.Prelude.{ℕ, ◌+◌, ◌*◌, ◌-◌, ◌<◌, ◌≤◌, ◌≡◌, refl, List, [], ◌∷◌, Bool, true, false, cond, get_or, take, drop, Option, Some, None}
 use Rattle.std.proofs.Common.{mod-lt, sym, subst, ◌∙◌, length-take, get_or-take, get_or-drop}
 use native.Mathlib.Omega.{arith}
 use Rattle.std.proofs.Math.Path.{ap}
@@ -11,8 +11,6 @@ use Rattle.rules.specs.declared.Counts.{Counts}
 use Rattle.fields.specs.Chains.{Falling, chain_end, chain_more, chain_below, chain_same}
 use Rattle.job.specs.Lists.{answer_byte}
 use Rattle.answers.specs.declared.Question.{Question}
-use Rattle.answers.specs.declared.Found.{Found as Place}
-use Rattle.answers.specs.declared.Found.TheVariants.{At, Missing}
 use Rattle.answers.specs.Question.{Padded, one_question, question_in, bucket_of, RightAnswer}
 use Rattle.answers.specs.QuestionLaws.{one_question_lem}
 use Rattle.answers.specs.RecordLaws.{question_padded}
@@ -33,19 +31,19 @@ next_past ix k h = get_or-eq_default (take 2048 (drop 1024 ix)) 0 (omega (arith,
 -- A WALK
 
 module _ (bytes ix : List ℕ) (q : Question) where
-  pub place_end : (entry : ℕ) → entry ≤ 0 → place_on bytes ix q (answers_on ix entry) ≡ Missing
+  pub place_end : (entry : ℕ) → entry ≤ 0 → place_on bytes ix q (answers_on ix entry) ≡ None
   unfolding place_on
   place_end entry h = let e : entry ≡ 0 = omega arith in ap (λ n. place_on bytes ix q (answers_on ix n)) e ∙ ap (place_on bytes ix q) (chain_end (next_answer ix))
 
   place_first : (entry : ℕ) → Falling (next_answer ix) → 0 < entry
       → place_on bytes ix q (answers_on ix entry)
-      ≡ cond (one_question (question_in bytes (answer_byte ix (entry - 1))) q) (At (answer_byte ix (entry - 1))) (place_on bytes ix q (answers_on ix (next_answer ix (entry - 1))))
+      ≡ cond (one_question (question_in bytes (answer_byte ix (entry - 1))) q) (Some (answer_byte ix (entry - 1))) (place_on bytes ix q (answers_on ix (next_answer ix (entry - 1))))
   unfolding place_on
   place_first entry f h = ap (place_on bytes ix q) (chain_more (next_answer ix) f entry h)
 
   -- the first answer on the chain has the question
   pub place_hit : (entry : ℕ) → Falling (next_answer ix) → 0 < entry → one_question (question_in bytes (answer_byte ix (entry - 1))) q ≡ true
-      → place_on bytes ix q (answers_on ix entry) ≡ At (answer_byte ix (entry - 1))
+      → place_on bytes ix q (answers_on ix entry) ≡ Some (answer_byte ix (entry - 1))
   place_hit entry f h e = place_first entry f h ∙ cond_true (one_question (question_in bytes (answer_byte ix (entry - 1))) q) _ _ e
 
   -- it has another, and the walk goes on
@@ -55,7 +53,7 @@ module _ (bytes ix : List ℕ) (q : Question) where
       place_first entry f h ∙ cond_false (one_question (question_in bytes (answer_byte ix (entry - 1))) q) _ _ e ∙ ap (λ n. place_on bytes ix q (answers_on ix n)) (next_at ix (entry - 1) (omega arith))
 
 -- the place found is one that the index can hold
-pub place_fits : (f : Place) (p : ℕ) → Place32 f → f ≡ At p → p < 4294967296
+pub place_fits : (f : Option ℕ) (p : ℕ) → Place32 f → f ≡ Some p → p < 4294967296
 place_fits f p h e = subst Place32 e h
 
 -- what is to be found is still to be found from an entry on
@@ -68,7 +66,7 @@ module _ (bytes ix : List ℕ) (q : Question) (h : Chained ix) where
       let head : entry ≡ get_or ix (bucket_of q) 0 = e ∙ ap (λ x. get_or ix x 0) eb in
       (omega (arith, h.heads (bucket_of q) (bucket_below q)), ap (λ x. place_on bytes ix q (answers_on ix x)) (sym head))
 
-  pub walk_end : (entry : ℕ) → Walked bytes ix q entry → entry ≤ 0 → Missing ≡ place_for bytes ix q
+  pub walk_end : (entry : ℕ) → Walked bytes ix q entry → entry ≤ 0 → None ≡ place_for bytes ix q
   walk_end entry w l = sym (w.1 ∙ place_end bytes ix q entry l)
 
   -- one answer looked at, at byte p, whose question is r
@@ -78,8 +76,8 @@ module _ (bytes ix : List ℕ) (q : Question) (h : Chained ix) where
       test : one_question (question_in bytes (answer_byte ix (entry - 1))) q ≡ t
       test = sym (et ∙ ap (λ x. one_question x q) (er ∙ ap (question_in bytes) ep))
 
-      pub walk_found : t ≡ true → At p ≡ place_for bytes ix q
-      walk_found e = sym (w.1 ∙ place_hit bytes ix q entry h.falling more (test ∙ e) ∙ ap At (sym ep))
+      pub walk_found : t ≡ true → Some p ≡ place_for bytes ix q
+      walk_found e = sym (w.1 ∙ place_hit bytes ix q entry h.falling more (test ∙ e) ∙ ap Some (sym ep))
 
       pub walk_on : (after : ℕ) → t ≡ false → after ≡ get_or ix (1024 + (entry - 1)) 0 → Walked bytes ix q after × (after < entry)
       walk_on after e ea =
@@ -88,13 +86,13 @@ module _ (bytes ix : List ℕ) (q : Question) (h : Chained ix) where
 
 -- WHAT IS FOUND
 
-placed_on : (bytes ix : List ℕ) (q : Question) (ks : List ℕ) (p : ℕ) → place_on bytes ix q ks ≡ At p → (k : ℕ) × (k ∈ ks) × (p ≡ answer_byte ix k) × (one_question (question_in bytes p) q ≡ true)
+placed_on : (bytes ix : List ℕ) (q : Question) (ks : List ℕ) (p : ℕ) → place_on bytes ix q ks ≡ Some p → (k : ℕ) × (k ∈ ks) × (p ≡ answer_byte ix k) × (one_question (question_in bytes p) q ≡ true)
 unfolding place_on
 placed_on bytes ix q [] p e = absurd (let z : ◌≡◌ {A = ℕ} 0 1 = cc in omega arith)
 placed_on bytes ix q (k ∷ ks) p e = go (one_question (question_in bytes (answer_byte ix k)) q) refl e (placed_on bytes ix q ks p)
   where
-    go : (t : Bool) → one_question (question_in bytes (answer_byte ix k)) q ≡ t → cond t (At (answer_byte ix k)) (place_on bytes ix q ks) ≡ At p
-        → (place_on bytes ix q ks ≡ At p → (j : ℕ) × (j ∈ ks) × (p ≡ answer_byte ix j) × (one_question (question_in bytes p) q ≡ true))
+    go : (t : Bool) → one_question (question_in bytes (answer_byte ix k)) q ≡ t → cond t (Some (answer_byte ix k)) (place_on bytes ix q ks) ≡ Some p
+        → (place_on bytes ix q ks ≡ Some p → (j : ℕ) × (j ∈ ks) × (p ≡ answer_byte ix j) × (one_question (question_in bytes p) q ≡ true))
         → (j : ℕ) × (j ∈ k ∷ ks) × (p ≡ answer_byte ix j) × (one_question (question_in bytes p) q ≡ true)
     go true t e later = let s : answer_byte ix k ≡ p = cc in (k, Memᴰ.head refl, sym s, ap (λ x. one_question (question_in bytes x) q) (sym s) ∙ t)
     go false t e later = let r = later e in (r.0, Memᴰ.tail r.1, r.2, r.3)
@@ -103,7 +101,7 @@ pub chained : (bytes ix : List ℕ) (c : Counts) → Indexed bytes ix c → Chai
 chained bytes ix c i = record { falling = i.falling; heads = λ b h. omega (arith, i.heads b h, i.limit) }
 
 -- the record found is a right answer, with the question that was asked
-pub placed_right : (bytes ix : List ℕ) (c : Counts) (q : Question) (p : ℕ) → Indexed bytes ix c → Padded q → place_for bytes ix q ≡ At p → RightAnswer bytes p × (question_in bytes p ≡ q)
+pub placed_right : (bytes ix : List ℕ) (c : Counts) (q : Question) (p : ℕ) → Indexed bytes ix c → Padded q → place_for bytes ix q ≡ Some p → RightAnswer bytes p × (question_in bytes p ≡ q)
 placed_right bytes ix c q p i s e =
     let r = placed_on bytes ix q (answers_on ix (get_or ix (bucket_of q) 0)) p e in
     let l = chain_below (next_answer ix) i.falling (get_or ix (bucket_of q) 0) r.0 r.1 in
@@ -118,7 +116,7 @@ place_same bytes ix iy q [] h = refl
 place_same bytes ix iy q (k ∷ ks) h =
     let e = h k (Memᴰ.head refl) in
     let r = place_same bytes ix iy q ks (λ j m. h j (Memᴰ.tail m)) in
-    λ t. cond (one_question (question_in bytes (e t)) q) (At (e t)) (r t)
+    λ t. cond (one_question (question_in bytes (e t)) q) (Some (e t)) (r t)
 
 -- a walk meets only what stands below its entry
 pub walk_same : (bytes ix iy : List ℕ) (q : Question) (entry : ℕ) → Falling (next_answer ix) → ((k : ℕ) → k < entry → next_answer ix k ≡ next_answer iy k)

@@ -4,7 +4,7 @@ use Rattle.std.proofs.Math.Numerals.{add-one}
 use Rattle.std.proofs.Math.Decide.{ℕ_discrete}
 use Rattle.std.proofs.Common.{arith, subst, ◌∙◌, ltb-true, ltb-false}
 use Rattle.std.proofs.Math.Path.{◌≡◌, sym, ap}
-use Rattle.std.specs.Prelude.{refl, ◌≢◌, Bool, ◌&&◌, length, get_or, set, ltb}
+use Rattle.std.specs.Prelude.{refl, ◌≢◌, Bool, ◌&&◌, length, get_or, set, ltb, Some, None}
 use Rattle.std.proofs.Math.Logic.{⊎_elim}
 use mathlib.Core.List.{List, [], ◌∷◌, ◌++◌, map}
 use Rattle.std.proofs.Math.Bool.{true, false, cond}
@@ -19,11 +19,10 @@ use Rattle.rules.specs.declared.Counts.{Counts}
 use Rattle.rules.specs.Fields.{le16}
 use Rattle.rules.specs.Job.{Answer}
 use Rattle.rules.specs.Kinds.{kind_of, number_of, question_of}
-use Rattle.rules.specs.Questions.{find, missing, found}
+use Rattle.rules.specs.Questions.{find}
 use Rattle.fields.specs.Chains.{Falling}
 use Rattle.job.specs.Lists.{answer_byte, fields_at, answer_in, answers_in}
 use Rattle.answers.specs.declared.Question.{Question}
-use Rattle.answers.specs.declared.Found.TheVariants.{At}
 use Rattle.answers.specs.Question.{key_of, Shaped, one_question, question_in, bucket_of, RightAnswer}
 use Rattle.answers.specs.QuestionLaws.{one_question_lem, one_equal}
 use Rattle.answers.specs.RecordLaws.{question_padded, question_is}
@@ -38,15 +37,15 @@ module _ (kind : ℕ) (key : List ℕ) (a : Answer) where
   find_other : (l : List Answer) → (eqb a.kind kind && same a.question key) ≡ false → find (l ++ (a ∷ [])) kind key ≡ find l kind key
   unfolding find
   find_other [] e = rw e
-  find_other (b ∷ l) e = ap (cond (eqb b.kind kind && same b.question key) (found b.value)) (find_other l e)
+  find_other (b ∷ l) e = ap (cond (eqb b.kind kind && same b.question key) (Some b.value)) (find_other l e)
 
-  find_new : (l : List Answer) → (eqb a.kind kind && same a.question key) ≡ true → find l kind key ≡ missing → find (l ++ (a ∷ [])) kind key ≡ found a.value
+  find_new : (l : List Answer) → (eqb a.kind kind && same a.question key) ≡ true → find l kind key ≡ None → find (l ++ (a ∷ [])) kind key ≡ Some a.value
   unfolding find
   find_new [] e m = rw e
   find_new (b ∷ l) e m = go (eqb b.kind kind && same b.question key) m (find_new l e)
     where
-      go : (t : Bool) → cond t (found b.value) (find l kind key) ≡ missing → (find l kind key ≡ missing → find (l ++ (a ∷ [])) kind key ≡ found a.value)
-          → cond t (found b.value) (find (l ++ (a ∷ [])) kind key) ≡ found a.value
+      go : (t : Bool) → cond t (Some b.value) (find l kind key) ≡ None → (find l kind key ≡ None → find (l ++ (a ∷ [])) kind key ≡ Some a.value)
+          → cond t (Some b.value) (find (l ++ (a ∷ [])) kind key) ≡ Some a.value
       go true m later = absurd (let z : ◌≡◌ {A = ℕ} 0 1 = cc in omega arith)
       go false m later = later m
 
@@ -174,7 +173,7 @@ module _ (bytes ix : List ℕ) (c : Counts) (at : ℕ) (i : Indexed bytes ix c) 
   ]
 
   -- its own question finds it
-  place_own : place_for bytes after (question_in bytes at) ≡ At at
+  place_own : place_for bytes after (question_in bytes at) ≡ Some at
   place_own =
       let k = c.answers in
       let q = question_in bytes at in
@@ -182,10 +181,10 @@ module _ (bytes ix : List ℕ) (c : Counts) (at : ℕ) (i : Indexed bytes ix c) 
       let here : answer_byte after (k + 1 - 1) ≡ at = ap (answer_byte after) back ∙ place_new bytes ix k at i.size low in
       ap (λ x. place_on bytes after q (answers_on after x)) (head_new bytes ix k at i.size low)
       ∙ place_hit bytes after q (k + 1) falls (omega arith) (ap (λ x. one_question (question_in bytes x) q) here ∙ one_equal q q refl)
-      ∙ ap At here
+      ∙ ap Some here
 
   module _ (r : RightAnswer bytes at)
-      (new : find (answers_in bytes ix c) (number_of (kind_of (le16 bytes (at + 4)))) (question_of (kind_of (le16 bytes (at + 4))) (fields_at bytes at)) ≡ missing)
+      (new : find (answers_in bytes ix c) (number_of (kind_of (le16 bytes (at + 4)))) (question_of (kind_of (le16 bytes (at + 4))) (fields_at bytes at)) ≡ None)
       (d : Counts) (count : d.answers ≡ c.answers + 1)
     where
       -- the new answer's question in the definitions and in the code
@@ -205,7 +204,7 @@ module _ (bytes ix : List ℕ) (c : Counts) (at : ℕ) (i : Indexed bytes ix c) 
           let whole = ap (λ x. find x q.kind (key_of q)) (answers_enter d count) in
           ⊎_elim (λ t.
           let own : question_in bytes at ≡ q = one_question_lem (question_in bytes at) q (question_padded bytes at) s.padded t in
-          let absent : find l q.kind (key_of q) ≡ missing =
+          let absent : find l q.kind (key_of q) ≡ None =
           ap (λ x. find l x.kind (key_of x)) (sym own) ∙ (λ z. find l ((w.kind ∙ sym w.number) z) (w.key z)) ∙ new in
           ap (λ x. value_at bytes (place_for bytes after x)) (sym own) ∙ ap (value_at bytes) place_own
           ∙ sym (find_new q.kind (key_of q) a l (tests_agree q ∙ t) absent) ∙ sym whole)

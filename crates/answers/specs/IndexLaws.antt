@@ -1,5 +1,5 @@
 -- The index through loading: blank, with one answer more, with other parts changed.
-use Rattle.std.specs.Prelude.{ℕ, ◌+◌, ◌<◌, ◌≤◌, ◌≡◌, refl, true, false, ◌&&◌, length, get_or, set, replicate, ltb}
+use Rattle.std.specs.Prelude.{ℕ, ◌+◌, ◌<◌, ◌≤◌, ◌≡◌, refl, true, false, ◌&&◌, length, get_or, set, replicate, ltb, Option, Some, None, is_some}
 use Rattle.std.proofs.Common.{arith, sym, subst, ◌∙◌, ⊎_elim, true≢false, length-set, get_or-set_other, ltb-true, ltb-false}
 use Rattle.std.proofs.Math.Path.{ap}
 use mathlib.Core.List.{List, [], map}
@@ -14,12 +14,10 @@ use Rattle.rules.specs.declared.Kind.{Kind}
 use Rattle.rules.specs.Fields.{le16}
 use Rattle.rules.specs.Job.{Answer}
 use Rattle.rules.specs.Kinds.{kind_of, number_of, is_answer, question_of}
-use Rattle.rules.specs.Questions.{find, Found, missing, found, is_found}
+use Rattle.rules.specs.Questions.{find}
 use Rattle.rules.specs.Load.{answered_before}
 use Rattle.job.specs.Lists.{answer_byte, fields_at, answer_in, answers_in}
 use Rattle.answers.specs.declared.Question.{Question}
-use Rattle.answers.specs.declared.Found.{Found as Place}
-use Rattle.answers.specs.declared.Found.TheVariants.{At, Missing}
 use Rattle.answers.specs.Question.{key_of, Shaped, question_in, bucket_of, RightAnswer}
 use Rattle.answers.specs.RecordLaws.{question_is}
 use Rattle.answers.specs.Index.{next_answer, place_on, answers_on, place_for, value_at, Indexed}
@@ -37,7 +35,7 @@ no_answers : (bytes ix : List ℕ) (c : Counts) → c.answers ≡ 0 → answers_
 unfolding answers_in
 no_answers bytes ix c e = ap (λ n. map (λ k. answer_in bytes (answer_byte ix k)) (below n)) e ∙ ap (map (λ k. answer_in bytes (answer_byte ix k))) (from_none 0)
 
-find_none : (kind : ℕ) (key : List ℕ) → find [] kind key ≡ missing
+find_none : (kind : ℕ) (key : List ℕ) → find [] kind key ≡ None
 unfolding find
 find_none kind key = refl
 
@@ -102,31 +100,33 @@ answers_same bytes ix c d j v h n i = answers_agree bytes ix (set ix j v) c d (�
 
 -- refusal 7's test for a right answer, as the index has it
 pub before_is : (bytes ix : List ℕ) (c : Counts) (at : ℕ) → Indexed bytes ix c → RightAnswer bytes at → Shaped (question_in bytes at)
-    → answered_before (kind_of (le16 bytes (at + 4))) (answers_in bytes ix c) (fields_at bytes at) ≡ is_found (value_at bytes (place_for bytes ix (question_in bytes at)))
+    → answered_before (kind_of (le16 bytes (at + 4))) (answers_in bytes ix c) (fields_at bytes at) ≡ is_some (value_at bytes (place_for bytes ix (question_in bytes at)))
 unfolding answered_before
 before_is bytes ix c at i r s =
     let w = question_is bytes at r in
     let l = answers_in bytes ix c in
-    (λ t. r.0 t && is_found (find l ((w.number ∙ sym w.kind) t) (sym w.key t))) ∙ ap is_found (sym (i.finds (question_in bytes at) s))
+    (λ t. r.0 t && is_some (find l ((w.number ∙ sym w.kind) t) (sym w.key t))) ∙ ap is_some (sym (i.finds (question_in bytes at) s))
+
+-- a place has a record, and so a value
+some_at : (bytes : List ℕ) (f : Option ℕ) → is_some (value_at bytes f) ≡ is_some f
+some_at bytes (Some p) = refl
+some_at bytes None = refl
 
 -- as the code finds it
-module _ (bytes ix : List ℕ) (c : Counts) (at : ℕ) (i : Indexed bytes ix c) (r : RightAnswer bytes at) (q : Question) (f : Place) (eq : q ≡ question_in bytes at) (s : Shaped q)
+module _ (bytes ix : List ℕ) (c : Counts) (at : ℕ) (i : Indexed bytes ix c) (r : RightAnswer bytes at) (q : Question) (f : Option ℕ) (eq : q ≡ question_in bytes at) (s : Shaped q)
     (ef : f ≡ place_for bytes ix q)
   where
-    finds_before : answered_before (kind_of (le16 bytes (at + 4))) (answers_in bytes ix c) (fields_at bytes at) ≡ is_found (value_at bytes f)
-    finds_before = before_is bytes ix c at i r (subst Shaped eq s) ∙ ap (λ x. is_found (value_at bytes x)) (ap (place_for bytes ix) (sym eq) ∙ sym ef)
+    finds_before : answered_before (kind_of (le16 bytes (at + 4))) (answers_in bytes ix c) (fields_at bytes at) ≡ is_some (value_at bytes f)
+    finds_before = before_is bytes ix c at i r (subst Shaped eq s) ∙ ap (λ x. is_some (value_at bytes x)) (ap (place_for bytes ix) (sym eq) ∙ sym ef)
 
-    pub before_yes : (p : ℕ) → f ≡ At p → true ≡ answered_before (kind_of (le16 bytes (at + 4))) (answers_in bytes ix c) (fields_at bytes at)
-    before_yes p e = sym (finds_before ∙ ap (λ x. is_found (value_at bytes x)) e)
-
-    pub before_no : f ≡ Missing → false ≡ answered_before (kind_of (le16 bytes (at + 4))) (answers_in bytes ix c) (fields_at bytes at)
-    before_no e = sym (finds_before ∙ ap (λ x. is_found (value_at bytes x)) e)
+    pub before_found : is_some f ≡ answered_before (kind_of (le16 bytes (at + 4))) (answers_in bytes ix c) (fields_at bytes at)
+    before_found = sym (finds_before ∙ some_at bytes f)
 
 -- an answer whose question is not answered before finds nothing
-pub not_before : (kind : Kind) (l : List Answer) (x : List ℕ) → is_answer kind ≡ true → answered_before kind l x ≡ false → find l (number_of kind) (question_of kind x) ≡ missing
+pub not_before : (kind : Kind) (l : List Answer) (x : List ℕ) → is_answer kind ≡ true → answered_before kind l x ≡ false → find l (number_of kind) (question_of kind x) ≡ None
 unfolding answered_before
-not_before kind l x e n = go (find l (number_of kind) (question_of kind x)) (ap (λ t. t && is_found (find l (number_of kind) (question_of kind x))) (sym e) ∙ n)
+not_before kind l x e n = go (find l (number_of kind) (question_of kind x)) (ap (λ t. t && is_some (find l (number_of kind) (question_of kind x))) (sym e) ∙ n)
   where
-    go : (f : Found) → is_found f ≡ false → f ≡ missing
-    go missing h = refl
-    go (found v) h = absurd (true≢false h)
+    go : (f : Option (List ℕ)) → is_some f ≡ false → f ≡ None
+    go None h = refl
+    go (Some v) h = absurd (true≢false h)

@@ -1,6 +1,6 @@
 -- Laws of questions: equal by kind and key, and the question of a record that is a right answer.
-use Rattle.std.specs.Prelude.{ℕ, zero, suc, ◌<◌, ◌≡◌, refl, List, [], ◌∷◌, Bool, true, false, cond, length, get_or, take, eqb, leb}
-use Rattle.std.proofs.Common.{arith, sym, ap, ◌∙◌, ⊎_elim, length-take-le, eqb-true, eq-eqb}
+use Rattle.std.specs.Prelude.{ℕ, zero, suc, ◌<◌, ◌≡◌, refl, List, [], ◌∷◌, Bool, true, false, ◌&&◌, cond, length, get_or, take, eqb, leb}
+use Rattle.std.proofs.Common.{arith, sym, ap, ◌∙◌, ⊎_elim, length-take-le, eqb-true, eq-eqb, true≢false}
 use Rattle.lists.specs.Lists.{same}
 use Rattle.lists.specs.Tests.{both_ways, and_both, both_and}
 use Rattle.lists.specs.SameLists.{same_self, same_is}
@@ -65,6 +65,39 @@ one_equal q r e =
 
 pub one_differ : (q r : Question) → Padded q → Padded r → (q ≡ r → ⊥) → one_question q r ≡ false
 one_differ q r p s n = ⊎_elim (λ t. absurd (n (one_question_lem q r p s t))) (λ f. f) (both_ways (one_question q r))
+
+-- `==` of questions, field by field
+abbrev pub equal : Question → Question → Bool
+equal q r = eqb q.kind r.kind && (eqb q.words r.words && (eqb q.a r.a && (eqb q.b r.b && (eqb q.c r.c && eqb q.d r.d))))
+
+equal_is : (q r : Question) → equal q r ≡ true → q ≡ r
+equal_is q r e =
+    let k = and_both (eqb q.kind r.kind) _ e in
+    let w = and_both (eqb q.words r.words) _ k.1 in
+    let x = and_both (eqb q.a r.a) _ w.1 in
+    let y = and_both (eqb q.b r.b) _ x.1 in
+    let z = and_both (eqb q.c r.c) (eqb q.d r.d) y.1 in
+    λ i. record {
+      kind = eqb-true q.kind r.kind k.0 i;
+      words = eqb-true q.words r.words w.0 i;
+      a = eqb-true q.a r.a x.0 i;
+      b = eqb-true q.b r.b y.0 i;
+      c = eqb-true q.c r.c z.0 i;
+      d = eqb-true q.d r.d z.1 i;
+    }
+
+equal_self : (q r : Question) → q ≡ r → equal q r ≡ true
+equal_self q r e =
+    let self : equal q q ≡ true = rw (eq-eqb q.kind q.kind refl, eq-eqb q.words q.words refl, eq-eqb q.a q.a refl, eq-eqb q.b q.b refl, eq-eqb q.c q.c refl, eq-eqb q.d q.d refl) in
+    ap (equal q) (sym e) ∙ self
+
+-- it is the test of the definitions
+pub equal_one : (q r : Question) → Padded q → Padded r → equal q r ≡ one_question q r
+equal_one q r p s =
+    ⊎_elim
+    (λ t. t ∙ sym (one_equal q r (equal_is q r t)))
+    (λ f. f ∙ sym (one_differ q r p s (λ e. true≢false (sym (equal_self q r e) ∙ f))))
+    (both_ways (equal q r))
 
 -- ABOUT ONE, TWO, FOUR NUMBERS
 

@@ -8,7 +8,7 @@ ghost use Rattle.rules.specs.Fields.{le16};
 ghost use Rattle.rules.specs.Kinds.{kind_of};
 ghost use Rattle.rules.specs.Load.{answered_before};
 ghost use Rattle.job.specs.Lists.{fields_at, answers_in};
-ghost use Rattle.answers.specs.Question.{Padded, Shaped, about_one, about_two, about_either, one_question, question_in, bucket_of, RightAnswer};
+ghost use Rattle.answers.specs.Question.{Padded, Shaped, about_one, about_two, about_either, question_in, bucket_of, RightAnswer};
 ghost use Rattle.answers.specs.Index.{place_for, Place32, entered, Chained, Indexed};
 
 use fields::{get, half, put, word};
@@ -16,7 +16,7 @@ use job::{ANSWERS, BUCKETS, CHAIN};
 use rules::{Counts, Kind};
 
 // The kind of an answer, and the one, two or four numbers that it is asked about.
-#[derive(Clone, Copy)]
+#[derive(Clone, Copy, PartialEq, Eq)]
 pub struct Question {
     pub kind: usize,
     pub words: usize,
@@ -24,13 +24,6 @@ pub struct Question {
     pub b: usize,
     pub c: usize,
     pub d: usize,
-}
-
-// The first byte of the record that answers a question.
-#[derive(Clone, Copy)]
-pub enum Found {
-    At(usize),
-    Missing,
 }
 
 // A question about one number, about two, about two without order.
@@ -79,7 +72,7 @@ pub fn question_at(job: &[u8], at: usize) -> Question
     let p = at + 6;
     let a = word(job, p);
     let b = word(job, p + 4);
-    let kind = job::kind_of(k);
+    let kind = Kind::from(k);
     match kind {
         Kind::Radial | Kind::Surface | Kind::Orientation => about_one(k, a),
         Kind::Points | Kind::Curves => about_either(k, a, b),
@@ -107,32 +100,6 @@ pub fn question_at(job: &[u8], at: usize) -> Question
     }
 }
 
-// Both have the same kind and numbers.
-pub fn same_question(q: Question, r: Question) -> bool
-    requires { Padded q × Padded r }
-    ensures { result ≡ one_question q r }
-{
-    if q.kind != r.kind {
-        return false;
-    }
-    if q.words != r.words {
-        return false;
-    }
-    if q.a != r.a {
-        return false;
-    }
-    if q.b != r.b {
-        return false;
-    }
-    if q.c != r.c {
-        return false;
-    }
-    if q.d != r.d {
-        return false;
-    }
-    true
-}
-
 // The chain in which a question's answer stands.
 fn bucket(q: Question) -> usize
     requires { Shaped q }
@@ -141,8 +108,8 @@ fn bucket(q: Question) -> usize
     (131 * q.kind + q.a + 61 * q.b + 17 * q.c + 307 * q.d) % BUCKETS
 }
 
-// The record that answers a question.
-pub fn find(job: &[u8], index: &[u32], q: Question) -> Found
+// The first byte of the record that answers a question.
+pub fn find(job: &[u8], index: &[u32], q: Question) -> Option<usize>
     requires { Shaped q × Chained index.now }
     ensures { (result ≡ place_for job.now index.now q) × Place32 result }
 {
@@ -150,12 +117,12 @@ pub fn find(job: &[u8], index: &[u32], q: Question) -> Found
     while 0 < i {
         let k = i - 1;
         let p = get(index, ANSWERS + k);
-        if same_question(question_at(job, p), q) {
-            return Found::At(p);
+        if question_at(job, p) == q {
+            return Some(p);
         }
         i = get(index, CHAIN + k);
     }
-    Found::Missing
+    None
 }
 
 // The question of the record at a byte is answered before.
@@ -163,11 +130,7 @@ pub fn answered_before(job: &[u8], index: &[u32], c: Counts, at: usize) -> bool
     requires { Indexed job.now index.now c × RightAnswer job.now at × (at < 4294967296) }
     ensures { result ≡ answered_before (kind_of (le16 job.now (at + 4))) (answers_in job.now index.now c) (fields_at job.now at) }
 {
-    let f = find(job, index, question_at(job, at));
-    match f {
-        Found::At(_) => true,
-        Found::Missing => false,
-    }
+    find(job, index, question_at(job, at)).is_some()
 }
 
 // The answer with number k, whose record stands at a byte, is entered in front of its chain.

@@ -1,53 +1,33 @@
--- The answers' enums: for each case the paper's number and values.
-use Rattle.std.specs.Prelude.{ℕ, ◌<◌, List, Bool, true, false, drop}
-use Rattle.rules.specs.Outcome.{Outcome, ok, refuse}
+-- What is on record for a question, and the radial order as it stands in the job's bytes.
+use Rattle.std.specs.Prelude.{ℕ, ◌<◌, List, drop, Option, Some, None}
+use Rattle.rules.specs.Outcome.{Outcome, Ok, Err}
 use Rattle.rules.specs.Fields.{field, fields_in}
-use Rattle.rules.specs.Questions.{surface_answer, verdict, Found, missing, found}
-use Rattle.ask.specs.declared.Answer.{Answer}
-use Rattle.ask.specs.declared.Answer.TheVariants.{Value as Valued, Missing}
-use Rattle.ask.specs.declared.Surface.{Surface}
-use Rattle.ask.specs.declared.Surface.TheVariants.{Says as Surfaced, Missing as NoSurface}
-use Rattle.ask.specs.declared.Answered.{Answered}
-use Rattle.ask.specs.declared.Answered.TheVariants.{Says, Missing as NoAnswer}
-use Rattle.ask.specs.declared.Asked.{Asked}
-use Rattle.ask.specs.declared.Asked.TheVariants.{Value, Refused}
-use Rattle.ask.specs.declared.Told.{Told}
-use Rattle.ask.specs.declared.Told.TheVariants.{Yes, No, Refused as ToldRefused}
+use Rattle.rules.specs.declared.SurfaceAnswer.{SurfaceAnswer}
+use Rattle.rules.specs.declared.Verdict.{Verdict}
+use Rattle.rules.specs.Questions.{surface_answer, verdict}
 use Rattle.ask.specs.declared.Order.{Order}
-use Rattle.ask.specs.declared.Order.TheVariants.{Uses, Refused as OrderRefused}
 
 -- kinds 8 to 13: no record, or its value
-abbrev pub value_of : Found → Answer
-value_of missing = Missing
-value_of (found v) = Valued (field v 0)
+abbrev pub value_of : Option (List ℕ) → Option ℕ
+value_of None = None
+value_of (Some v) = Some (field v 0)
 
 -- kind 8: no record, or the answer that its value is the number of
-abbrev pub surface_by : Found → Surface
-surface_by missing = NoSurface
-surface_by (found v) = Surfaced (surface_answer (field v 0))
+abbrev pub surface_by : Option (List ℕ) → Option SurfaceAnswer
+surface_by None = None
+surface_by (Some v) = Some (surface_answer (field v 0))
 
 -- kinds 9 to 13: no record, or the answer that its value is the number of
-abbrev pub answered_by : Found → Answered
-answered_by missing = NoAnswer
-answered_by (found v) = Says (verdict (field v 0))
-
--- the value, or the refusal
-abbrev pub asked_of : Asked → Outcome ℕ
-asked_of (Value v) = ok v
-asked_of (Refused n p) = refuse n p
-
--- yes or no, or the refusal
-abbrev pub told_of : Told → Outcome Bool
-told_of Yes = ok true
-told_of No = ok false
-told_of (ToldRefused n p) = refuse n p
+abbrev pub answered_by : Option (List ℕ) → Option Verdict
+answered_by None = None
+answered_by (Some v) = Some (verdict (field v 0))
 
 -- the uses in order, as they stand in the job's bytes, or the refusal
-abbrev pub order_of : List ℕ → Order → Outcome (List ℕ)
-order_of bytes (Uses from n) = ok (fields_in n (drop from bytes))
-order_of bytes (OrderRefused n p) = refuse n p
+abbrev pub order_of : List ℕ → Outcome Order → Outcome (List ℕ)
+order_of bytes (Ok order) = Ok (fields_in order.count (drop order.from bytes))
+order_of bytes (Err refusal) = Err refusal
 
 -- the place and the number of uses are small
-abbrev pub Order32 : Order → Type 0
-Order32 (Uses from n) = (from < 4294967306) × (n < 1073741824)
-Order32 (OrderRefused n p) = Unit {0}
+abbrev pub Order32 : Outcome Order → Type 0
+Order32 (Ok order) = (order.from < 4294967306) × (order.count < 1073741824)
+Order32 (Err refusal) = Unit {0}

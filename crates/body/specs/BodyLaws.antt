@@ -26,6 +26,7 @@ use Rattle.rules.specs.Body.{Totals, BodyFace, rec, met_fans, still_active, vert
 use Rattle.fields.specs.Wrote.{Wrote, wrote_more}
 use Rattle.edges.specs.Table.{item_in, loop_at, face_loops_in}
 use Rattle.vertex_loops.specs.Kept.{kept_at, kept_in}
+use Rattle.body.specs.declared.Totals.{Totals as Written}
 use Rattle.body.specs.Numbers.{Numbering, vertex_in, number_is}
 use Rattle.body.specs.Vertices.{Meeting, fan_bytes}
 use Rattle.body.specs.Writing.{wrote_as, length_record}
@@ -159,9 +160,13 @@ module _ (totals : Totals) (fs : List Face) (groups starts : List ℕ) (es : Lis
 abbrev empty_totals : Record
 empty_totals = rec 21 (0 ∷ 0 ∷ 0 ∷ 0 ∷ 0 ∷ 0 ∷ 0 ∷ [])
 
-pub empty_is : framed empty_totals ≡ framed_all (body_records empty_body)
+empty_is : framed empty_totals ≡ framed_all (body_records empty_body)
 unfolding body_records flat_map
 empty_is = sym (append-nil (framed empty_totals))
+
+pub empty_as : (t : Written) → t ≡ record { uses = 0; removed = 0; passed = 0; joins = 0; rings = 0; merges = 0 }
+    → framed (rec 21 (0 ∷ t.uses ∷ t.removed ∷ t.passed ∷ t.joins ∷ t.rings ∷ t.merges ∷ [])) ≡ framed_all (body_records empty_body)
+empty_as t e = ap (λ x. framed (rec 21 (0 ∷ x.uses ∷ x.removed ∷ x.passed ∷ x.joins ∷ x.rings ∷ x.merges ∷ []))) e ∙ empty_is
 
 pub empty_size : 34 ≡ 0 + length (framed_all (body_records empty_body))
 empty_size = omega (arith, length_record 21 (0 ∷ 0 ∷ 0 ∷ 0 ∷ 0 ∷ 0 ∷ 0 ∷ []), ap length empty_is)

@@ -1,31 +1,13 @@
 -- Numbers from 0 given to the members of a list, in a table that has each number plus one, and 0 for none.
-use Rattle.std.specs.Prelude.{ℕ, suc, ◌+◌, ◌-◌, ◌<◌, ◌≤◌, ◌≡◌, refl, ◌⊎◌, List, [], ◌∷◌, ◌++◌, cond, length, get_or, set, eqb}
-use Rattle.std.proofs.Math.Decide.{ℕ_discrete, dec_lt}
+use Rattle.std.specs.Prelude.{ℕ, suc, ◌+◌, ◌-◌, ◌<◌, ◌≡◌, refl, ◌⊎◌, List, [], ◌∷◌, ◌++◌, cond, length, get_or, set, replicate, eqb}
+use Rattle.std.proofs.Math.Decide.{ℕ_discrete}
 use Rattle.std.proofs.Common.{arith, sym, ap, ◌∙◌, inl, inr, ⊎_elim, eq-eqb, ne_eqb}
 use mathlib.Core.List.Memᴰ
-use Rattle.std.proofs.Math.ListN.{get_or-eq_default}
 use Rattle.lists.specs.Lists.{◌∈◌, position, index_of}
 use Rattle.lists.specs.Tests.{cond_true, cond_false}
+use Rattle.lists.specs.Constants.{get_or_constant}
 use Rattle.lists.specs.Tables.{set_each, length_snoc}
 use Rattle.rules.specs.Job.{unset}
-
--- a table all 0
-abbrev pub Blank : List ℕ → Type 0
-Blank t = (k : ℕ) → get_or t k 0 ≡ 0
-
--- the first i entries are 0
-abbrev pub BlankTo : ℕ → List ℕ → Type 0
-BlankTo i t = (k : ℕ) → k < i → get_or t k 0 ≡ 0
-
-pub blank_more : (t : List ℕ) (i : ℕ) → i < length t → BlankTo i t → BlankTo (i + 1) (set t i 0)
-blank_more t i h b k = set_each (λ k x. k < i + 1 → x ≡ 0) t i 0 0 h (λ _. refl) k (λ ne l. b k (omega (arith, ne)))
-
-pub blank_all : (t : List ℕ) (i : ℕ) → length t ≤ i → BlankTo i t → Blank t
-blank_all t i h b k =
-    elim (dec_lt k i) [
-      | yes l ↦ b k l
-      | no l ↦ get_or-eq_default t 0 {n = k} (omega arith)
-    ]
 
 -- the entry of v: its number plus one, or none
 abbrev pub Entry : List ℕ → ℕ → ℕ → Type 0
@@ -85,10 +67,11 @@ index_last x (y ∷ l) out = rw (ne_eqb x y (λ e. out (Memᴰ.head e))) (ap suc
 
 -- NUMBERING
 
-pub numbering_none : (t : List ℕ) → Blank t → Numbering [] t 0
-numbering_none t e = record {
+-- none in a table all 0
+pub numbering_none : (t : List ℕ) (n : ℕ) → t ≡ replicate n 0 → Numbering [] t 0
+numbering_none t n e = record {
   counted = refl;
-  entries = λ v. inr (Memᴰ.not-nil, e v);
+  entries = λ v. inr (Memᴰ.not-nil, ap (λ l. get_or l v 0) e ∙ get_or_constant n 0 v);
 }
 
 module _ (l t : List ℕ) (count : ℕ) (n : Numbering l t count) where

@@ -1,5 +1,5 @@
 -- The fans first met over active edges: their numbers, and their records in the output; the numbers of active edges.
-use Rattle.std.specs.Prelude.{ℕ, ◌+◌, ◌*◌, ◌<◌, ◌≤◌, ◌≡◌, ◌⊎◌, Bool, true, false, ◌||◌, get_or, set, take, eqb}
+use Rattle.std.specs.Prelude.{ℕ, ◌+◌, ◌*◌, ◌<◌, ◌≤◌, ◌≡◌, ◌⊎◌, true, false, ◌||◌, get_or, set, take, replicate, eqb}
 use Rattle.std.proofs.Common.{add-one, sym, ◌∙◌, ⊎_elim, take-suc, eq-eqb, ne_eqb}
 use native.Mathlib.Omega.{arith}
 use Rattle.std.proofs.Math.Path.{refl, ap, subst}
@@ -19,7 +19,7 @@ use Rattle.rules.specs.Fans.{fan_point}
 use Rattle.rules.specs.Join.{edge_data_at, no_edge_data, active_edges}
 use Rattle.rules.specs.Body.{rec, vertex_record, meet, met_fans, still_active}
 use Rattle.fields.specs.Wrote.{Wrote, wrote_none, wrote_more}
-use Rattle.body.specs.Numbers.{Blank, Numbering, numbering_none, numbering_more, entry_in, entry_out}
+use Rattle.body.specs.Numbers.{Numbering, numbering_none, numbering_more, entry_in, entry_out}
 use Rattle.body.specs.Writing.{wrote_as, length_record}
 
 -- ACTIVE EDGES
@@ -29,13 +29,13 @@ unfoldable pub active_below : List EdgeData → ℕ → List ℕ
 active_below es e = active_edges (take e es)
 
 module _ (es : List EdgeData) where
-  pub active_none : active_below es 0 ≡ []
+  pub active_start : (t : List ℕ) (n : ℕ) → t ≡ replicate n 0 → Numbering (active_below es 0) t 0
   unfolding active_below positions
-  active_none = refl
+  active_start t n e = numbering_none t n e
 
-  pub active_all : (e : ℕ) → e ≡ length es → active_below es e ≡ active_edges es
+  pub active_all : {t : List ℕ} {count e : ℕ} → Numbering (active_below es e) t count → e ≡ length es → Numbering (active_edges es) t count
   unfolding active_below
-  active_all e q = ap (λ k. active_edges (take k es)) q ∙ ap active_edges (take-length es)
+  active_all {t = t} {count = count} n q = subst (λ l. Numbering l t count) (ap (λ k. active_edges (take k es)) q ∙ ap active_edges (take-length es)) n
 
   -- one edge more
   taken : (e : ℕ) → e < length es → take (e + 1) es ≡ take e es ++ (edge_data_at es e ∷ [])
@@ -53,21 +53,21 @@ module _ (es : List EdgeData) where
   active_out e lt m = let r = positions_in (λ x. x.active) 0 (take e es) no_edge_data e m in omega (arith, r.1, length-take-le e es (omega arith))
 
   -- at most so many
-  pub active_few : (t : List ℕ) (count e : ℕ) → Numbering (active_below es e) t count → e < length es → count ≤ e
+  pub active_few : {t : List ℕ} {count e : ℕ} → Numbering (active_below es e) t count → e < length es → count ≤ e
   unfolding active_below
-  active_few t count e n lt =
+  active_few {e = e} n lt =
       omega (arith, n.counted, positions_length (λ x. x.active) 0 (take e es), keep_length (λ x. x.active) (take e es), length-take-le e es (omega arith))
 
-  module _ (t : List ℕ) (count e : ℕ) (n : Numbering (active_below es e) t count) (lt : e < length es) where
-    pub numbered_active : (a : Bool) (t' : List ℕ) → e < length t → a ≡ (edge_data_at es e).active → a ≡ true → t' ≡ set t e (count + 1) → Numbering (active_below es (e + 1)) t' (count + 1)
-    numbered_active a t' low ea yes' et =
-        subst (λ l. Numbering l t' (count + 1)) (sym (active_more e lt ∙ ap (λ r. active_below es e ++ r) (cond_true (edge_data_at es e).active (e ∷ []) [] (sym ea ∙ yes'))))
-        (numbering_more (active_below es e) t count n e t' low (active_out e lt) et)
+  module _ {t : List ℕ} {count e : ℕ} (n : Numbering (active_below es e) t count) (lt : e < length es) where
+    pub numbered_active : e < length t → (edge_data_at es e).active ≡ true → Numbering (active_below es (e + 1)) (set t e (count + 1)) (count + 1)
+    numbered_active low a =
+        subst (λ l. Numbering l (set t e (count + 1)) (count + 1)) (sym (active_more e lt ∙ ap (λ r. active_below es e ++ r) (cond_true (edge_data_at es e).active (e ∷ []) [] a)))
+        (numbering_more (active_below es e) t count n e (set t e (count + 1)) low (active_out e lt) refl)
 
-    pub numbered_other : (a : Bool) → a ≡ (edge_data_at es e).active → a ≡ false → Numbering (active_below es (e + 1)) t count
-    numbered_other a ea no' =
+    pub numbered_other : (edge_data_at es e).active ≡ false → Numbering (active_below es (e + 1)) t count
+    numbered_other a =
         subst (λ l. Numbering l t count)
-        (sym (active_more e lt ∙ ap (λ r. active_below es e ++ r) (cond_false (edge_data_at es e).active (e ∷ []) [] (sym ea ∙ no')) ∙ append-nil (active_below es e)))
+        (sym (active_more e lt ∙ ap (λ r. active_below es e ++ r) (cond_false (edge_data_at es e).active (e ∷ []) [] a) ∙ append-nil (active_below es e)))
         n
 
 -- FANS
@@ -106,22 +106,23 @@ module _ (starts : List ℕ) where
       ∙ flat_map_append framed (map vertex_record (map (fan_point starts) met)) (vertex_record (fan_point starts v) ∷ [])
       ∙ ap (λ r. fan_bytes starts met ++ r) (append-nil (framed (rec 22 (fan_point starts v ∷ []))))
 
-  pub meeting_start : (before vertices : List ℕ) (at : ℕ) → Blank vertices → Meeting starts before at [] vertices before 0
+  meeting_start : (before vertices : List ℕ) (at n : ℕ) → vertices ≡ replicate n 0 → Meeting starts before at [] vertices before 0
   unfolding fan_bytes flat_map
-  meeting_start before vertices at e = record { numbers = numbering_none vertices e; size = refl; wrote = let z : at + 10 * 0 ≡ at = omega arith in subst (λ p. Wrote before at [] before p) (sym z) (wrote_none before at) }
+  meeting_start before vertices at n e = record { numbers = numbering_none vertices n e; size = refl; wrote = let z : at + 10 * 0 ≡ at = omega arith in subst (λ p. Wrote before at [] before p) (sym z) (wrote_none before at) }
 
-  module _ (before : List ℕ) (at : ℕ) (met vertices after : List ℕ) (count : ℕ) where
+  module _ {before : List ℕ} {at : ℕ} {met vertices after : List ℕ} {count : ℕ} where
     -- none, or met before
-    pub fan_none : (v : ℕ) → v ≡ unset → Meeting starts before at met vertices after count → Meeting starts before at (meet met v) vertices after count
-    fan_none v e M = subst (λ l. Meeting starts before at l vertices after count) (sym (meet_none met v e)) M
+    pub fan_none : {v : ℕ} → v ≡ unset → Meeting starts before at met vertices after count → Meeting starts before at (meet met v) vertices after count
+    fan_none {v = v} e M = subst (λ l. Meeting starts before at l vertices after count) (sym (meet_none met v e)) M
 
-    pub fan_old : (v x : ℕ) → x ≡ get_or vertices v 0 → (x ≡ 0 → ⊥) → Meeting starts before at met vertices after count → Meeting starts before at (meet met v) vertices after count
-    fan_old v x ex n M = subst (λ l. Meeting starts before at l vertices after count) (sym (meet_old met v (entry_in met vertices count M.numbers v (λ z. n (ex ∙ z))))) M
+    pub fan_old : (v : ℕ) {x : ℕ} → x ≡ get_or vertices v 0 → (x ≡ 0 → ⊥) → Meeting starts before at met vertices after count → Meeting starts before at (meet met v) vertices after count
+    fan_old v ex n M = subst (λ l. Meeting starts before at l vertices after count) (sym (meet_old met v (entry_in met vertices count M.numbers v (λ z. n (ex ∙ z))))) M
 
     -- first met
-    pub fan_new : (v x p q : ℕ) (vertices' after' : List ℕ) → (v ≡ unset → ⊥) → EndOk (length vertices) v → x ≡ get_or vertices v 0 → x ≡ 0 → p ≡ get_or starts v 0 → vertices' ≡ set vertices v (count + 1)
-        → Wrote after (at + 10 * count) (framed (rec 22 (p ∷ []))) after' q → Meeting starts before at met vertices after count → Meeting starts before at (meet met v) vertices' after' (count + 1)
-    fan_new v x p q vertices' after' n ok' ex z ep et w M =
+    pub fan_new : (v x p : ℕ) {vertices' : List ℕ} (after' : List ℕ) (q : ℕ) → (v ≡ unset → ⊥) → EndOk (length vertices) v → x ≡ get_or vertices v 0 → x ≡ 0 → p ≡ get_or starts v 0
+        → vertices' ≡ set vertices v (count + 1) → Wrote after (at + 10 * count) (framed (rec 22 (p ∷ []))) after' q → Meeting starts before at met vertices after count
+        → Meeting starts before at (meet met v) vertices' after' (count + 1)
+    fan_new v x p {vertices' = vertices'} after' q n ok' ex z ep et w M =
         let out : ¬ (v ∈ met) = entry_out met vertices count M.numbers v (sym ex ∙ z) in
         let low : v < length vertices = ⊎_elim (λ h. h) (λ e. absurd (n e)) ok' in
         let place : q ≡ at + 10 * (count + 1) = omega (arith, w.1, length_record 22 (p ∷ [])) in
@@ -143,13 +144,15 @@ unfoldable pub met_below : List EdgeData → ℕ → List ℕ
 met_below es e = met_fans (still_active (take e es))
 
 module _ (es : List EdgeData) where
-  pub met_none : met_below es 0 ≡ []
+  pub met_start : (starts before vertices : List ℕ) (at n : ℕ) → vertices ≡ replicate n 0 → Meeting starts before at (met_below es 0) vertices before 0
   unfolding met_below keep
-  met_none = refl
+  met_start starts before vertices at n e = meeting_start starts before vertices at n e
 
-  pub met_all : (e : ℕ) → e ≡ length es → met_below es e ≡ met_fans (still_active es)
+  pub met_all : {starts before vertices after : List ℕ} {at count e : ℕ} → Meeting starts before at (met_below es e) vertices after count → e ≡ length es
+      → Meeting starts before at (met_fans (still_active es)) vertices after count
   unfolding met_below
-  met_all e q = ap (λ k. met_fans (still_active (take k es))) q ∙ ap (λ l. met_fans (still_active l)) (take-length es)
+  met_all {starts = starts} {before = before} {vertices = vertices} {after = after} {at = at} {count = count} M q =
+      subst (λ l. Meeting starts before at l vertices after count) (ap (λ k. met_fans (still_active (take k es))) q ∙ ap (λ l. met_fans (still_active l)) (take-length es)) M
 
   met_more : (e : ℕ) → e < length es → met_below es (e + 1) ≡ foldl (λ met x. meet (meet met x.start) x.end) (met_below es e) (still_active (edge_data_at es e ∷ []))
   unfolding met_below

@@ -17,7 +17,7 @@ ghost use Rattle.job.specs.Lists.{faces_in};
 ghost use Rattle.edges.specs.Table.{rows_in, face_loops_in};
 ghost use Rattle.vertex_loops.specs.Kept.{kept_in};
 ghost use Rattle.shells.specs.Table.{nested_in};
-ghost use Rattle.body.specs.Numbers.{Blank, Numbering, number_of, vertex_in};
+ghost use Rattle.body.specs.Numbers.{Numbering, number_of, vertex_in};
 ghost use Rattle.body.specs.Vertices.{EndOk, EndsOk, Meeting, met_below, active_below};
 ghost use Rattle.body.specs.Rows.{totals_in, vertex_and_edge_bytes, edge_row, item_row, loop_row, loop_rows, vertex_loop_row, vertex_loop_rows, face_head, member_rows, shell_face_row, void_row, void_rows, lump_row};
 ghost use Rattle.body.specs.Sized.{LoopsSized, BodySized};
@@ -26,11 +26,12 @@ ghost use Rattle.members.specs.Group.{Chained, Leading};
 use edges::{edge_active, edge_at, edge_end, edge_start};
 use fields::{UNSET, get, put, put_head, put_word};
 use members::{chain, group_size};
-use rules::{Counts, Ending};
+use rules::{Counts, Refusal};
 use shells::{shell_boundary, shell_home, shell_outer};
+use stages_out::{fits, put_two};
 
 // How many uses, removed uses, uses passed over, joins, rings and face joins there were.
-#[derive(Clone, Copy)]
+#[derive(Clone, Copy, Default)]
 pub struct Totals {
     pub uses: usize,
     pub removed: usize,
@@ -42,49 +43,32 @@ pub struct Totals {
 
 // RECORDS
 
-// Two numbers as fields at a place; gives the place after them, as each function here does that writes at a place.
-fn put_two(out: &mut [u8], at: usize, a: usize, b: usize) -> usize
-    requires { at < 2 ^ 59 }
-    ensures { Wrote out.old at (field_bytes (a ∷ b ∷ [])) out.new result × (result ≤ at + 8) }
+// A record of some fields at a place; gives the place after it, as each function here does that writes at a place.
+fn put_record(out: &mut [u8], at: usize, kind: usize, fields: &[usize]) -> usize
+    requires { (at < 2 ^ 59) × (length fields.now ≤ 7) }
+    ensures { Wrote out.old at (framed (rec kind fields.now)) out.new result × (result ≡ at + 6 + 4 * length fields.now) }
 {
-    let p = put_word(out, at, a);
-    put_word(out, p, b)
-}
-
-// A record of one field.
-fn put_one(out: &mut [u8], at: usize, kind: usize, a: usize) -> usize
-    requires { at < 2 ^ 59 }
-    ensures { Wrote out.old at (framed (rec kind (a ∷ []))) out.new result × (result ≡ at + 10) }
-{
-    let p = put_head(out, at, kind, 1);
-    put_word(out, p, a)
+    let mut p = put_head(out, at, kind, fields.len());
+    for field in fields {
+        p = put_word(out, p, *field);
+    }
+    p
 }
 
 // Kind 21 at the output's start: 0 for an empty body or 1 for a solid, and the totals.
 fn put_totals(out: &mut [u8], solid: usize, t: Totals) -> usize
     ensures { Wrote out.old 0 (framed (rec 21 (solid ∷ t.uses ∷ t.removed ∷ t.passed ∷ t.joins ∷ t.rings ∷ t.merges ∷ []))) out.new result × (result ≡ 34) }
 {
-    let p = put_head(out, 0, 21, 7);
-    let q = put_two(out, p, solid, t.uses);
-    let s = put_two(out, q, t.removed, t.passed);
-    let u = put_two(out, s, t.joins, t.rings);
-    put_word(out, u, t.merges)
+    let fields = [
+        solid, t.uses, t.removed, t.passed, t.joins, t.rings, t.merges,
+    ];
+    put_record(out, 0, 21, &fields)
 }
 
 // NUMBERS
 
-// A table all 0.
-fn blank(table: &mut [u32])
-    ensures { Blank table.new }
-{
-    let mut i: usize = 0;
-    while i < table.len() {
-        table[i] = 0;
-        i += 1;
-    }
-}
-
 // The number of v in a table that has each number plus one, and 0 for none; without a number, how many numbers there are.
+#[tactic(auto, unfolding(crate::specs::Numbers::number_of))]
 fn number_of(numbers: &[u32], count: usize, v: usize) -> usize
     ensures { result ≡ number_of numbers.now count v }
 {
@@ -95,29 +79,18 @@ fn number_of(numbers: &[u32], count: usize, v: usize) -> usize
     n - 1
 }
 
-// Edge e takes the next number where it is active. Gives how many edges have numbers then.
-fn number_edge(rows: &[u32], numbers: &mut [u32], count: usize, e: usize) -> usize
-    requires { Numbering (active_below (rows_in rows.now) e) numbers.old count × (e < length (rows_in rows.now)) × (e < 2048) × (e < length numbers.old) }
-    ensures { Numbering (active_below (rows_in rows.now) (e + 1)) numbers.new result }
-{
-    if edge_active(rows, e) {
-        put(numbers, e, count + 1);
-        return count + 1;
-    }
-    count
-}
-
-// Active edges are renumbered from 0, in a table all 0 at first. Gives how many there are.
+// Active edges are renumbered from 0, in a table that has 0 for the others. Gives how many there are.
 fn number_edges(rows: &[u32], numbers: &mut [u32]) -> usize
-    requires { (length rows.now ≤ 14336) × (length rows.now ≤ 7 * length numbers.old) × Blank numbers.old }
+    requires { (length rows.now ≤ 14336) × (length rows.now ≤ 7 * length numbers.old) }
     ensures { Numbering (active_edges (rows_in rows.now)) numbers.new result }
 {
-    let n = rows.len() / 7;
-    let mut count: usize = 0;
-    let mut e: usize = 0;
-    while e < n {
-        count = number_edge(rows, numbers, count, e);
-        e += 1;
+    numbers.fill(0);
+    let mut count = 0;
+    for e in 0..rows.len() / 7 {
+        if edge_active(rows, e) {
+            count += 1;
+            put(numbers, e, count);
+        }
     }
     count
 }
@@ -144,7 +117,7 @@ fn meet_fan(
         return count;
     }
     put(vertices, v, count + 1);
-    put_one(out, at + 10 * count, 22, get(starts, v));
+    put_record(out, at + 10 * count, 22, &[get(starts, v)]);
     count + 1
 }
 
@@ -170,8 +143,8 @@ fn meet_ends(
     count
 }
 
-// Kind 22: the points of the fans first met over active edges, start then end; each fan's number in a table all 0 at
-// first. Gives how many there are.
+// Kind 22: the points of the fans first met over active edges, start then end; each fan's number in a table that has 0
+// for the others. Gives how many there are.
 fn put_vertices(
     rows: &[u32],
     starts: &[u32],
@@ -179,15 +152,13 @@ fn put_vertices(
     out: &mut [u8],
     at: usize,
 ) -> usize
-    requires { (at < 2 ^ 58) × (length rows.now ≤ 14336) × EndsOk (length vertices.old) (rows_in rows.now) × Blank vertices.old }
+    requires { (at < 2 ^ 58) × (length rows.now ≤ 14336) × EndsOk (length vertices.old) (rows_in rows.now) }
     ensures { (result ≤ 4096) × Meeting starts.now out.old at (met_fans (still_active (rows_in rows.now))) vertices.new out.new result }
 {
-    let n = rows.len() / 7;
-    let mut count: usize = 0;
-    let mut e: usize = 0;
-    while e < n {
+    vertices.fill(0);
+    let mut count = 0;
+    for e in 0..rows.len() / 7 {
         count = meet_ends(rows, starts, vertices, count, e, out, at);
-        e += 1;
     }
     count
 }
@@ -195,6 +166,7 @@ fn put_vertices(
 // EDGES
 
 // The vertex of fan v, or none.
+#[tactic(auto, unfolding(crate::specs::Numbers::vertex_in))]
 fn vertex_of(vertices: &[u32], count: usize, v: usize) -> usize
     ensures { result ≡ vertex_in vertices.now count v }
 {
@@ -205,6 +177,7 @@ fn vertex_of(vertices: &[u32], count: usize, v: usize) -> usize
 }
 
 // Kind 23: edge e where it is active.
+#[tactic(auto, unfolding(crate::specs::Rows::edge_row))]
 fn put_edge(
     rows: &[u32],
     vertices: &[u32],
@@ -218,13 +191,10 @@ fn put_edge(
 {
     if edge_active(rows, e) {
         let x = edge_at(rows, e);
-        let sense = x.sense;
-        let s = job::sense_number(sense);
+        let sense = usize::from(x.sense);
         let start = vertex_of(vertices, count, x.start as usize);
         let end = vertex_of(vertices, count, x.end as usize);
-        let p = put_head(out, at, 23, 4);
-        let q = put_two(out, p, x.curve as usize, s);
-        return put_two(out, q, start, end);
+        return put_record(out, at, 23, &[x.curve as usize, sense, start, end]);
     }
     at
 }
@@ -234,38 +204,25 @@ fn put_edges(rows: &[u32], vertices: &[u32], count: usize, out: &mut [u8], at: u
     requires { (at < 2 ^ 57) × (length rows.now ≤ 14336) }
     ensures { Wrote out.old at (flat_map (edge_row vertices.now count) (rows_in rows.now)) out.new result × (result ≤ at + 45056) }
 {
-    let n = rows.len() / 7;
     let mut p = at;
-    let mut e: usize = 0;
-    while e < n {
+    for e in 0..rows.len() / 7 {
         p = put_edge(rows, vertices, count, e, out, p);
-        e += 1;
     }
     p
 }
 
 // FACES
 
-// An item's edge by its number, and its sense.
-fn put_item(numbers: &[u32], count: usize, x: usize, out: &mut [u8], at: usize) -> usize
-    requires { at < 2 ^ 58 }
-    ensures { Wrote out.old at (field_bytes (item_row numbers.now count x)) out.new result × (result ≤ at + 8) }
-{
-    let e = number_of(numbers, count, x / 2);
-    put_two(out, at, e, x % 2)
-}
-
-// The items of a loop.
+// The items of a loop: each one's edge by its number, and its sense.
 fn put_items(part: &[u32], numbers: &[u32], count: usize, out: &mut [u8], at: usize) -> usize
     requires { (at < 2 ^ 57) × (length part.now ≤ 2048) }
     ensures { Wrote out.old at (field_bytes (flat_map (item_row numbers.now count) part.now)) out.new result × (result ≤ at + 16384) }
 {
     let mut p = at;
-    let mut i: usize = 0;
-    while i < part.len() {
-        let x = get(part, i);
-        p = put_item(numbers, count, x, out, p);
-        i += 1;
+    for x in part {
+        let item = *x as usize;
+        let e = number_of(numbers, count, item / 2);
+        p = put_two(out, p, e, item % 2);
     }
     p
 }
@@ -309,36 +266,23 @@ fn put_loops(
     ensures { Wrote out.old at (loop_rows items.now stretches.now faces.now numbers.now count f) out.new result × (result ≤ at + 33566720) }
 {
     let mut p = at;
-    let mut k: usize = 0;
-    while k < faces.len() {
+    for k in 0..faces.len() {
         p = put_loop(items, stretches, faces, numbers, count, f, k, out, p);
-        k += 1;
     }
     p
 }
 
-// Kind 26: vertex loop i where it is of merged face f.
-fn put_vertex_loop(kept: &[u32], f: usize, i: usize, out: &mut [u8], at: usize) -> usize
-    requires { (at < 2 ^ 56) × (i < 1024) }
-    ensures { Wrote out.old at (vertex_loop_row kept.now f i) out.new result × (result ≤ at + 10) }
-{
-    if get(kept, 2 * i) != f {
-        return at;
-    }
-    let v = get(kept, 2 * i + 1);
-    put_one(out, at, 26, v)
-}
-
 // Kind 26: the vertex loops of merged face f, of k there are.
+#[tactic(auto, unfolding(crate::specs::Rows::vertex_loop_rows))]
 fn put_vertex_loops(kept: &[u32], k: usize, f: usize, out: &mut [u8], at: usize) -> usize
     requires { (at < 2 ^ 55) × (k ≤ 1024) }
     ensures { Wrote out.old at (vertex_loop_rows kept.now k f) out.new result × (result ≤ at + 10240) }
 {
     let mut p = at;
-    let mut i: usize = 0;
-    while i < k {
-        p = put_vertex_loop(kept, f, i, out, p);
-        i += 1;
+    for i in 0..k {
+        if get(kept, 2 * i) == f {
+            p = put_record(out, p, 26, &[get(kept, 2 * i + 1)]);
+        }
     }
     p
 }
@@ -349,12 +293,12 @@ fn put_face(job: &[u8], index: &[u32], c: Counts, r: usize, out: &mut [u8], at: 
     ensures { Wrote out.old at (framed (face_head (faces_in job.now index.now c) r)) out.new result × (result ≤ at + 14) }
 {
     let surface = job::face_surface(job, index, c, r);
-    let sense = job::sense_number(job::stored_sense(job, index, c, r));
-    let p = put_head(out, at, 24, 2);
-    put_two(out, p, surface, sense)
+    let sense = usize::from(job::stored_sense(job, index, c, r));
+    put_record(out, at, 24, &[surface, sense])
 }
 
 // Body and source face of selected face i.
+#[tactic(auto, using(fields::specs::Tabled::length_field_bytes))]
 fn put_member(job: &[u8], index: &[u32], c: Counts, i: usize, out: &mut [u8], at: usize) -> usize
     requires { (at < 2 ^ 58) × (c.faces ≤ 256) }
     ensures { Wrote out.old at (field_bytes (member_fields (member_at (faces_in job.now index.now c) i))) out.new result × (result ≤ at + 8) }
@@ -427,44 +371,22 @@ fn put_faces(
     requires { (at < 2 ^ 53) × (c.faces ≤ 256) × (length rows.now ≤ 14336) × (length rows.now ≤ 7 * length numbers.old) × LoopsSized items.now stretches.now faces.now × (k ≤ 1024) × (length members.now ≤ 256) × (length groups.now ≤ 256) × Lowest groups.now × (members.now ≡ lowest_members groups.now) }
     ensures { Wrote out.old at (framed_all (flat_map face_records (body_faces (faces_in job.now index.now c) groups.now (active_edges (rows_in rows.now)) (face_loops_in items.now stretches.now faces.now) (kept_in k kept.now) 0 members.now))) out.new result × (result ≤ at + 8596231168) }
 {
-    blank(numbers);
     let count = number_edges(rows, numbers);
     let mut room = [0u32; 256];
     let next = &mut room[..groups.len()];
     chain(groups, next);
     let mut p = at;
-    let mut f: usize = 0;
-    while f < members.len() {
-        let m = get(members, f);
+    for (f, m) in members.iter().enumerate() {
+        let m = *m as usize;
         let q = put_face(job, index, c, m, out, p);
         let r = put_members(job, index, c, groups, next, m, out, q);
         let s = put_loops(items, stretches, faces, numbers, count, f, out, r);
         p = put_vertex_loops(kept, k, f, out, s);
-        f += 1;
     }
     p
 }
 
 // SHELLS
-
-// Merged face f where it is of the boundary with label b.
-fn put_shell_face(
-    boundaries: &[u32],
-    members: &[u32],
-    b: usize,
-    f: usize,
-    out: &mut [u8],
-    at: usize,
-) -> usize
-    requires { at < 2 ^ 58 }
-    ensures { Wrote out.old at (shell_face_row boundaries.now members.now b f) out.new result × (result ≤ at + 4) }
-{
-    let m = get(members, f);
-    if get(boundaries, m) != b {
-        return at;
-    }
-    put_word(out, at, f)
-}
 
 // The merged faces of the boundary with label b.
 fn put_shell_faces(
@@ -478,49 +400,36 @@ fn put_shell_faces(
     ensures { Wrote out.old at (field_bytes (shell_faces boundaries.now members.now b)) out.new result × (result ≤ at + 1024) }
 {
     let mut p = at;
-    let mut f: usize = 0;
-    while f < members.len() {
-        p = put_shell_face(boundaries, members, b, f, out, p);
-        f += 1;
+    for (f, m) in members.iter().enumerate() {
+        if get(boundaries, *m as usize) == b {
+            p = put_word(out, p, f);
+        }
     }
     p
 }
 
-// Kind 28: the boundary with label b; its size is what its faces take where there is no room.
+// How many merged faces the boundary with label b has.
+fn faces_of(boundaries: &[u32], members: &[u32], b: usize) -> usize
+    ensures { (result ≡ length (shell_faces boundaries.now members.now b)) × (result ≤ length members.now) }
+{
+    members
+        .iter()
+        .filter(|m| get(boundaries, **m as usize) == b)
+        .count()
+}
+
+// Kind 28: the boundary with label b.
 fn put_shell(boundaries: &[u32], members: &[u32], b: usize, out: &mut [u8], at: usize) -> usize
     requires { (at < 2 ^ 56) × (length members.now ≤ 256) }
     ensures { Wrote out.old at (framed (rec 28 (shell_faces boundaries.now members.now b))) out.new result × (result ≤ at + 1030) }
 {
-    let mut none = [0u8; 1];
-    let size = put_shell_faces(boundaries, members, b, &mut none, 0);
-    let p = put_head(out, at, 28, size / 4);
+    let size = faces_of(boundaries, members, b);
+    let p = put_head(out, at, 28, size);
     put_shell_faces(boundaries, members, b, out, p)
 }
 
-// Kind 28: shell k where it is a void of the lump whose outer shell has the lowest merged face o.
-fn put_void(
-    boundaries: &[u32],
-    members: &[u32],
-    table: &[u32],
-    o: usize,
-    k: usize,
-    out: &mut [u8],
-    at: usize,
-) -> usize
-    requires { (at < 2 ^ 56) × (length members.now ≤ 256) × (k < 256) }
-    ensures { Wrote out.old at (void_row boundaries.now members.now table.now o k) out.new result × (result ≤ at + 1030) }
-{
-    if shell_outer(table, k) {
-        return at;
-    }
-    if shell_home(table, k) != o {
-        return at;
-    }
-    let b = shell_boundary(table, k);
-    put_shell(boundaries, members, b, out, at)
-}
-
-// Kind 28: the voids of that lump, of n shells there are.
+// Kind 28: the voids of the lump whose outer shell has the lowest merged face o, of n shells there are.
+#[tactic(auto, unfolding(crate::specs::Rows::void_rows))]
 fn put_voids(
     boundaries: &[u32],
     members: &[u32],
@@ -534,10 +443,10 @@ fn put_voids(
     ensures { Wrote out.old at (void_rows boundaries.now members.now table.now n o) out.new result × (result ≤ at + 263680) }
 {
     let mut p = at;
-    let mut k: usize = 0;
-    while k < n {
-        p = put_void(boundaries, members, table, o, k, out, p);
-        k += 1;
+    for k in 0..n {
+        if !shell_outer(table, k) && shell_home(table, k) == o {
+            p = put_shell(boundaries, members, shell_boundary(table, k), out, p);
+        }
     }
     p
 }
@@ -558,7 +467,7 @@ fn put_lump(
     if shell_outer(table, k) {
         let b = shell_boundary(table, k);
         let o = shell_home(table, k);
-        let p = put_head(out, at, 27, 0);
+        let p = put_record(out, at, 27, &[]);
         let q = put_shell(boundaries, members, b, out, p);
         return put_voids(boundaries, members, table, n, o, out, q);
     }
@@ -578,10 +487,8 @@ fn put_lumps(
     ensures { Wrote out.old at (framed_all (flat_map lump_records (lumps (nested_in boundaries.now members.now n table.now)))) out.new result }
 {
     let mut p = at;
-    let mut k: usize = 0;
-    while k < n {
+    for k in 0..n {
         p = put_lump(boundaries, members, table, n, k, out, p);
-        k += 1;
     }
     p
 }
@@ -598,7 +505,6 @@ fn put_vertices_and_edges(
     requires { (length rows.now ≤ 14336) × EndsOk (length vertices.old) (rows_in rows.now) }
     ensures { Wrote out.old 34 (vertex_and_edge_bytes starts.now (rows_in rows.now)) out.new result × (result ≤ 86050) }
 {
-    blank(vertices);
     let count = put_vertices(rows, starts, vertices, out, 34);
     put_edges(rows, vertices, count, out, 34 + 10 * count)
 }
@@ -637,22 +543,11 @@ fn put_records(
 }
 
 // The body of a job without selected faces: one record, or refusal 40 with the bytes needed.
-pub fn put_empty(out: &mut [u8]) -> Ending
+pub fn put_empty(out: &mut [u8]) -> Result<usize, Refusal>
     ensures { Ends (fitting (length out.old) (framed_all (body_records empty_body))) out.old out.new result }
 {
-    if out.len() < 34 {
-        return Ending::Refused(40, 34);
-    }
-    let totals = Totals {
-        uses: 0,
-        removed: 0,
-        passed: 0,
-        joins: 0,
-        rings: 0,
-        merges: 0,
-    };
-    put_totals(out, 0, totals);
-    Ending::Written(34)
+    fits(out, 34)?;
+    Ok(put_totals(out, 0, Totals::default()))
 }
 
 // The body of a job with faces, of k kept vertex loops and n shells: all records, or refusal 40 with the bytes
@@ -677,21 +572,18 @@ pub fn put_body(
     numbers: &mut [u32],
     vertices: &mut [u32],
     out: &mut [u8],
-) -> Ending
+) -> Result<usize, Refusal>
     requires { BodySized c groups.now rows.now items.now stretches.now faces.now members.now k n numbers.old vertices.old }
     ensures { Ends (fitting (length out.old) (framed_all (body_records (solid_body (totals_in totals) (faces_in job.now index.now c) groups.now starts.now (rows_in rows.now) (face_loops_in items.now stretches.now faces.now) members.now (kept_in k kept.now) (lumps (nested_in boundaries.now members.now n table.now)))))) out.old out.new result }
 {
-    let mut none = [0u8; 1];
+    let mut none = [0u8; 0];
     let needed = put_records(
         totals, job, index, c, groups, starts, rows, items, stretches, faces, members, kept, k,
         boundaries, table, n, numbers, vertices, &mut none,
     );
-    if out.len() < needed {
-        return Ending::Refused(40, needed);
-    }
-    put_records(
+    fits(out, needed)?;
+    Ok(put_records(
         totals, job, index, c, groups, starts, rows, items, stretches, faces, members, kept, k,
         boundaries, table, n, numbers, vertices, out,
-    );
-    Ending::Written(needed)
+    ))
 }

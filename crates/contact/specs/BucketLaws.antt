@@ -2,11 +2,11 @@
 use Prim.Native.Nat.{ℕ, zero, ◌+◌, ◌-◌, ◌%◌, ◌≤◌, ◌<◌}
 use Rattle.std.proofs.Common.{mod-lt, add-one, ◌∙◌, subst, ⊎_elim, get_or-set_same, get_or-set_other, get_or-take, length-take-le}
 use native.Mathlib.Omega.{arith}
-use Rattle.std.specs.Prelude.{◌≡◌, refl, ◌≢◌, Bool, true, false, ◌&&◌, ◌||◌, List, ◌∷◌, length, set, take, replicate, eqb, ltb}
+use Rattle.std.specs.Prelude.{◌≡◌, refl, ◌≢◌, Bool, true, false, ◌&&◌, List, ◌∷◌, length, set, take, replicate, eqb, ltb}
 use Rattle.std.proofs.Math.Path.{sym, ap}
 use mathlib.Core.List.Memᴰ
 use Rattle.std.proofs.Math.ListN.{get_or}
-use borrow.Author.Tests.{eq-eqb, ne_eqb, eqb-true, ltb-true, ltb-false}
+use borrow.Author.Tests.{eqb-true, ltb-true, ltb-false}
 use Rattle.lists.specs.Lists.{◌∈◌, some}
 use Rattle.lists.specs.Tests.{both_ways, and_both, equal_or_not}
 use Rattle.lists.specs.Membership.{get_or_in, in_get_or}
@@ -21,51 +21,29 @@ use Rattle.rules.specs.Contact.{use_label, touches}
 use Rattle.fields.specs.Chains.{chain, Falling, chain_end, chain_on, chain_more, chain_below, chain_same}
 use Rattle.contact.specs.Buckets.{next_fan, stands_with, point_at, Bucketed, touches_earlier}
 
--- ONE FAN
-
--- the code's numbers: the point q of fan g, its label m
-module _ (us : List Use) (starts labels : List ℕ) (p l g q : ℕ) (eq : q ≡ fan_point starts g) where
-  pub other_point : (p ≡ q → ⊥) → false ≡ stands_with us starts labels p l g
-  unfolding stands_with
-  other_point ne = rw (← eq, ne_eqb p q ne)
-
-  module _ (face m : ℕ) (ef : face ≡ face_of_use us g) (em : m ≡ label_of labels face) (same : p ≡ q) where
-    at_point : eqb p (fan_point starts g) ≡ true
-    at_point = eq-eqb p (fan_point starts g) (same ∙ eq)
-
-    pub other_label : (l ≡ m → ⊥) → false ≡ stands_with us starts labels p l g
-    unfolding stands_with
-    other_label ne = rw (at_point, ne_eqb l (use_label us labels g) (λ e. ne (e ∙ sym (em ∙ ap (label_of labels) ef))))
-
-    pub same_label : l ≡ m → true ≡ stands_with us starts labels p l g
-    unfolding stands_with
-    same_label e = rw (at_point, eq-eqb l (use_label us labels g) (e ∙ em ∙ ap (label_of labels) ef))
-
 -- ALONG A CHAIN
 
--- a test of what stands at the places on a chain: what is left to test at entry i
-module _ (test : ℕ → Bool) (at : ℕ → ℕ) (next : ℕ → ℕ) (falls : Falling next) (whole : Bool) (i : ℕ) (left : some (λ k. test (at k)) (chain next i) ≡ whole) where
-  module _ (h : 0 < i) (here : Bool) (g : ℕ) (eg : g ≡ at (i - 1)) (e : here ≡ test g) where
-    first : (here || some (λ k. test (at k)) (chain next (next (i - 1)))) ≡ whole
-    unfolding some
-    first = ap (λ (b : Bool). b || some (λ k. test (at k)) (chain next (next (i - 1)))) (e ∙ ap test eg) ∙ sym (ap (some (λ k. test (at k))) (chain_more next falls i h)) ∙ left
+-- a test of the places on a chain, from entry i on
+module _ (test : ℕ → Bool) (next : ℕ → ℕ) (falls : Falling next) (whole : Bool) (i : ℕ) (left : some test (chain next i) ≡ whole) where
+  pub chain_hit : 0 < i → test (i - 1) ≡ true → true ≡ whole
+  unfolding some
+  chain_hit h t = rw (← left, chain_more next falls i h, t)
 
-    pub chain_hit : here ≡ true → true ≡ whole
-    chain_hit t = sym (ap (λ (b : Bool). b || some (λ k. test (at k)) (chain next (next (i - 1)))) t) ∙ first
-
-    pub chain_miss : (j : ℕ) → here ≡ false → j ≡ next (i - 1) → some (λ k. test (at k)) (chain next j) ≡ whole
-    chain_miss j t q = ap (λ k. some (λ n. test (at n)) (chain next k)) q ∙ sym (ap (λ (b : Bool). b || some (λ k. test (at k)) (chain next (next (i - 1)))) t) ∙ first
+  pub chain_miss : (j : ℕ) → 0 < i → test (i - 1) ≡ false → j ≡ next (i - 1) → some test (chain next j) ≡ whole
+  unfolding some
+  chain_miss j h t q = rw (← left, chain_more next falls i h, t, q)
 
   pub chain_missed : i ≤ 0 → false ≡ whole
   unfolding some
-  chain_missed h = let z : i ≡ zero = omega arith in sym (ap (λ k. some (λ n. test (at n)) (chain next k)) z ∙ ap (some (λ k. test (at k))) (chain_end next)) ∙ left
+  chain_missed h = let z : i ≡ zero = omega arith in rw (← left, z, chain_end next)
 
 -- ALL EARLIER FANS
 
-pub bucketed_none : (w : ℕ) (starts names heads nexts : List ℕ) (m n : ℕ) → heads ≡ replicate m 0 → nexts ≡ replicate n 0 → Bucketed w starts names heads nexts 0
-bucketed_none w starts names heads nexts m n eh en = record {
-  falling = λ k. omega (arith, ap (λ l. get_or l k 0) en, get_or_constant n zero k);
-  entries = λ b. omega (arith, ap (λ l. get_or l b 0) eh, get_or_constant m zero b);
+pub bucketed_none : (w : ℕ) (starts names heads nexts : List ℕ) → heads ≡ replicate (length heads) 0 → nexts ≡ replicate (length nexts) 0
+    → Bucketed w starts names heads nexts 0
+bucketed_none w starts names heads nexts eh en = record {
+  falling = λ k. omega (arith, ap (λ l. get_or l k 0) en, get_or_constant (length nexts) zero k);
+  entries = λ b. omega (arith, ap (λ l. get_or l b 0) eh, get_or_constant (length heads) zero b);
   holds = λ j h. absurd (omega arith);
 }
 
@@ -115,11 +93,13 @@ module _ (w : ℕ) (starts names heads nexts : List ℕ) (k : ℕ) (s : Bucketed
           let j : ℕ = q.0 in
           let lj : j < k = omega (arith, q.1, length-take-le k names (omega arith)) in
           let g : get_or names j 0 ≡ r.0 = sym (get_or-take k names j 0 lj) ∙ q.2 in
-          let point : point_at starts names j ≡ p = ap (fan_point starts) g ∙ sym (ep ∙ eqb-true (fan_point starts f) (fan_point starts r.0) (and_both (eqb (fan_point starts f) (fan_point starts r.0)) (eqb (use_label us labels f) (use_label us labels r.0)) r.2).0) in
+          let same : fan_point starts f ≡ fan_point starts r.0 = eqb-true _ _ (and_both _ _ r.2).0 in
+          let point : point_at starts names j ≡ p = ap (fan_point starts) g ∙ sym (ep ∙ same) in
           in_some test (subst (λ e. j ∈ chain (next_fan nexts) e) (ap (λ q. get_or heads (q % w) 0) point ∙ sym ee) (s.holds j lj)) (agree (get_or names j 0) ∙ ap meet g ∙ r.2)
 
   -- the fan at place k on the chain of its point p
-  module _ (v p entry : ℕ) (ev : v ≡ get_or names k 0) (ep : p ≡ fan_point starts v) (ee : entry ≡ get_or heads (p % w) 0) (room : k < length nexts) (some_chains : 0 < w) (wide : length heads ≡ w) where
+  module _ (v p entry : ℕ) (ev : v ≡ get_or names k 0) (ep : p ≡ fan_point starts v) (ee : entry ≡ get_or heads (p % w) 0)
+      (room : k < length nexts) (some_chains : 0 < w) (wide : length heads ≡ w) where
     abbrev heads' : List ℕ
     heads' = set heads (p % w) (k + 1)
 
@@ -143,16 +123,22 @@ module _ (w : ℕ) (starts names heads nexts : List ℕ) (k : ℕ) (s : Bucketed
         ∙ chain_on (next_fan nexts') falls k
         ∙ ap {B = List ℕ} (λ r. k ∷ r) (ap (chain (next_fan nexts')) (get_or-set_same nexts k entry 0 room ∙ ee) ∙ sym (kept (p % w)))
 
+    held_before : (j : ℕ) → j < k → j ∈ chain (next_fan nexts') (get_or heads' (point_at starts names j % w) 0)
+    held_before j lt =
+        let b : ℕ = point_at starts names j % w in
+        let old : j ∈ chain (next_fan nexts) (get_or heads b 0) = s.holds j lt in
+        ⊎_elim
+        (λ q. rw (q.0, front) (Memᴰ.tail (rw q.0 at old)))
+        (λ q. rw (get_or-set_other heads (p % w) b (k + 1) 0 q.0, ← kept b) old)
+        (equal_or_not b (p % w))
+
     held : (j : ℕ) → j < k + 1 → j ∈ chain (next_fan nexts') (get_or heads' (point_at starts names j % w) 0)
     held j h =
         ⊎_elim
-        (λ t. let lt : j < k = ltb-true j k t in
-        ⊎_elim
-        (λ q. subst (λ b. j ∈ chain (next_fan nexts') (get_or heads' b 0)) (sym q.0) (subst (λ r. j ∈ r) (sym front) (Memᴰ.tail (subst (λ b. j ∈ chain (next_fan nexts) (get_or heads b 0)) q.0 (s.holds j lt)))))
-        (λ q. subst (λ e. j ∈ chain (next_fan nexts') e) (sym (get_or-set_other heads (p % w) (point_at starts names j % w) (k + 1) 0 q.0)) (subst (λ r. j ∈ r) (kept (point_at starts names j % w)) (s.holds j lt)))
-        (equal_or_not (point_at starts names j % w) (p % w)))
+        (λ t. held_before j (ltb-true j k t))
         (λ t. let q : j ≡ k = omega (arith, ltb-false j k t) in
-        subst (λ b. j ∈ chain (next_fan nexts') (get_or heads' b 0)) (ap (λ x. x % w) (ep ∙ ap (fan_point starts) ev ∙ ap (point_at starts names) (sym q))) (subst (λ r. j ∈ r) (sym front) (Memᴰ.head q)))
+        let at : point_at starts names j ≡ p = ap (point_at starts names) q ∙ sym (ep ∙ ap (fan_point starts) ev) in
+        rw (at, front) (Memᴰ.head q))
         (both_ways (ltb j k))
 
     pub bucketed_more : (heads'' nexts'' : List ℕ) → nexts'' ≡ set nexts k entry → heads'' ≡ set heads (p % w) (k + 1) → Bucketed w starts names heads'' nexts'' (k + 1)

@@ -1,5 +1,5 @@
 -- Fans on chains: those whose points leave one remainder by the number of chains are on one chain, the last first.
-use Rattle.std.specs.Prelude.{ℕ, ◌%◌, ◌<◌, ◌≤◌, ◌≡◌, List, Bool, ◌&&◌, cond, get_or, take, eqb, ltb}
+use Rattle.std.specs.Prelude.{ℕ, ◌%◌, ◌<◌, ◌≤◌, List, Bool, true, ◌&&◌, cond, get_or, take, eqb, ltb, Option, None, Some}
 use Rattle.lists.specs.Lists.{◌∈◌, some}
 use Rattle.rules.specs.declared.Use.{Use}
 use Rattle.rules.specs.Fans.{fan_point}
@@ -28,7 +28,13 @@ pub record Bucketed (w : ℕ) (starts names heads nexts : List ℕ) (k : ℕ) : 
 abbrev pub touches_earlier : List Use → List ℕ → List ℕ → List ℕ → ℕ → Bool
 touches_earlier us starts labels names k = some (touches us starts labels (get_or names k 0)) (take k names)
 
+-- p is lower than the lowest point so far
+abbrev pub is_lower : ℕ → Option ℕ → Bool
+is_lower p None = true
+is_lower p (Some lowest) = ltb p lowest
+
 -- the lower of the lowest point so far and the point of the fan at place k where that touches an earlier one
-pub record Lowered (us : List Use) (starts labels names : List ℕ) (k lowest r : ℕ) : Type 0 where
-  pub small : point_at starts names k < 4294967296
-  pub lower : r ≡ cond (ltb (point_at starts names k) lowest && touches_earlier us starts labels names k) (point_at starts names k) lowest
+unfoldable pub lowered : List Use → List ℕ → List ℕ → List ℕ → ℕ → Option ℕ → Option ℕ
+lowered us starts labels names k lowest =
+    let p = point_at starts names k in
+    cond (is_lower p lowest && touches_earlier us starts labels names k) (Some p) lowest

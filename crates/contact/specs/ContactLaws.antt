@@ -1,5 +1,5 @@
 -- Laws of the contact points: fans held against the earlier ones have the same lowest point as fans held against the later ones.
-use Rattle.std.specs.Prelude.{ℕ, ◌+◌, ◌%◌, ◌≤◌, ◌<◌, ◌≡◌, ◌⊎◌, Bool, ◌&&◌, length, get_or, take, eqb, ltb}
+use Rattle.std.specs.Prelude.{ℕ, ◌+◌, ◌%◌, ◌≤◌, ◌<◌, ◌≡◌, ◌⊎◌, Bool, Option, None, Some, ◌&&◌, length, get_or, take, eqb}
 use Rattle.std.proofs.Common.{add-one, arith, sym, ◌∙◌, subst, take-suc, take_all}
 use Rattle.std.proofs.Math.Path.{refl, ap}
 use Rattle.std.proofs.Math.Logic.{inl, inr, ⊎_elim}
@@ -7,19 +7,20 @@ use Rattle.std.proofs.Math.Bool.{true, false, cond}
 use Rattle.std.proofs.lemmas.Bool.{false≢true}
 use mathlib.Core.List.Memᴰ
 use mathlib.Core.List.{List, [], ◌∷◌, ◌++◌}
-use borrow.Author.Tests.{eqb-true, lt-ltb, le-ltb, ltb-true, ltb-false}
+use borrow.Author.Tests.{eqb-true, ltb-true, ltb-false}
 use Rattle.lists.specs.Lists.{◌∈◌, some}
 use Rattle.lists.specs.Tests.{or_cases, or_second, and_both, eqb_swap}
 use Rattle.lists.specs.Members.{in_some, some_in}
+use Rattle.rules.specs.declared.Fault.{Fault}
 use Rattle.rules.specs.declared.Use.{Use}
-use Rattle.rules.specs.Outcome.{ok, refuse}
+use Rattle.rules.specs.Outcome.{Ok, refuse, Outcome}
 use Rattle.rules.specs.Read.{face_of_use}
 use Rattle.rules.specs.Groups.{label_of}
 use Rattle.rules.specs.Fans.{fan_point}
 use Rattle.rules.specs.Contact.{use_label, touches, contact_points, points_clear}
 use Rattle.contact.specs.ClearLaws.{clear_none, clear_least}
 use Rattle.fields.specs.Chains.{chain}
-use Rattle.contact.specs.Buckets.{next_fan, stands_with, point_at, Bucketed, touches_earlier, Lowered}
+use Rattle.contact.specs.Buckets.{next_fan, stands_with, point_at, Bucketed, touches_earlier, is_lower, lowered}
 use Rattle.contact.specs.BucketLaws.{chain_touches}
 
 module _ (us : List Use) (starts labels : List ℕ) where
@@ -96,17 +97,19 @@ module _ (us : List Use) (starts labels : List ℕ) where
 
   -- THE LOWEST POINT SO FAR
 
-  -- of the first k fans: a number that no contact point is less than, itself one unless it is too great
-  pub record LowestAt (names : List ℕ) (k lowest : ℕ) : Type 0 where
-    pub low : (y : ℕ) → y ∈ points (take k names) → lowest ≤ y
-    pub here : lowest < 4294967296 → lowest ∈ points (take k names)
-    pub small : (y : ℕ) → y ∈ points (take k names) → y < 4294967296
+  -- of the first k fans: a contact point that no other is less than, or there is none
+  abbrev LowestOf : List ℕ → Option ℕ → Type 0
+  LowestOf l None = (y : ℕ) → y ∈ l → ⊥
+  LowestOf l (Some p) = (p ∈ l) × ((y : ℕ) → y ∈ l → p ≤ y)
 
-  pub lowest_none : (names : List ℕ) → LowestAt names 0 4294967296
+  pub record LowestAt (names : List ℕ) (k : ℕ) (lowest : Option ℕ) : Type 0 where
+    pub lowest_of : LowestOf (points (take k names)) lowest
+
+  pub lowest_none : (names : List ℕ) → LowestAt names 0 None
   unfolding contact_points
-  lowest_none names = record { low = λ y m. absurd (Memᴰ.not-nil m); here = λ h. absurd (omega arith); small = λ y m. absurd (Memᴰ.not-nil m) }
+  lowest_none names = record { lowest_of = λ y m. absurd (Memᴰ.not-nil m) }
 
-  module _ (names : List ℕ) (k lowest r : ℕ) (at : LowestAt names k lowest) (lt : k < length names) (lowered : Lowered us starts labels names k lowest r) where
+  module _ (names : List ℕ) (k : ℕ) (lt : k < length names) where
     abbrev f : ℕ
     f = get_or names k 0
 
@@ -125,69 +128,52 @@ module _ (us : List Use) (starts labels : List ℕ) where
     new : touches_earlier us starts labels names k ≡ true → p ∈ points (take (k + 1) names)
     new t = subst (λ l. p ∈ points l) (sym more) (in_more_new (take k names) f t)
 
-    smaller : (y : ℕ) → y ∈ points (take (k + 1) names) → y < 4294967296
-    smaller y m = ⊎_elim (λ q. at.small y q) (λ w. let e = w.0 in omega (arith, lowered.small)) (cases y m)
+    go : (lowest : Option ℕ) (a b : Bool) → LowestOf (points (take k names)) lowest → is_lower p lowest ≡ a → touches_earlier us starts labels names k ≡ b
+        → LowestOf (points (take (k + 1) names)) (cond (a && b) (Some p) lowest)
+    go None true true at ea eb = (new eb, λ y m. ⊎_elim (λ q. absurd (at y q)) (λ w. let e = w.0 in omega arith) (cases y m))
+    go None true false at ea eb = λ y m. ⊎_elim (at y) (λ w. absurd (false≢true (sym eb ∙ w.1))) (cases y m)
+    go None false b at ea eb = absurd (false≢true (sym ea))
+    go (Some l) true true at ea eb =
+        (new eb, λ y m. ⊎_elim (λ q. omega (arith, at.1 y q, ltb-true p l ea)) (λ w. let e = w.0 in omega arith) (cases y m))
+    go (Some l) true false at ea eb = (old l at.0, λ y m. ⊎_elim (at.1 y) (λ w. absurd (false≢true (sym eb ∙ w.1))) (cases y m))
+    go (Some l) false b at ea eb = (old l at.0, λ y m. ⊎_elim (at.1 y) (λ w. let e = w.0 in omega (arith, ltb-false p l ea)) (cases y m))
 
-    go : (a b : Bool) → ltb p lowest ≡ a → touches_earlier us starts labels names k ≡ b → r ≡ cond (a && b) p lowest → LowestAt names (k + 1) r
-    go true true ea eb e = record {
-      low = λ y m. ⊎_elim (λ q. omega (arith, at.low y q, ltb-true p lowest ea, e)) (λ w. let q = w.0 in omega arith) (cases y m);
-      here = λ h. Memᴰ.cast e (new eb);
-      small = smaller;
-    }
-    go true false ea eb e = record {
-      low = λ y m. ⊎_elim (λ q. omega (arith, at.low y q, e)) (λ w. absurd (false≢true (sym eb ∙ w.1))) (cases y m);
-      here = λ h. Memᴰ.cast e (old lowest (at.here (omega arith)));
-      small = smaller;
-    }
-    go false b ea eb e = record {
-      low = λ y m. ⊎_elim (λ q. omega (arith, at.low y q, e)) (λ w. let q = w.0 in omega (arith, ltb-false p lowest ea)) (cases y m);
-      here = λ h. Memᴰ.cast e (old lowest (at.here (omega arith)));
-      small = smaller;
-    }
+    pub lowest_more : (lowest r : Option ℕ) → LowestAt names k lowest → r ≡ lowered us starts labels names k lowest → LowestAt names (k + 1) r
+    unfolding lowered
+    lowest_more lowest r at e = rw e (record { lowest_of = go lowest (is_lower p lowest) (touches_earlier us starts labels names k) at.lowest_of refl refl })
 
-    pub lowest_more : LowestAt names (k + 1) r
-    lowest_more = go (ltb p lowest) (touches_earlier us starts labels names k) refl refl lowered.lower
+  module _ (fault : Fault) (names : List ℕ) (k : ℕ) (lowest : Option ℕ) (at : LowestAt names k lowest) (all : length names ≤ k) where
+    whole : LowestOf (points names) lowest
+    whole = subst (λ l. LowestOf (points l) lowest) (take_all k names all) at.lowest_of
 
-  module _ (number : ℕ) (names : List ℕ) (k lowest : ℕ) (at : LowestAt names k lowest) (all : length names ≤ k) where
-    whole : take k names ≡ names
-    whole = take_all k names all
+    pub lowest_found : (p : ℕ) → lowest ≡ Some p → refuse fault p ≡ points_clear fault us starts labels names
+    lowest_found p e = let w = subst (LowestOf (points names)) e whole in clear_least fault (points names) p w.0 w.1
 
-    pub lowest_found : lowest < 4294967296 → refuse number lowest ≡ points_clear number us starts labels names
-    lowest_found h =
-        clear_least number (points names) lowest (subst (λ l. lowest ∈ points l) whole (at.here h)) (λ y m. at.low y (subst (λ l. y ∈ points l) (sym whole) m))
-
-    pub lowest_nowhere : 4294967296 ≤ lowest → ok tt ≡ points_clear number us starts labels names
-    lowest_nowhere h =
-        clear_none number (points names) (λ y m. let q = subst (λ l. y ∈ points l) (sym whole) m in omega (arith, at.low y q, at.small y q))
+    pub lowest_nowhere : lowest ≡ None → ◌≡◌ {A = Outcome (Unit {0})} (Ok tt) (points_clear fault us starts labels names)
+    lowest_nowhere e = clear_none fault (points names) (subst (LowestOf (points names)) e whole)
 
 -- ONE FAN AGAINST THE EARLIER ONES
 
 -- the code's numbers: fan f at place k and its point p
-module _ (us : List Use) (starts labels names : List ℕ) (k lowest f p : ℕ) (ef : f ≡ get_or names k 0) (ep : p ≡ fan_point starts f) (small : p < 4294967296) where
+module _ (us : List Use) (starts labels names : List ℕ) (k f p : ℕ) (lowest : Option ℕ) (ef : f ≡ get_or names k 0) (ep : p ≡ fan_point starts f) where
   point_at_lem : p ≡ point_at starts names k
   point_at_lem = ep ∙ ap (fan_point starts) ef
 
-  pub not_lower : lowest ≤ p → Lowered us starts labels names k lowest lowest
-  not_lower le = record {
-    small = omega (arith, point_at_lem);
-    lower = rw (le-ltb (point_at starts names k) lowest (omega (arith, point_at_lem)));
-  }
+  pub not_lower : is_lower p lowest ≡ false → lowest ≡ lowered us starts labels names k lowest
+  unfolding lowered
+  not_lower e = rw (← point_at_lem, e)
 
   -- lower than the lowest so far: t says whether some fan on the chain of its point stands there with its label l
-  module _ (w : ℕ) (heads nexts : List ℕ) (s : Bucketed w starts names heads nexts k) (within : k < length names) (lt : p < lowest) (face l entry : ℕ) (t : Bool)
+  module _ (w : ℕ) (heads nexts : List ℕ) (s : Bucketed w starts names heads nexts k) (within : k < length names) (lt : is_lower p lowest ≡ true) (face l entry : ℕ) (t : Bool)
       (eface : face ≡ face_of_use us f) (el : l ≡ label_of labels face) (ee : entry ≡ get_or heads (p % w) 0)
       (et : t ≡ some (λ j. stands_with us starts labels p l (get_or names j 0)) (chain (next_fan nexts) entry)) where
-    earlier : t ≡ touches_earlier us starts labels names k
-    earlier = et ∙ chain_touches w starts names heads nexts k s us labels f p face l entry within ef ep eface el ee
+    earlier : touches_earlier us starts labels names k ≡ t
+    earlier = sym (et ∙ chain_touches w starts names heads nexts k s us labels f p face l entry within ef ep eface el ee)
 
-    pub lower_touches : t ≡ true → Lowered us starts labels names k lowest p
-    lower_touches y = record {
-      small = omega (arith, point_at_lem);
-      lower = rw (lt-ltb (point_at starts names k) lowest (omega (arith, point_at_lem)), sym earlier ∙ y) point_at_lem;
-    }
+    pub lower_touches : t ≡ true → Some p ≡ lowered us starts labels names k lowest
+    unfolding lowered
+    lower_touches y = rw (← point_at_lem, lt, earlier, y)
 
-    pub lower_apart : t ≡ false → Lowered us starts labels names k lowest lowest
-    lower_apart n = record {
-      small = omega (arith, point_at_lem);
-      lower = rw (lt-ltb (point_at starts names k) lowest (omega (arith, point_at_lem)), sym earlier ∙ n);
-    }
+    pub lower_apart : t ≡ false → lowest ≡ lowered us starts labels names k lowest
+    unfolding lowered
+    lower_apart n = rw (← point_at_lem, lt, earlier, n)

@@ -16,8 +16,7 @@ use Rattle.lists.specs.ListEnds.{has_hit, has_miss, has_none}
 use Rattle.lists.specs.Tables.{set_each}
 use Rattle.rules.specs.declared.Use.{Use}
 use Rattle.rules.specs.Read.{face_of_use}
-use Rattle.rules.specs.Groups.{label_of}
-use Rattle.rules.specs.Pair.{uses_of_edge, twin_of}
+use Rattle.rules.specs.Pair.{uses_of_edge}
 use Rattle.rules.specs.Contact.{use_label, is_lower_use, pair_labels, edge_touches}
 use Rattle.fields.specs.Chains.{chain}
 use Rattle.edge_uses.specs.Links.{next_use, uses_on, Linked}
@@ -30,39 +29,6 @@ stale_none n l = omega (arith, get_or_constant n zero l)
 
 pub stale_on : (stamps : List ℕ) (e : ℕ) → Stale stamps e → Stale stamps (e + 1)
 stale_on stamps e s l = omega (arith, s l)
-
--- ONE USE
-
--- the code's numbers: the twin t of use h, its label l and the stamp there
-module _ (us : List Use) (ts labels stamps : List ℕ) (e h t : ℕ) (et : t ≡ twin_of ts h) where
-  pub higher_use : t ≤ h → (false ≡ meets us ts labels stamps e h) × (stamps ≡ stamped_by us ts labels stamps e h)
-  unfolding meets stamped_by
-  higher_use le = let f : is_lower_use ts h ≡ false = le-ltb h (twin_of ts h) (omega arith) in rw f (refl, refl)
-
-  module _ (l stamp : ℕ) (after : List ℕ) (lt : h < t) (face : ℕ) (ef : face ≡ face_of_use us h) (el : l ≡ label_of labels face) (em : stamp ≡ get_or stamps l 0) (ea : after ≡ set stamps l (e + 1)) where
-    label : l ≡ use_label us labels h
-    label = el ∙ ap (label_of labels) ef
-
-    lower_one : is_lower_use ts h ≡ true
-    lower_one = lt-ltb h (twin_of ts h) (omega arith)
-
-    stored : after ≡ stamped_by us ts labels stamps e h
-    unfolding stamped_by
-    stored = ea ∙ ap (λ k. set stamps k (e + 1)) label ∙ sym (cond_true (is_lower_use ts h) (set stamps (use_label us labels h) (e + 1)) stamps lower_one)
-
-    pub new_label : (stamp ≡ e + 1 → ⊥) → (false ≡ meets us ts labels stamps e h) × (after ≡ stamped_by us ts labels stamps e h)
-    unfolding meets
-    new_label ne = (
-      rw (lower_one, ← label, ← em, ne_eqb stamp (e + 1) ne),
-      stored,
-    )
-
-    pub old_label : stamp ≡ e + 1 → (true ≡ meets us ts labels stamps e h) × (after ≡ stamped_by us ts labels stamps e h)
-    unfolding meets
-    old_label q = (
-      rw (lower_one, ← label, ← em, eq-eqb stamp (e + 1) q),
-      stored,
-    )
 
 -- THE PAIRS OF AN EDGE
 
@@ -175,10 +141,13 @@ module _ (us : List Use) (ts labels : List ℕ) where
 
     -- by the number n of the edge's uses
     module _ (e n : ℕ) (lt : e < length firsts) (en : n ≡ length (uses_on firsts nexts e)) where
+      many : length (uses_of_edge us e) ≡ n
+      many = sym (en ∙ count_linked us firsts nexts linked e lt)
+
       pub few_uses : n ≤ 2 → false ≡ edge_touches us ts labels e
       unfolding edge_touches
-      few_uses le = rw (le-ltb 2 (length (uses_of_edge us e)) (omega (arith, count_linked us firsts nexts linked e lt)))
+      few_uses le = rw (many, le-ltb 2 n le)
 
       pub many_uses : (r : Bool) → 2 < n → r ≡ repeats (pair_labels us ts labels (uses_of_edge us e)) → r ≡ edge_touches us ts labels e
       unfolding edge_touches
-      many_uses r h q = q ∙ sym (ap (λ (b : Bool). b && repeats (pair_labels us ts labels (uses_of_edge us e))) (lt-ltb 2 (length (uses_of_edge us e)) (omega (arith, count_linked us firsts nexts linked e lt))))
+      many_uses r h q = rw (many, lt-ltb 2 n h) q

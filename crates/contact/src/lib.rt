@@ -1,4 +1,5 @@
-// Contact tests, for any labelling of the selected faces: by boundary for 30 and 31, by lump for 33 and 32.
+// Contact tests, for any labelling of the selected faces: by boundary, whose faults are `PairsInBoundary` and
+// `FansInBoundary`, and by lump, whose faults are `PairsInLump` and `FansInLump`.
 
 #![tactic(auto)]
 
@@ -9,23 +10,18 @@ ghost use Rattle.rules.specs.Contact.{pair_labels, edge_touches, edges_clear, po
 ghost use Rattle.fields.specs.Chains.{chain, Falling};
 ghost use Rattle.uses.specs.Table.{uses_in};
 ghost use Rattle.edge_uses.specs.Links.{Linked};
-ghost use Rattle.contact.specs.Clear.{clear_of, LowLabels};
+ghost use Rattle.contact.specs.Clear.{LowLabels};
 ghost use Rattle.contact.specs.Stamps.{Stale, meets, stamped_by};
-ghost use Rattle.contact.specs.Buckets.{next_fan, stands_with, Bucketed, Lowered};
+ghost use Rattle.contact.specs.Buckets.{next_fan, stands_with, Bucketed, is_lower, lowered};
 
-use fields::{UNSET, get, put};
+use fields::{get, put};
+use rules::{Fault, Refusal};
 use uses::use_face;
-
-// Nothing touches, or the refusal with its number and place.
-#[derive(Clone, Copy)]
-pub enum Clear {
-    Done,
-    Refused(usize, usize),
-}
 
 // EDGES
 
 // Use h is the lower of its pair, and its label was met before at edge e. `stamps` has e + 1 at each label met.
+#[tactic(auto, unfolding(crate::specs::Stamps::meets, crate::specs::Stamps::stamped_by))]
 fn meet(uses: &[u32], twins: &[u32], labels: &[u32], stamps: &mut [u32], e: usize, h: usize) -> bool
     requires { e < 1024 }
     ensures { (result ≡ meets (uses_in uses.now) twins.now labels.now stamps.old e h) × (stamps.new ≡ stamped_by (uses_in uses.now) twins.now labels.now stamps.old e h) }
@@ -37,10 +33,7 @@ fn meet(uses: &[u32], twins: &[u32], labels: &[u32], stamps: &mut [u32], e: usiz
     let l = get(labels, use_face(uses, h));
     let stamp = get(stamps, l);
     put(stamps, l, e + 1);
-    if stamp != e + 1 {
-        return false;
-    }
-    true
+    stamp == e + 1
 }
 
 // Two pairs of edge e have one label.
@@ -86,44 +79,36 @@ fn edge_touches(
     pairs_meet(uses, twins, firsts, nexts, labels, stamps, e)
 }
 
-// 30 and 33: the lowest edge with more than two uses of which two pairs have one label.
+// Pairs: the lowest edge with more than two uses of which two pairs have one label.
+#[tactic(auto, using(crate::specs::ClearLaws::none_done))]
 pub fn edges_clear(
-    number: usize,
+    fault: Fault,
     uses: &[u32],
     twins: &[u32],
     firsts: &[u32],
     nexts: &[u32],
     labels: &[u32],
-) -> Clear
+) -> Result<(), Refusal>
     requires { Linked (uses_in uses.now) firsts.now nexts.now × LowLabels labels.now × (length firsts.now ≤ 1024) }
-    ensures { clear_of result ≡ edges_clear number (uses_in uses.now) twins.now labels.now (length firsts.now) }
+    ensures { result ≡ edges_clear fault (uses_in uses.now) twins.now labels.now (length firsts.now) }
 {
     let mut stamps = [0u32; 256];
-    let mut e: usize = 0;
-    while e < firsts.len() {
+    for e in 0..firsts.len() {
         if edge_touches(uses, twins, firsts, nexts, labels, &mut stamps, e) {
-            return Clear::Refused(number, e);
+            return Err(Refusal { fault, place: e });
         }
-        e += 1;
     }
-    Clear::Done
+    Ok(())
 }
 
 // POINTS
 
 // Fan g stands at point p and has label l.
+#[tactic(auto, unfolding(crate::specs::Buckets::stands_with))]
 fn stands_with(uses: &[u32], starts: &[u32], labels: &[u32], p: usize, l: usize, g: usize) -> bool
     ensures { result ≡ stands_with (uses_in uses.now) starts.now labels.now p l g }
 {
-    let q = get(starts, g);
-    if p != q {
-        return false;
-    }
-    let m = get(labels, use_face(uses, g));
-    if l != m {
-        return false;
-    }
-    true
+    p == get(starts, g) && l == get(labels, use_face(uses, g))
 }
 
 // One of the fans on a chain stands at point p and has label l. A chain's entries are places in `names` plus one.
@@ -151,6 +136,13 @@ fn one_stands(
     false
 }
 
+// Point p is lower than the lowest point so far.
+fn is_lower(p: usize, lowest: Option<usize>) -> bool
+    ensures { result ≡ is_lower p lowest }
+{
+    lowest.is_none_or(|q| p < q)
+}
+
 // The lowest point so far, or the point of the fan at place k where that is lower and the fan touches an earlier one.
 fn lower(
     uses: &[u32],
@@ -160,20 +152,20 @@ fn lower(
     heads: &[u32],
     nexts: &[u32],
     k: usize,
-    lowest: usize,
-) -> usize
+    lowest: Option<usize>,
+) -> Option<usize>
     requires { (k < length names.now) × (0 < length heads.now) × Bucketed (length heads.now) starts.now names.now heads.now nexts.now k }
-    ensures { Lowered (uses_in uses.now) starts.now labels.now names.now k lowest result }
+    ensures { result ≡ lowered (uses_in uses.now) starts.now labels.now names.now k lowest }
 {
     let f = get(names, k);
     let p = get(starts, f);
-    if lowest <= p {
+    if !is_lower(p, lowest) {
         return lowest;
     }
     let entry = get(heads, p % heads.len());
     let l = get(labels, use_face(uses, f));
     if one_stands(uses, starts, labels, names, nexts, entry, p, l) {
-        return p;
+        return Some(p);
     }
     lowest
 }
@@ -190,78 +182,63 @@ fn enter(starts: &[u32], names: &[u32], heads: &mut [u32], nexts: &mut [u32], k:
     put(heads, b, k + 1);
 }
 
-// 31 and 32: the lowest point at which two fans have one label, with the fans chained in blank tables.
+// Fans: the lowest point at which two fans have one label, with the fans chained in blank tables.
+#[tactic(auto, using(crate::specs::ContactLaws::lowest_more, crate::specs::ContactLaws::lowest_found, crate::specs::ContactLaws::lowest_nowhere))]
 fn points_chained(
-    number: usize,
+    fault: Fault,
     uses: &[u32],
     starts: &[u32],
     labels: &[u32],
     names: &[u32],
     heads: &mut [u32],
     nexts: &mut [u32],
-) -> Clear
-    requires { (0 < length heads.old) × (length names.now ≤ length nexts.old) × (length nexts.old ≤ 2048) × (heads.old ≡ replicate (length heads.old) 0) × (nexts.old ≡ replicate (length nexts.old) 0) }
-    ensures { clear_of result ≡ points_clear number (uses_in uses.now) starts.now labels.now names.now }
+) -> Result<(), Refusal>
+    requires room { (0 < length heads.old) × (length names.now ≤ length nexts.old) × (length nexts.old ≤ 2048) }
+    requires blank { (heads.old ≡ replicate (length heads.old) 0) × (nexts.old ≡ replicate (length nexts.old) 0) }
+    ensures { result ≡ points_clear fault (uses_in uses.now) starts.now labels.now names.now }
 {
-    let mut lowest = UNSET + 1;
-    let mut k: usize = 0;
-    while k < names.len() {
+    let mut lowest = None;
+    for k in 0..names.len() {
         lowest = lower(uses, starts, labels, names, heads, nexts, k, lowest);
         enter(starts, names, heads, nexts, k);
-        k += 1;
     }
-    if lowest <= UNSET {
-        return Clear::Refused(number, lowest);
+    if let Some(place) = lowest {
+        return Err(Refusal { fault, place });
     }
-    Clear::Done
+    Ok(())
 }
 
-// In tables for up to 64 fans: clearing larger ones costs more than all else of a small part.
-fn points_in_small(
-    number: usize,
+// In tables of `HEADS` chains for up to `FANS` fans.
+fn points_in<const HEADS: usize, const FANS: usize>(
+    fault: Fault,
     uses: &[u32],
     starts: &[u32],
     labels: &[u32],
     names: &[u32],
-) -> Clear
-    requires { length names.now ≤ 64 }
-    ensures { clear_of result ≡ points_clear number (uses_in uses.now) starts.now labels.now names.now }
+) -> Result<(), Refusal>
+    requires { (0 < HEADS) × (HEADS ≤ FANS) × (length names.now ≤ FANS) × (FANS ≤ 2048) }
+    ensures { result ≡ points_clear fault (uses_in uses.now) starts.now labels.now names.now }
 {
-    let mut heads = [0u32; 64];
-    let mut nexts = [0u32; 64];
-    points_chained(number, uses, starts, labels, names, &mut heads, &mut nexts)
+    let mut heads = [0u32; HEADS];
+    let mut nexts = [0u32; FANS];
+    points_chained(fault, uses, starts, labels, names, &mut heads, &mut nexts)
 }
 
-// In tables for up to 2,048 fans, which stand at up to 1,024 points. They are on 512 chains, so that two points share one:
-// a head for every point would make sewing's stack deeper.
-fn points_in_large(
-    number: usize,
-    uses: &[u32],
-    starts: &[u32],
-    labels: &[u32],
-    names: &[u32],
-) -> Clear
-    requires { length names.now ≤ 2048 }
-    ensures { clear_of result ≡ points_clear number (uses_in uses.now) starts.now labels.now names.now }
-{
-    let mut heads = [0u32; 512];
-    let mut nexts = [0u32; 2048];
-    points_chained(number, uses, starts, labels, names, &mut heads, &mut nexts)
-}
-
-// In the tables that the fans need.
+// In the tables that the fans need: clearing those for 2,048 fans costs more than all else of a small part. These fans
+// stand at up to 1,024 points, on 512 chains, so that two points share one: a head for every point would make sewing's
+// stack deeper.
 pub fn points_clear(
-    number: usize,
+    fault: Fault,
     uses: &[u32],
     starts: &[u32],
     labels: &[u32],
     names: &[u32],
-) -> Clear
+) -> Result<(), Refusal>
     requires { length names.now ≤ 2048 }
-    ensures { clear_of result ≡ points_clear number (uses_in uses.now) starts.now labels.now names.now }
+    ensures { result ≡ points_clear fault (uses_in uses.now) starts.now labels.now names.now }
 {
     if names.len() <= 64 {
-        return points_in_small(number, uses, starts, labels, names);
+        return points_in::<64, 64>(fault, uses, starts, labels, names);
     }
-    points_in_large(number, uses, starts, labels, names)
+    points_in::<512, 2048>(fault, uses, starts, labels, names)
 }

@@ -1,6 +1,7 @@
 -- One use more on the chains, and what is on the chain of an edge.
 use Rattle.std.specs.Prelude.{ℕ, zero, suc, ◌+◌, ◌-◌, ◌<◌, ◌≤◌, ◌≡◌, Bool, true, false, cond, length, get_or, set, take, replicate, eqb, ltb}
-use Rattle.std.proofs.Common.{add-one, arith, sym, ap, ◌∙◌, subst, ⊎_elim, length-set, get_or-set_same, get_or-set_other, take-suc, take-suc-set, take_all, length-take-le, eq-eqb, ne_eqb, ltb-true, ltb-false}
+use Rattle.std.proofs.Common.{add-one, arith, sym, ap, ◌∙◌, subst, ⊎_elim, length-set, get_or-set_same, get_or-set_other, take-suc, take-suc-set, take_all, length-take-le}
+use borrow.Author.Tests.{eq-eqb, ne_eqb, ltb-true, ltb-false}
 use mathlib.Core.List.{List, [], ◌∷◌, ◌++◌, reverse_aux, reverse as backwards, reverse-append, reverse-reverse, append-nil}
 use Rattle.std.proofs.lemmas.List.{length-reverse}
 use Rattle.std.proofs.Math.ListN.{get_or-eq_default}
@@ -17,13 +18,15 @@ use Rattle.fields.specs.Chains.{chain, Falling, chain_end, chain_on, chain_more,
 use Rattle.edge_uses.specs.Links.{next_use, uses_on, Linked}
 
 -- no use, empty chains
-pub linked_none : (m : ℕ) → Linked [] (replicate m 0) []
+pub linked_none : (firsts : List ℕ) → firsts ≡ replicate (length firsts) 0 → Linked [] firsts []
 unfolding positions
-linked_none m = record {
-  falling = λ k. omega arith;
-  heads = λ e. omega (arith, get_or_constant m zero e);
-  chains = λ e h. ap (chain (next_use [])) (get_or_constant m zero e) ∙ chain_end (next_use []);
-}
+linked_none firsts q =
+    let zeros : (e : ℕ) → get_or firsts e 0 ≡ 0 = λ e. ap (λ l. get_or l e 0) q ∙ get_or_constant (length firsts) zero e in
+    record {
+      falling = λ k. omega arith;
+      heads = λ e. omega (arith, zeros e);
+      chains = λ e h. ap (chain (next_use [])) (zeros e) ∙ chain_end (next_use []);
+    }
 
 -- the uses of an edge after one use more
 more_uses : (us : List Use) (u : Use) (e : ℕ) (b : Bool) → eqb u.edge e ≡ b → uses_of_edge (us ++ (u ∷ [])) e ≡ uses_of_edge us e ++ cond b (length us ∷ []) []
@@ -108,7 +111,9 @@ linked_step us firsts nexts firsts' nexts' h e v l long lt q r x y =
     let m : length (take h nexts) ≡ h = length-take-le h nexts (omega arith) in
     let a : take h us ++ (u ∷ []) ≡ take (h + 1) us = sym (ap (λ k. take k us) (add-one h) ∙ take-suc us h no_use (omega arith)) in
     let b : set firsts u.edge (suc (length (take h us))) ≡ firsts' = (λ i. set firsts (sym q i) ((ap suc n ∙ sym (add-one h)) i)) ∙ sym y in
-    let d : take h nexts ++ (get_or firsts u.edge 0 ∷ []) ≡ take (h + 1) nexts' = ap (λ k. take h nexts ++ (k ∷ [])) (ap (λ k. get_or firsts k 0) (sym q) ∙ sym r) ∙ sym (take-suc-set nexts h v lt) ∙ (λ i. take (sym (add-one h) i) (sym x i)) in
+    let entry : get_or firsts u.edge 0 ≡ v = ap (λ k. get_or firsts k 0) (sym q) ∙ sym r in
+    let d : take h nexts ++ (get_or firsts u.edge 0 ∷ []) ≡ take (h + 1) nexts' =
+    ap (λ k. take h nexts ++ (k ∷ [])) entry ∙ sym (take-suc-set nexts h v lt) ∙ (λ i. take (sym (add-one h) i) (sym x i)) in
     subst (λ ns. Linked (take (h + 1) us) firsts' ns) d
     (subst (λ fs. Linked (take (h + 1) us) fs (take h nexts ++ (get_or firsts u.edge 0 ∷ []))) b
     (subst (λ (xs : List Use). Linked xs (set firsts u.edge (suc (length (take h us)))) (take h nexts ++ (get_or firsts u.edge 0 ∷ []))) a

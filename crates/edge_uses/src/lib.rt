@@ -16,12 +16,10 @@ pub fn link(uses: &[u32], firsts: &mut [u32], nexts: &mut [u32])
     requires { (firsts.old ≡ replicate (length firsts.old) 0) × (length nexts.old ≡ length (uses_in uses.now)) × (length nexts.old ≤ 2048) }
     ensures { Linked (uses_in uses.now) firsts.new nexts.new }
 {
-    let mut h = 0;
-    while h < nexts.len() {
+    for h in 0..nexts.len() {
         let e = use_edge(uses, h);
         put(nexts, h, get(firsts, e));
         put(firsts, e, h + 1);
-        h += 1;
     }
 }
 

@@ -1,12 +1,11 @@
 -- The loops as items: what the tables of items, stretches and faces stand for.
-use Rattle.std.specs.Prelude.{ℕ, ◌+◌, ◌*◌, ◌-◌, ◌/◌, ◌%◌, ◌<◌, ◌≤◌, min, ◌≡◌, List, map, Bool, length, get_or, set, take, drop}
+use Rattle.std.specs.Prelude.{ℕ, ◌+◌, ◌*◌, ◌/◌, ◌%◌, ◌<◌, ◌≤◌, min, ◌≡◌, List, map, Bool, length, get_or, take}
 use Rattle.std.proofs.Common.{arith, sym, ap, subst, ◌∙◌, length-take, get_or-take}
 use Rattle.std.proofs.lemmas.Simd.{map-map}
 use Rattle.lists.specs.Lists.{below, ◌∈◌, index_of}
 use Rattle.lists.specs.Runs.{below_in, length_table, get_or_table}
 use Rattle.lists.specs.Members.{in_map, map_same}
-use Rattle.lists.specs.InPlace.{mapped_to, mapped_next, mapped_step}
-use Rattle.lists.specs.Stretches.{stretch, get_or_stretch, stretch_map}
+use Rattle.lists.specs.Stretches.{stretch_map}
 use Rattle.rules.specs.declared.Sense.{Sense}
 use Rattle.rules.specs.declared.Sense.TheVariants.{Same, Reversed}
 use Rattle.rules.specs.declared.Use.{Use}
@@ -17,18 +16,6 @@ use Rattle.rules.specs.Edges.{lower_uses, item_of, FaceLoop, face_loop, face_loo
 use Rattle.edges.specs.Table.{item_in, item_code, loop_at, loop_face, face_loops_in, Laid}
 
 -- ITEMS
-
--- a use's number, step by step
-pub item_by : (us : List Use) (owns : List ℕ) (h e s : ℕ) (way : Sense) → e ≡ get_or owns h 0 → way ≡ (use_at us h).sense → s ≡ sense_number way → 2 * e + s ≡ item_code us owns h
-unfolding item_code
-item_by us owns h e s way ee ew es = λ i. 2 * ee i + (es ∙ ap sense_number ew) i
-
--- the uses made items, one more
-pub items_step : (us : List Use) (owns l s t : List ℕ) (i h x : ℕ) → i < length l → s ≡ mapped_to (item_code us owns) i l → h ≡ get_or s i 0 → x ≡ item_code us owns h → t ≡ set s i x
-    → t ≡ mapped_to (item_code us owns) (i + 1) l
-items_step us owns l s t i h x b es eh ex et =
-    let next : h ≡ get_or l i 0 = eh ∙ ap (λ r. get_or r i 0) es ∙ mapped_next (item_code us owns) i l b in
-    et ∙ (λ k. set (es k) i ((ex ∙ ap (item_code us owns) next) k)) ∙ mapped_step (item_code us owns) i l b
 
 -- the item that stands for edge e in a sense
 pub item_is : (e : ℕ) (s : Sense) → item_in (2 * e + sense_number s) ≡ record { edge = e; sense = s }
@@ -41,23 +28,10 @@ unfolding item_code item_of
 item_code_lem us ts lowers owns h e = item_is (get_or owns h 0) (use_at us h).sense ∙ (λ i. record { edge = e i; sense = (use_at us h).sense })
 
 -- uses made items, where each number is that of the use's edge
-pub items_are : (us : List Use) (ts lowers owns l : List ℕ) → ((h : ℕ) → h ∈ l → get_or owns h 0 ≡ index_of (min h (twin_of ts h)) lowers) → map item_in (map (item_code us owns) l) ≡ map (item_of us ts lowers) l
+pub items_are : (us : List Use) (ts lowers owns l : List ℕ) → ((h : ℕ) → h ∈ l → get_or owns h 0 ≡ index_of (min h (twin_of ts h)) lowers)
+    → map item_in (map (item_code us owns) l) ≡ map (item_of us ts lowers) l
 items_are us ts lowers owns l owners =
     map-map item_in (item_code us owns) l ∙ map_same (λ h. item_in (item_code us owns h)) (item_of us ts lowers) l (λ h m. item_code_lem us ts lowers owns h (owners h m))
-
--- FACES
-
--- the first use of a loop
-pub first_there : (ways stretches : List ℕ) (k a e : ℕ) → a ≡ get_or stretches (2 * k) 0 → e ≡ get_or stretches (2 * k + 1) 0 → a < e → get_or ways a 0 ≡ get_or (loop_at ways stretches k) 0 0
-first_there ways stretches k a e ea ee h =
-    let b : get_or stretches (2 * k) 0 < get_or stretches (2 * k + 1) 0 = omega arith in
-    let z : a ≡ get_or stretches (2 * k) 0 + 0 = omega arith in
-    ap (λ p. get_or ways p 0) z ∙ sym (get_or_stretch ways (get_or stretches (2 * k) 0) (get_or stretches (2 * k + 1) 0) 0 0 (omega arith))
-
-pub first_none : (ways stretches : List ℕ) (k a e : ℕ) → a ≡ get_or stretches (2 * k) 0 → e ≡ get_or stretches (2 * k + 1) 0 → e ≤ a → 0 ≡ get_or (loop_at ways stretches k) 0 0
-first_none ways stretches k a e ea ee h =
-    let n : get_or stretches (2 * k + 1) 0 - get_or stretches (2 * k) 0 ≡ 0 = omega arith in
-    sym (ap (λ m. get_or (take m (drop (get_or stretches (2 * k) 0) ways)) 0 0) n)
 
 -- LOOPS
 
@@ -85,17 +59,10 @@ face_loops_lem us ts rm numbers owns ways stretches n loops e owners =
 
 -- THE FIRST PART OF A TABLE OF STRETCHES
 
--- the loops of the first n stretches
-pub loops_first : (l stretches : List ℕ) (n : ℕ) → map (loop_at l (take (2 * n) stretches)) (below n) ≡ map (loop_at l stretches) (below n)
-loops_first l stretches n =
-    map_same (loop_at l (take (2 * n) stretches)) (loop_at l stretches) (below n)
-    (λ k m.
-    let b : k < n = below_in n k m in
-    λ i. stretch l (get_or-take (2 * n) stretches (2 * k) 0 (omega arith) i) (get_or-take (2 * n) stretches (2 * k + 1) 0 (omega arith) i))
-
 -- n loops that follow one another
 pub laid_first : (stretches items : List ℕ) (n : ℕ) → ((k : ℕ) → k < n → get_or stretches (2 * k) 0 ≤ get_or stretches (2 * k + 1) 0)
-    → ((k : ℕ) → k + 1 < n → get_or stretches (2 * (k + 1)) 0 ≡ get_or stretches (2 * k + 1) 0) → ((k : ℕ) → k < n → get_or stretches (2 * k + 1) 0 ≤ length items) → Laid (take (2 * n) stretches) items
+    → ((k : ℕ) → k + 1 < n → get_or stretches (2 * (k + 1)) 0 ≡ get_or stretches (2 * k + 1) 0)
+    → ((k : ℕ) → k < n → get_or stretches (2 * k + 1) 0 ≤ length items) → Laid (take (2 * n) stretches) items
 laid_first stretches items n order follow inside = record {
   order = λ k q. omega (arith, order k (below_n k q), start k q, end k q);
   inside = λ k q. omega (arith, inside k (below_n k q), end k q);

@@ -2,13 +2,14 @@
 use Rattle.std.specs.Prelude.{ℕ, ◌+◌, ◌*◌, ◌<◌, ◌≤◌, min, ◌≡◌, refl, ◌≢◌, List, [], ◌∷◌, ◌++◌, map, Bool, true, false, not, cond, length, get_or, set, take, ltb}
 use Rattle.std.proofs.Math.Decide.{ℕ_discrete, dec_lt}
 use Rattle.std.proofs.Common.{not-suc-le-zero, arith, sym, ap, subst, ◌∙◌, ⊎_elim, true≢false, length-set, get_or-set_same, get_or-set_other, lt-ltb, ltb-true}
-use Rattle.std.proofs.Math.Seq.{set_out}
+use Rattle.std.proofs.lemmas.Grind.{common_steps}
 use Rattle.lists.specs.Lists.{from, below, keep, index_of}
 use Rattle.lists.specs.Tests.{both_ways, and_both, both_and, not_is}
 use Rattle.lists.specs.Runs.{length_below}
 use Rattle.lists.specs.Members.{keep_length, map_append}
 use Rattle.lists.specs.Tables.{set_two, length_snoc}
-use Rattle.lists.specs.KeepBelow.{keep_below_yes, keep_below_no, index_below}
+use Rattle.lists.specs.Prefixes.{keep_below_yes, keep_below_no}
+use Rattle.lists.specs.KeepBelow.{index_below}
 use Rattle.rules.specs.declared.Edge.{Edge}
 use Rattle.rules.specs.declared.Use.{Use}
 use Rattle.rules.specs.declared.EdgeData.{EdgeData}
@@ -30,37 +31,14 @@ abbrev pub lower_of : List ℕ → ℕ → ℕ
 lower_of ts h = min h (twin_of ts h)
 
 -- what is made of use h, the edges so far being so many: nothing, or edge x, which both uses of the pair are of
-pub record OneEdge (kept : Bool) (x : EdgeData) (twin h count : ℕ) (rows₀ owns₀ rows owns : List ℕ) (r : ℕ) : Type 0 where
-  pub table : rows ≡ cond kept (with_row rows₀ count x) rows₀
-  pub owners : owns ≡ cond kept (set (set owns₀ h count) twin count) owns₀
-  pub next : r ≡ cond kept (count + 1) count
-
-pub one_edge : (kept : Bool) (x y : EdgeData) (twin t h count : ℕ) (rows₀ owns₀ rows owns₁ owns : List ℕ) → kept ≡ true → y ≡ x → t ≡ twin → rows ≡ with_row rows₀ count y
-    → owns₁ ≡ set owns₀ h count → owns ≡ set owns₁ t count → OneEdge kept x twin h count rows₀ owns₀ rows owns (count + 1)
-one_edge kept x y twin t h count rows₀ owns₀ rows owns₁ owns k e et a b d = record {
-  table = a ∙ ap (with_row rows₀ count) e ∙ sym (ap (λ b. cond b (with_row rows₀ count x) rows₀) k);
-  owners = d ∙ (λ i. set (b i) (et i) count) ∙ sym (ap (λ b. cond b (set (set owns₀ h count) twin count) owns₀) k);
-  next = sym (ap (λ b. cond b (count + 1) count) k);
-}
-
-pub no_edge_lem : (kept : Bool) (x : EdgeData) (twin h count : ℕ) (rows₀ owns₀ : List ℕ) → kept ≡ false → OneEdge kept x twin h count rows₀ owns₀ rows₀ owns₀ count
-no_edge_lem kept x twin h count rows₀ owns₀ k = record {
-  table = sym (ap (λ b. cond b (with_row rows₀ count x) rows₀) k);
-  owners = sym (ap (λ b. cond b (set (set owns₀ h count) twin count) owns₀) k);
-  next = sym (ap (λ b. cond b (count + 1) count) k);
-}
+pub record OneEdge (ts : List ℕ) (rm : List Bool) (x : EdgeData) (h count : ℕ) (rows₀ owns₀ rows owns : List ℕ) (r : ℕ) : Type 0 where
+  pub table : rows ≡ cond (lower_kept ts rm h) (with_row rows₀ count x) rows₀
+  pub owners : owns ≡ cond (lower_kept ts rm h) (set (set owns₀ h count) (twin_of ts h) count) owns₀
+  pub next : r ≡ cond (lower_kept ts rm h) (count + 1) count
 
 -- a store that is at most b keeps an entry at most b
 set_at_most : (l : List ℕ) (i v k b : ℕ) → v ≤ b → get_or l k 0 ≤ b → get_or (set l i v) k 0 ≤ b
-set_at_most l i v k b p q =
-    elim (ℕ_discrete k i) [
-      | yes e ↦
-          elim (dec_lt i (length l)) [
-            | yes h ↦ omega (arith, ap (λ z. get_or (set l i v) z 0) e, get_or-set_same l i v 0 h)
-            | no h ↦ omega (arith, ap (λ z. get_or z k 0) (set_out l i v (omega arith)))
-          ]
-      | no n ↦ omega (arith, get_or-set_other l i k v 0 n)
-    ]
+set_at_most l i v k b p q = grind (arith, common_steps)
 
 -- the edges of the pairs whose lower use is below i, in a table of so many entries
 pub record SoFar (ts : List ℕ) (rm : List Bool) (make : ℕ → EdgeData) (owns₀ : List ℕ) (wide : ℕ) (rows owns : List ℕ) (count i : ℕ) : Type 0 where
@@ -91,12 +69,12 @@ module _ (ts : List ℕ) (rm : List Bool) (mated : Mated ts rm) where
       elim (dec_lt h (twin_of ts h)) [
         | yes l ↦
             let e : lower_of ts h ≡ h = omega arith in
-            ap (lower_kept ts rm) e ∙ both_and (not (is_removed rm h)) (ltb h (twin_of ts h)) (not_is (is_removed rm h) k) (lt-ltb h (twin_of ts h) l)
+            ap (lower_kept ts rm) e ∙ both_and _ _ (not_is (is_removed rm h) k) (lt-ltb h (twin_of ts h) l)
         | no l ↦
             let e : lower_of ts h ≡ twin_of ts h = omega arith in
             let l' : twin_of ts h < twin_of ts (twin_of ts h) = omega (arith, mated.twice h b, mated.other h b) in
             ap (lower_kept ts rm) e
-            ∙ both_and (not (is_removed rm (twin_of ts h))) (ltb (twin_of ts h) (twin_of ts (twin_of ts h))) (not_is (is_removed rm (twin_of ts h)) (mated.together h b ∙ k)) (lt-ltb (twin_of ts h) (twin_of ts (twin_of ts h)) l')
+            ∙ both_and _ _ (not_is (is_removed rm (twin_of ts h)) (mated.together h b ∙ k)) (lt-ltb (twin_of ts h) (twin_of ts (twin_of ts h)) l')
       ]
 
   -- the uses of a pair are its lower use and the twin of that
@@ -109,7 +87,8 @@ module _ (ts : List ℕ) (rm : List Bool) (mated : Mated ts rm) where
             m (sym (mated.twice h b) ∙ ap (twin_of ts) f)
       ]
 
-module _ (ts : List ℕ) (rm : List Bool) (make : ℕ → EdgeData) (paired : (h : ℕ) → length (make h).faces ≡ 2) (few_uses : length ts ≤ 2048) (owns₀ : List ℕ) (sizes : length owns₀ ≡ length ts) (wide : ℕ) (roomy : 7 * length ts ≤ wide) where
+module _ (ts : List ℕ) (rm : List Bool) (make : ℕ → EdgeData) (paired : (h : ℕ) → length (make h).faces ≡ 2) (few_uses : length ts ≤ 2048)
+    (owns₀ : List ℕ) (sizes : length owns₀ ≡ length ts) (wide : ℕ) (roomy : 7 * length ts ≤ wide) where
   so_far_below : (rows owns : List ℕ) (count i : ℕ) → SoFar ts rm make owns₀ wide rows owns count i → count ≤ i
   so_far_below rows owns count i s = omega (arith, s.counted, keep_length (lower_kept ts rm) (below i), length_below i)
 
@@ -167,7 +146,7 @@ module _ (ts : List ℕ) (rm : List Bool) (make : ℕ → EdgeData) (paired : (h
 
   -- one use more
   pub so_far_step : (rows owns rows' owns' : List ℕ) (count i r : ℕ) → SoFar ts rm make owns₀ wide rows owns count i → i < length ts
-      → OneEdge (lower_kept ts rm i) (make i) (twin_of ts i) i count rows owns rows' owns' r → SoFar ts rm make owns₀ wide rows' owns' r (i + 1)
+      → OneEdge ts rm (make i) i count rows owns rows' owns' r → SoFar ts rm make owns₀ wide rows' owns' r (i + 1)
   so_far_step rows owns rows' owns' count i r s h o =
       ⊎_elim
       (λ k. by (with_row rows count (make i)) (set (set owns i count) (twin_of ts i) count) (count + 1) (o.table ∙ ap (λ b. cond b (with_row rows count (make i)) rows) k)
@@ -177,7 +156,10 @@ module _ (ts : List ℕ) (rm : List Bool) (make : ℕ → EdgeData) (paired : (h
       (both_ways (lower_kept ts rm i))
     where
       by : (a b : List ℕ) (n : ℕ) → rows' ≡ a → owns' ≡ b → r ≡ n → SoFar ts rm make owns₀ wide a b n (i + 1) → SoFar ts rm make owns₀ wide rows' owns' r (i + 1)
-      by a b n ea eb en s = subst (λ n. SoFar ts rm make owns₀ wide rows' owns' n (i + 1)) (sym en) (subst (λ b. SoFar ts rm make owns₀ wide rows' b n (i + 1)) (sym eb) (subst (λ a. SoFar ts rm make owns₀ wide a b n (i + 1)) (sym ea) s))
+      by a b n ea eb en s =
+          subst (λ n. SoFar ts rm make owns₀ wide rows' owns' n (i + 1)) (sym en)
+          (subst (λ b. SoFar ts rm make owns₀ wide rows' b n (i + 1)) (sym eb)
+          (subst (λ a. SoFar ts rm make owns₀ wide a b n (i + 1)) (sym ea) s))
 
 -- all of them: the edges, how many, and for each kept use the number of its pair's edge
 pub record Made (es : List Edge) (us : List Use) (ts : List ℕ) (rm : List Bool) (numbers ss g owns₀ rows owns : List ℕ) (r : ℕ) : Type 0 where
@@ -190,8 +172,8 @@ pub two_faces : (es : List Edge) (us : List Use) (ts numbers ss g : List ℕ) (h
 unfolding edge_data
 two_faces es us ts numbers ss g h = refl
 
-pub made : (es : List Edge) (us : List Use) (ts : List ℕ) (rm : List Bool) (numbers ss g owns₀ : List ℕ) (wide : ℕ) (rows owns : List ℕ) (r i : ℕ) → SoFar ts rm (edge_data es us ts numbers ss g) owns₀ wide rows owns r i
-    → length ts ≤ i → Made es us ts rm numbers ss g owns₀ rows owns r
+pub made : (es : List Edge) (us : List Use) (ts : List ℕ) (rm : List Bool) (numbers ss g owns₀ : List ℕ) (wide : ℕ) (rows owns : List ℕ) (r i : ℕ)
+    → SoFar ts rm (edge_data es us ts numbers ss g) owns₀ wide rows owns r i → length ts ≤ i → Made es us ts rm numbers ss g owns₀ rows owns r
 made es us ts rm numbers ss g owns₀ wide rows owns r i s h =
     let e : i ≡ length ts = omega (arith, s.within) in
     let all : keep (lower_kept ts rm) (below i) ≡ lower_uses ts rm = ap (λ n. keep (lower_kept ts rm) (below n)) e in

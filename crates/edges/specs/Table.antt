@@ -1,9 +1,8 @@
 -- The edges of the result as a table of seven numbers each, and its loops as stretches of one list of items.
-use Rattle.std.specs.Prelude.{ℕ, ◌+◌, ◌*◌, ◌/◌, ◌%◌, ◌<◌, ◌≤◌, List, [], ◌∷◌, ◌++◌, map, Bool, cond, length, get_or, eqb}
+use Rattle.std.specs.Prelude.{ℕ, ◌+◌, ◌*◌, ◌/◌, ◌%◌, ◌<◌, ◌≤◌, List, [], ◌∷◌, map, cond, length, get_or, eqb}
 use Rattle.std.proofs.lemmas.List.Edits.{sets}
 use Rattle.lists.specs.Lists.{below}
 use Rattle.lists.specs.Stretches.{stretch}
-use Rattle.rules.specs.declared.Sense.{Sense}
 use Rattle.rules.specs.declared.Item.{Item}
 use Rattle.rules.specs.declared.Use.{Use}
 use Rattle.rules.specs.declared.EdgeData.{EdgeData}
@@ -17,14 +16,8 @@ unfoldable pub edge_of : (ℕ → ℕ) → EdgeData
 edge_of n = record { curve = n 0; sense = sense_of (n 1); start = n 2; end = n 3; faces = n 4 ∷ n 5 ∷ []; active = eqb (n 6) 1 }
 
 -- the numbers of an edge
-unfoldable pub line_of : ℕ → Sense → ℕ → ℕ → List ℕ
-line_of curve sense start end = curve ∷ sense_number sense ∷ start ∷ end ∷ []
-
-unfoldable pub sides_of : ℕ → ℕ → Bool → List ℕ
-sides_of low high active = low ∷ high ∷ cond active 1 0 ∷ []
-
 unfoldable pub numbers_of : EdgeData → List ℕ
-numbers_of x = line_of x.curve x.sense x.start x.end ++ sides_of (get_or x.faces 0 0) (get_or x.faces 1 0) x.active
+numbers_of x = x.curve ∷ sense_number x.sense ∷ x.start ∷ x.end ∷ get_or x.faces 0 0 ∷ get_or x.faces 1 0 ∷ cond x.active 1 0 ∷ []
 
 -- edge e of a table
 abbrev pub row_in : List ℕ → ℕ → EdgeData

@@ -1,7 +1,10 @@
 -- Laws of the table of edges: what stands at an edge, and after a store.
-use Rattle.std.specs.Prelude.{ℕ, suc, ◌+◌, ◌*◌, ◌/◌, ◌<◌, ◌≤◌, ◌≡◌, refl, ◌⊎◌, ◌≢◌, List, [], ◌∷◌, ◌++◌, Bool, true, false, cond, set, take, eqb}
+use Rattle.std.specs.Prelude.{ℕ, zero, suc, ◌+◌, ◌*◌, ◌/◌, ◌<◌, ◌≤◌, ◌≡◌, refl, ◌⊎◌, ◌≢◌, List, [], ◌∷◌, ◌++◌, Bool, true, false, cond, set, take, drop, eqb, Option, None, Some, MatchOption, HoldsAt}
+use Rattle.std.specs.Simd.{first_chunks}
+use Rattle.std.specs.Int.{from_bool}
+use Rattle.std.specs.Borrow.{Bor}
 use Rattle.std.proofs.Math.Decide.{ℕ_discrete, dec_lt}
-use Rattle.std.proofs.Common.{add-one, arith, sym, ap, ◌∙◌, length-set, get_or-set_same, get_or-set_other, get_or-take, length-take-le, take-suc-set, ext_get_or}
+use Rattle.std.proofs.Common.{add-one, arith, sym, ap, ◌∙◌, length-set, get_or-set_same, get_or-set_other, get_or-take, get_or-drop, drop-cons, length-take-le, take-suc-set, ext_get_or}
 use Rattle.std.proofs.Math.Logic.{inl, inr}
 use Rattle.std.proofs.Math.ListN.{length, get_or, get_or-eq_default}
 use Rattle.std.proofs.lemmas.List.Edits.{sets}
@@ -13,7 +16,7 @@ use Rattle.rules.specs.declared.Sense.TheVariants.{Same, Reversed}
 use Rattle.rules.specs.declared.EdgeData.{EdgeData}
 use Rattle.rules.specs.Sense.{sense_of, sense_number}
 use Rattle.rules.specs.Join.{no_edge_data, edge_data_at}
-use Rattle.edges.specs.Table.{edge_of, line_of, sides_of, numbers_of, row_in, rows_in, with_row}
+use Rattle.edges.specs.Table.{edge_of, numbers_of, row_in, rows_in, with_row}
 
 pub length_rows : (t : List ℕ) → length (rows_in t) ≡ length t / 7
 unfolding rows_in
@@ -31,14 +34,6 @@ row_at_lem t e h = get_or_table (row_in t) (length t / 7) e no_edge_data h
 pub row_past : (t : List ℕ) (e : ℕ) → length t / 7 ≤ e → edge_data_at (rows_in t) e ≡ no_edge_data
 row_past t e h = get_or-eq_default (rows_in t) no_edge_data {n = e} (omega (arith, length_rows t))
 
--- an edge from numbers that are given as equations
-pub edge_of_lem : (t : List ℕ) (e curve start end : ℕ) (sense : Sense) (faces : List ℕ) (active : Bool) → e < length t / 7 → curve ≡ get_or t (7 * e + 0) 0 → sense ≡ sense_of (get_or t (7 * e + 1) 0)
-    → start ≡ get_or t (7 * e + 2) 0 → end ≡ get_or t (7 * e + 3) 0 → faces ≡ get_or t (7 * e + 4) 0 ∷ get_or t (7 * e + 5) 0 ∷ [] → active ≡ (edge_data_at (rows_in t) e).active
-    → Path EdgeData (record { curve = curve; sense = sense; start = start; end = end; faces = faces; active = active }) (edge_data_at (rows_in t) e)
-unfolding edge_of
-edge_of_lem t e curve start end sense faces active h p q r s f a =
-    (λ i. record { curve = p i; sense = q i; start = r i; end = s i; faces = f i; active = (a ∙ ap (λ x. x.active) (row_at_lem t e h)) i }) ∙ sym (row_at_lem t e h)
-
 -- two edges with the same numbers
 same_edge : (f g : ℕ → ℕ) → ((k : ℕ) → k < 7 → f k ≡ g k) → edge_of f ≡ edge_of g
 unfolding edge_of
@@ -51,6 +46,27 @@ same_edge f g h =
       faces = h 4 (omega arith) i ∷ h 5 (omega arith) i ∷ [];
       active = eqb (h 6 (omega arith) i) 1;
     }
+
+-- A ROW
+
+-- number k of chunk e of seven
+chunk_read : (n : ℕ) (t : List ℕ) (e : ℕ) (d : List ℕ) (k : ℕ) → e < n → k < 7 → get_or (get_or (first_chunks 7 n t) e d) k 0 ≡ get_or t (7 * e + k) 0
+chunk_read zero t e d k h m = absurd (omega arith)
+chunk_read (suc n) t zero d k h m = let z : k ≡ 7 * 0 + k = omega arith in get_or-take 7 t k 0 m ∙ ap (λ p. get_or t p 0) z
+chunk_read (suc n) t (suc e) d k h m =
+    let z : 7 + (7 * e + k) ≡ 7 * suc e + k = omega arith in
+    chunk_read n (drop 7 t) e d k (omega arith) m ∙ get_or-drop 7 t (7 * e + k) 0 ∙ ap (λ p. get_or t p 0) z
+
+-- edge e by the chunk that is found there, if one is
+pub row_found : (t : List ℕ) (e : ℕ) (front : List (List ℕ)) (row : Option (Bor (List ℕ))) → front ≡ first_chunks 7 (length t / 7) t → length front ≡ length t / 7
+    → MatchOption row (length front ≤ e) (λ r. (e < length front) × HoldsAt (λ l. r.now ≡ l) front e)
+    → MatchOption row (edge_data_at (rows_in t) e ≡ no_edge_data) (λ r. edge_data_at (rows_in t) e ≡ edge_of (λ k. get_or r.now k 0))
+row_found t e front None f n h = row_past t e (omega arith)
+row_found t e front (Some r) f n h =
+    let b : e < length t / 7 = omega (arith, h.0, n) in
+    row_at_lem t e b
+    ∙ same_edge (λ k. get_or t (7 * e + k) 0) (λ k. get_or r.now k 0)
+    (λ k m. sym (ap (λ l. get_or l k 0) (h.1 [] ∙ ap (λ l. get_or l e []) f) ∙ chunk_read (length t / 7) t e [] k b m))
 
 -- STORES
 
@@ -83,23 +99,37 @@ pair_back (a ∷ b ∷ c ∷ l) e = absurd (omega arith)
 
 -- an edge from its own numbers
 own_numbers : (x : EdgeData) → Paired x → edge_of (λ k. get_or (numbers_of x) k 0) ≡ x
-unfolding edge_of numbers_of line_of sides_of
+unfolding edge_of numbers_of
 own_numbers x p = λ i. record { curve = x.curve; sense = sense_back x.sense i; start = x.start; end = x.end; faces = pair_back x.faces p i; active = active_back x.active i }
 
--- the seven numbers by two runs of stores
-pub row_by_parts : (t a b : List ℕ) (e : ℕ) (x : EdgeData) → a ≡ sets t (7 * e) (line_of x.curve x.sense x.start x.end) → b ≡ sets a (7 * e + 4) (sides_of (get_or x.faces 0 0) (get_or x.faces 1 0) x.active)
-    → b ≡ with_row t e x
-unfolding with_row numbers_of line_of sides_of
-row_by_parts t a b e x ea eb =
-    let n : 7 * e + 4 ≡ suc (suc (suc (suc (7 * e)))) = omega arith in
-    eb ∙ (λ i. sets (ea i) (n i) (sides_of (get_or x.faces 0 0) (get_or x.faces 1 0) x.active))
+-- a run of stores: what is left of it to do gives what all of it gives
+pub one_stored : (t vs : List ℕ) (p k : ℕ) → k < length vs → sets t (p + k) (drop k vs) ≡ sets (set t (p + k) (get_or vs k 0)) (p + (k + 1)) (drop (k + 1) vs)
+one_stored t vs p k h =
+    let q : suc (p + k) ≡ p + (k + 1) = omega arith in
+    ap (sets t (p + k)) (drop-cons vs k 0 h) ∙ (λ i. sets (set t (p + k) (get_or vs k 0)) (q i) (drop (sym (add-one k) i) vs))
+
+-- the seven stores of an edge
+pub row_by_stores : (t now : List ℕ) (e k s a : ℕ) (x : EdgeData) → 7 ≤ k → k ≤ 7 → s ≡ sense_number x.sense → a ≡ from_bool x.active
+    → let vs : List ℕ = x.curve ∷ s ∷ x.start ∷ x.end ∷ get_or x.faces 0 0 ∷ get_or x.faces 1 0 ∷ a ∷ [] in
+    sets now (7 * e + k) (drop k vs) ≡ sets t (7 * e + 0) vs → now ≡ with_row t e x
+unfolding with_row numbers_of
+row_by_stores t now e k s a x low high es ea h =
+    let vs : List ℕ = x.curve ∷ s ∷ x.start ∷ x.end ∷ get_or x.faces 0 0 ∷ get_or x.faces 1 0 ∷ a ∷ [] in
+    let done : k ≡ 7 = omega arith in
+    let at : 7 * e + 0 ≡ 7 * e = omega arith in
+    let none : sets now (7 * e + k) (drop k vs) ≡ now = ap (λ k. sets now (7 * e + k) (drop k vs)) done in
+    sym none ∙ h ∙ ap (λ p. sets t p vs) at ∙ (λ i. sets t (7 * e) (x.curve ∷ es i ∷ x.start ∷ x.end ∷ get_or x.faces 0 0 ∷ get_or x.faces 1 0 ∷ (ea ∙ flag x.active) i ∷ []))
+  where
+    flag : (b : Bool) → from_bool b ≡ cond b 1 0
+    flag true = refl
+    flag false = refl
 
 pub length_with : (t : List ℕ) (e : ℕ) (x : EdgeData) → length (with_row t e x) ≡ length t
 unfolding with_row
 length_with t e x = length-sets t (7 * e) (numbers_of x)
 
 length_numbers : (x : EdgeData) → length (numbers_of x) ≡ 7
-unfolding numbers_of line_of sides_of
+unfolding numbers_of
 length_numbers x = refl
 
 module _ (t : List ℕ) (e : ℕ) (x : EdgeData) where

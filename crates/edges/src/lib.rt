@@ -3,17 +3,15 @@
 
 #![tactic(auto)]
 
-ghost use Rattle.std.specs.Prelude.{◌≡◌, ℕ, ◌+◌, ◌*◌, ◌<◌, ◌≤◌, ◌^◌, min, max, [], ◌∷◌, map, cond, length, get_or};
-ghost use Rattle.std.proofs.lemmas.List.Edits.{sets};
-ghost use Rattle.rules.specs.Join.{edge_data_at};
+ghost use Rattle.std.specs.Prelude.{◌≡◌, ℕ, ◌+◌, ◌*◌, ◌<◌, ◌≤◌, ◌^◌, min, max, [], ◌∷◌, map, cond, length, get_or, MatchOption};
+ghost use Rattle.rules.specs.Join.{edge_data_at, no_edge_data};
 ghost use Rattle.rules.specs.Job.{unset};
 ghost use Rattle.rules.specs.Groups.{label_of};
-ghost use Rattle.rules.specs.Pair.{twin_of};
 ghost use Rattle.lists.specs.Lists.{below};
 ghost use Rattle.rules.specs.Edges.{lower_kept, face_pair, edge_data};
 ghost use Rattle.job.specs.Lists.{edges_in};
 ghost use Rattle.uses.specs.Table.{uses_in};
-ghost use Rattle.edges.specs.Table.{line_of, sides_of, rows_in, with_row, item_code, loop_at, loop_face};
+ghost use Rattle.edges.specs.Table.{edge_of, rows_in, with_row, item_code, loop_at, loop_face};
 ghost use Rattle.edges.specs.Made.{OneEdge, Made};
 
 use fields::{UNSET, get, is_set, put};
@@ -22,103 +20,60 @@ use uses::{use_edge, use_face, use_sense};
 
 // THE TABLE
 
-// Number k of edge e.
-fn number(rows: &[u32], e: usize, k: usize) -> u32
-    requires { (7 * e + 7 ≤ length rows.now) × (k < 7) }
-    ensures { result ≡ get_or rows.now (7 * e + k) 0 }
+// The seven numbers of edge e, if there is such an edge.
+fn row(rows: &[u32], e: usize) -> Option<&[u32; 7]>
+    ensures { MatchOption result (edge_data_at (rows_in rows.now) e ≡ no_edge_data) (λ row. edge_data_at (rows_in rows.now) e ≡ edge_of (λ k. get_or row.now k 0)) }
 {
-    get(rows, 7 * e + k) as u32
+    rows.as_chunks::<7>().0.get(e)
 }
 
 // Edge e.
+#[tactic(auto, unfolding(crate::specs::Table::edge_of))]
 pub fn edge_at(rows: &[u32], e: usize) -> EdgeData
     ensures { result ≡ edge_data_at (rows_in rows.now) e }
 {
-    if e < rows.len() / 7 {
-        let curve = number(rows, e, 0);
-        let sense = job::sense_of(get(rows, 7 * e + 1));
-        let start = number(rows, e, 2);
-        let end = number(rows, e, 3);
-        let faces = [number(rows, e, 4), number(rows, e, 5)];
-        let active = edge_active(rows, e);
+    let Some([curve, sense, start, end, low, high, active]) = row(rows, e) else {
         return EdgeData {
-            curve,
-            sense,
-            start,
-            end,
-            faces,
-            active,
+            curve: 0,
+            sense: Sense::Same,
+            start: UNSET as u32,
+            end: UNSET as u32,
+            faces: [0, 0],
+            active: false,
         };
-    }
+    };
     EdgeData {
-        curve: 0,
-        sense: Sense::Same,
-        start: 4294967295,
-        end: 4294967295,
-        faces: [0, 0],
-        active: false,
+        curve: *curve,
+        sense: Sense::from(*sense as usize),
+        start: *start,
+        end: *end,
+        faces: [*low, *high],
+        active: *active == 1,
     }
 }
 
 // Where edge e starts.
+#[tactic(auto, unfolding(crate::specs::Table::edge_of))]
 pub fn edge_start(rows: &[u32], e: usize) -> usize
     ensures { (result ≡ (edge_data_at (rows_in rows.now) e).start) × (result < 4294967296) }
 {
-    if e < rows.len() / 7 {
-        return get(rows, 7 * e + 2);
-    }
-    UNSET
+    row(rows, e).map_or(UNSET, |row| row[2] as usize)
 }
 
 // Where edge e ends.
+#[tactic(auto, unfolding(crate::specs::Table::edge_of))]
 pub fn edge_end(rows: &[u32], e: usize) -> usize
     ensures { (result ≡ (edge_data_at (rows_in rows.now) e).end) × (result < 4294967296) }
 {
-    if e < rows.len() / 7 {
-        return get(rows, 7 * e + 3);
-    }
-    UNSET
+    row(rows, e).map_or(UNSET, |row| row[3] as usize)
 }
 
 // No join has taken edge e.
+#[tactic(auto, unfolding(crate::specs::Table::edge_of))]
 pub fn edge_active(rows: &[u32], e: usize) -> bool
     ensures { result ≡ (edge_data_at (rows_in rows.now) e).active }
 {
-    if e < rows.len() / 7 {
-        return get(rows, 7 * e + 6) == 1;
-    }
-    false
-}
-
-// 1 for true.
-fn flag_number(b: bool) -> usize
-    ensures { (result ≡ cond b 1 0) × (result < 2) }
-{
-    if b {
-        return 1;
-    }
-    0
-}
-
-// The first four numbers of edge e are stored.
-fn put_line(rows: &mut [u32], e: usize, curve: u32, sense: Sense, start: u32, end: u32)
-    requires { e < 2 ^ 60 }
-    ensures { rows.new ≡ sets rows.old (7 * e) (line_of curve sense start end) }
-{
-    put(rows, 7 * e, curve as usize);
-    put(rows, 7 * e + 1, job::sense_number(sense));
-    put(rows, 7 * e + 2, start as usize);
-    put(rows, 7 * e + 3, end as usize);
-}
-
-// The last three numbers of edge e are stored.
-fn put_sides(rows: &mut [u32], e: usize, low: u32, high: u32, active: bool)
-    requires { e < 2 ^ 60 }
-    ensures { rows.new ≡ sets rows.old (7 * e + 4) (sides_of low high active) }
-{
-    put(rows, 7 * e + 4, low as usize);
-    put(rows, 7 * e + 5, high as usize);
-    put(rows, 7 * e + 6, flag_number(active));
+    row(rows, e).is_some_and(|row| row[6] == 1)
 }
 
 // Edge e is stored.
@@ -126,10 +81,19 @@ pub fn put_edge(rows: &mut [u32], e: usize, x: EdgeData)
     requires { e < 2 ^ 60 }
     ensures { rows.new ≡ with_row rows.old e x }
 {
-    let sense = x.sense;
-    let faces = x.faces;
-    put_line(rows, e, x.curve, sense, x.start, x.end);
-    put_sides(rows, e, faces[0], faces[1], x.active);
+    let [low, high] = x.faces;
+    let numbers = [
+        x.curve,
+        usize::from(x.sense) as u32,
+        x.start,
+        x.end,
+        low,
+        high,
+        u32::from(x.active),
+    ];
+    for (k, number) in numbers.iter().enumerate() {
+        put(rows, 7 * e + k, *number as usize);
+    }
 }
 
 // THE EDGE OF A KEPT PAIR
@@ -138,10 +102,7 @@ pub fn put_edge(rows: &mut [u32], e: usize, x: EdgeData)
 fn is_lower(twins: &[u32], removed: &[bool], h: usize) -> bool
     ensures { result ≡ lower_kept twins.now removed.now h }
 {
-    if is_set(removed, h) {
-        return false;
-    }
-    h < get(twins, h)
+    !is_set(removed, h) && h < get(twins, h)
 }
 
 // Two numbers as a pair, the lower first.
@@ -149,10 +110,7 @@ fn ascending(a: usize, b: usize) -> [u32; 2]
     requires { (a < 4294967296) × (b < 4294967296) }
     ensures { result ≡ min a b ∷ max a b ∷ [] }
 {
-    if a < b {
-        return [a as u32, b as u32];
-    }
-    [b as u32, a as u32]
+    [a.min(b) as u32, a.max(b) as u32]
 }
 
 // The merged faces beside use h.
@@ -172,12 +130,13 @@ fn fan_or_none(none: bool, fans: &[u32], h: usize) -> u32
     ensures { result ≡ cond none unset (label_of fans.now h) }
 {
     if none {
-        return 4294967295;
+        return UNSET as u32;
     }
     get(fans, h) as u32
 }
 
 // The edge of the kept pair with lower use h.
+#[tactic(auto, unfolding(rules::specs::Edges::edge_data))]
 fn edge_of(
     job: &[u8],
     c: Counts,
@@ -198,23 +157,17 @@ fn edge_of(
     let here = fan_or_none(ring, fans, h);
     let there = fan_or_none(ring, fans, get(succ, h));
     let faces = faces_beside(uses, twins, numbers, h);
-    match use_sense(uses, h) {
-        Sense::Same => EdgeData {
-            curve,
-            sense,
-            start: here,
-            end: there,
-            faces,
-            active: true,
-        },
-        Sense::Reversed => EdgeData {
-            curve,
-            sense,
-            start: there,
-            end: here,
-            faces,
-            active: true,
-        },
+    let (start, end) = match use_sense(uses, h) {
+        Sense::Same => (here, there),
+        Sense::Reversed => (there, here),
+    };
+    EdgeData {
+        curve,
+        sense,
+        start,
+        end,
+        faces,
+        active: true,
     }
 }
 
@@ -235,7 +188,7 @@ fn add_edge(
     count: usize,
 ) -> usize
     requires { (c.vertices ≤ 1024) × (c.edges ≤ 1024) × (h < length succ.now) × (count < 2048) }
-    ensures { OneEdge (lower_kept twins.now removed.now h) (edge_data (edges_in job.now c) (uses_in uses.now) twins.now numbers.now succ.now fans.now h) (twin_of twins.now h) h count rows.old owns.old rows.new owns.new result }
+    ensures { OneEdge twins.now removed.now (edge_data (edges_in job.now c) (uses_in uses.now) twins.now numbers.now succ.now fans.now h) h count rows.old owns.old rows.new owns.new result }
 {
     if is_lower(twins, removed, h) {
         let x = edge_of(job, c, uses, twins, numbers, succ, fans, h);
@@ -261,16 +214,15 @@ pub fn edges(
     rows: &mut [u32],
     owns: &mut [u32],
 ) -> usize
-    requires { (c.vertices ≤ 1024) × (c.edges ≤ 1024) × (length twins.now ≤ 2048) × (length succ.now ≡ length twins.now) × (length owns.old ≡ length twins.now) × (7 * length twins.now ≤ length rows.old) }
+    requires { (c.vertices ≤ 1024) × (c.edges ≤ 1024) × (length twins.now ≤ 2048)
+        × (length succ.now ≡ length twins.now) × (length owns.old ≡ length twins.now) × (7 * length twins.now ≤ length rows.old) }
     ensures { Made (edges_in job.now c) (uses_in uses.now) twins.now removed.now numbers.now succ.now fans.now owns.old rows.new owns.new result }
 {
     let mut count: usize = 0;
-    let mut h: usize = 0;
-    while h < twins.len() {
+    for h in 0..twins.len() {
         count = add_edge(
             job, c, uses, twins, removed, numbers, succ, fans, rows, owns, h, count,
         );
-        h += 1;
     }
     count
 }
@@ -278,12 +230,13 @@ pub fn edges(
 // THE LOOPS
 
 // Use h as an item.
+#[tactic(auto, unfolding(crate::specs::Table::item_code))]
 fn item_of(uses: &[u32], owns: &[u32], h: usize) -> usize
     requires { (k : ℕ) → get_or owns.now k 0 ≤ 2048 }
     ensures { (result ≡ item_code (uses_in uses.now) owns.now h) × (result < 4294967296) }
 {
     let e = get(owns, h);
-    let s = job::sense_number(use_sense(uses, h));
+    let s = usize::from(use_sense(uses, h));
     2 * e + s
 }
 
@@ -292,12 +245,8 @@ pub fn items(uses: &[u32], owns: &[u32], ways: &mut [u32])
     requires { (k : ℕ) → get_or owns.now k 0 ≤ 2048 }
     ensures { ways.new ≡ map (item_code (uses_in uses.now) owns.now) ways.old }
 {
-    let mut i: usize = 0;
-    while i < ways.len() {
-        let h = get(ways, i);
-        let x = item_of(uses, owns, h);
-        put(ways, i, x);
-        i += 1;
+    for way in ways.iter_mut() {
+        *way = item_of(uses, owns, *way as usize) as u32;
     }
 }
 
@@ -318,11 +267,8 @@ fn first_use(ways: &[u32], stretches: &[u32], k: usize) -> usize
 pub fn loop_faces(uses: &[u32], numbers: &[u32], ways: &[u32], stretches: &[u32], faces: &mut [u32])
     ensures { faces.new ≡ map (loop_face (uses_in uses.now) numbers.now ways.now stretches.now) (below (length faces.old)) }
 {
-    let mut k: usize = 0;
-    while k < faces.len() {
+    for (k, face) in faces.iter_mut().enumerate() {
         let h = first_use(ways, stretches, k);
-        let f = get(numbers, use_face(uses, h));
-        put(faces, k, f);
-        k += 1;
+        *face = get(numbers, use_face(uses, h)) as u32;
     }
 }

@@ -25,6 +25,3 @@ module _ (p : ℕ → Bool) (names : List ℕ) (count h : ℕ) (n : Naming p nam
 
   pub naming_no : (here : Bool) → here ≡ p h → here ≡ false → Naming p names count (h + 1)
   naming_no here e y = let few = n.few in record { few = omega arith; named = n.named ∙ sym (keep_below_no p h (sym e ∙ y)) }
-
-  pub naming_end : (m : ℕ) → h ≡ m → (take count names ≡ keep p (below m)) × (count ≤ m)
-  naming_end m e = let few = n.few in (n.named ∙ ap (λ k. keep p (below k)) e, omega arith)

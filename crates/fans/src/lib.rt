@@ -18,13 +18,7 @@ pub fn kept_with_ends(job: &[u8], c: Counts, uses: &[u32], removed: &[bool], h: 
     requires { (c.vertices ≤ 1024) × (c.edges ≤ 1024) }
     ensures { result ≡ kept_with_ends (edges_in job.now c) (uses_in uses.now) removed.now h }
 {
-    if is_set(removed, h) {
-        return false;
-    }
-    if uses::is_ring(job, c, uses, h) {
-        return false;
-    }
-    true
+    !is_set(removed, h) && !uses::is_ring(job, c, uses, h)
 }
 
 // FANS
@@ -64,10 +58,8 @@ pub fn fans(
     ensures { labels.new ≡ fans_of (edges_in job.now c) (uses_in uses.now) twins.now removed.now succ.now }
 {
     groups::alone(labels);
-    let mut h: usize = 0;
-    while h < succ.len() {
+    for h in 0..succ.len() {
         fan_step(job, c, uses, twins, removed, succ, labels, h);
-        h += 1;
     }
     groups::settle(labels);
 }
@@ -79,10 +71,7 @@ fn names_fan(job: &[u8], c: Counts, uses: &[u32], removed: &[bool], fans: &[u32]
     requires { (c.vertices ≤ 1024) × (c.edges ≤ 1024) }
     ensures { result ≡ names_fan (edges_in job.now c) (uses_in uses.now) removed.now fans.now h }
 {
-    if get(fans, h) != h {
-        return false;
-    }
-    kept_with_ends(job, c, uses, removed, h)
+    get(fans, h) == h && kept_with_ends(job, c, uses, removed, h)
 }
 
 // Use h after the `count` names before it, where it names a fan. Gives how many names there are up to h.
@@ -96,7 +85,8 @@ fn name_use(
     count: usize,
     h: usize,
 ) -> usize
-    requires { (c.vertices ≤ 1024) × (c.edges ≤ 1024) × (h < length names.old) × (length names.old ≤ 2048) × Naming (names_fan (edges_in job.now c) (uses_in uses.now) removed.now fans.now) names.old count h }
+    requires room { (c.vertices ≤ 1024) × (c.edges ≤ 1024) × (h < length names.old) × (length names.old ≤ 2048) }
+    requires so_far { Naming (names_fan (edges_in job.now c) (uses_in uses.now) removed.now fans.now) names.old count h }
     ensures { Naming (names_fan (edges_in job.now c) (uses_in uses.now) removed.now fans.now) names.new result (h + 1) }
 {
     if names_fan(job, c, uses, removed, fans, h) {
@@ -118,11 +108,9 @@ pub fn fan_names(
     requires { (c.vertices ≤ 1024) × (c.edges ≤ 1024) × (length names.old ≡ length (uses_in uses.now)) × (length (uses_in uses.now) ≤ 2048) }
     ensures { (take result names.new ≡ fan_names (edges_in job.now c) (uses_in uses.now) removed.now fans.now) × (result ≤ length (uses_in uses.now)) }
 {
-    let mut count: usize = 0;
-    let mut h: usize = 0;
-    while h < names.len() {
+    let mut count = 0;
+    for h in 0..names.len() {
         count = name_use(job, c, uses, removed, fans, names, count, h);
-        h += 1;
     }
     count
 }
@@ -134,10 +122,7 @@ pub fn start_points(job: &[u8], c: Counts, uses: &[u32], starts: &mut [u32])
     requires { (c.vertices ≤ 1024) × (c.edges ≤ 1024) × (length starts.old ≡ length (uses_in uses.now)) }
     ensures { starts.new ≡ start_points (points_in job.now c) (edges_in job.now c) (uses_in uses.now) }
 {
-    let mut h: usize = 0;
-    while h < starts.len() {
-        let p = uses::start_point(job, c, uses, h);
-        put(starts, h, p);
-        h += 1;
+    for (h, start) in starts.iter_mut().enumerate() {
+        *start = uses::start_point(job, c, uses, h) as u32;
     }
 }

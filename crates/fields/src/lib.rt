@@ -11,26 +11,30 @@ ghost use Rattle.fields.specs.Wrote.{Wrote};
 // The mark for no vertex, no fan, no twin.
 pub const UNSET: usize = 4294967295;
 
-fn wide(b: u8) -> usize
-    ensures { (result ≡ b) × (result < 256) }
+// The entry at a place of a table; past its end, another.
+fn entry<T: Copy>(t: &[T], i: usize, none: T) -> T
+    ensures { result ≡ get_or t.now i none }
 {
-    b as usize
+    match t.get(i) {
+        Some(x) => *x,
+        None => none,
+    }
 }
 
-fn wide32(v: u32) -> usize
-    ensures { (result ≡ v) × (result < 4294967296) }
+// An entry stored at a place of a table; past its end nothing is.
+fn put_entry<T: Copy>(t: &mut [T], i: usize, x: T)
+    ensures { t.new ≡ set t.old i x }
 {
-    v as usize
+    if i < t.len() {
+        t[i] = x;
+    }
 }
 
 // The byte at a place.
 pub fn byte(s: &[u8], at: usize) -> usize
     ensures { (result ≡ get_or s.now at 0) × (result < 256) }
 {
-    if at < s.len() {
-        return wide(s[at]);
-    }
-    0
+    entry(s, at, 0) as usize
 }
 
 // The two-byte field at a place.
@@ -48,10 +52,10 @@ fn whole_word(s: &[u8], at: usize) -> usize
     requires { (at < 2 ^ 60) × (at + 3 < length s.now) }
     ensures { (result ≡ le32 s.now at) × (result < 4294967296) }
 {
-    let low = wide(s[at]);
-    let second = wide(s[at + 1]);
-    let third = wide(s[at + 2]);
-    let high = wide(s[at + 3]);
+    let low = s[at] as usize;
+    let second = s[at + 1] as usize;
+    let third = s[at + 2] as usize;
+    let high = s[at + 3] as usize;
     low + 256 * second + 65536 * third + 16777216 * high
 }
 
@@ -75,17 +79,10 @@ fn put_whole_word(out: &mut [u8], at: usize, v: usize)
     requires { (at < 2 ^ 60) × (at + 3 < length out.old) }
     ensures { out.new ≡ sets out.old at (bytes32 v) }
 {
-    store(out, at, v % 256);
-    store(out, at + 1, v / 256 % 256);
-    store(out, at + 2, v / 65536 % 256);
-    store(out, at + 3, v / 16777216 % 256);
-}
-
-fn store(out: &mut [u8], at: usize, b: usize)
-    requires { (at < length out.old) × (b < 256) }
-    ensures { out.new ≡ set out.old at b }
-{
-    out[at] = b as u8;
+    out[at] = (v % 256) as u8;
+    out[at + 1] = (v / 256 % 256) as u8;
+    out[at + 2] = (v / 65536 % 256) as u8;
+    out[at + 3] = (v / 16777216 % 256) as u8;
 }
 
 // A number as four bytes at a place; gives the place after them.
@@ -109,19 +106,14 @@ pub fn put_byte(out: &mut [u8], at: usize, b: usize)
     requires { b < 256 }
     ensures { out.new ≡ set out.old at b }
 {
-    if at < out.len() {
-        store(out, at, b);
-    }
+    put_entry(out, at, b as u8);
 }
 
 // The entry of a table.
 pub fn get(t: &[u32], i: usize) -> usize
     ensures { (result ≡ get_or t.now i 0) × (result < 4294967296) }
 {
-    if i < t.len() {
-        return wide32(t[i]);
-    }
-    0
+    entry(t, i, 0) as usize
 }
 
 // A number stored in a table.
@@ -129,28 +121,21 @@ pub fn put(t: &mut [u32], i: usize, v: usize)
     requires { v < 4294967296 }
     ensures { t.new ≡ set t.old i v }
 {
-    if i < t.len() {
-        t[i] = v as u32;
-    }
+    put_entry(t, i, v as u32);
 }
 
 // The entry of a table of flags.
 pub fn is_set(t: &[bool], i: usize) -> bool
     ensures { result ≡ get_or t.now i false }
 {
-    if i < t.len() {
-        return t[i];
-    }
-    false
+    entry(t, i, false)
 }
 
 // A flag stored in a table.
 pub fn put_flag(t: &mut [bool], i: usize, v: bool)
     ensures { t.new ≡ set t.old i v }
 {
-    if i < t.len() {
-        t[i] = v;
-    }
+    put_entry(t, i, v);
 }
 
 // A record's header at a place: payload length of so many fields, and kind; gives the place of its payload.
@@ -170,10 +155,8 @@ pub fn put_table(out: &mut [u8], at: usize, t: &[u32]) -> usize
     ensures { Wrote out.old at (field_bytes t.now) out.new result }
 {
     let mut p = at;
-    let mut i = 0;
-    while i < t.len() {
+    for i in 0..t.len() {
         p = put_word(out, p, get(t, i));
-        i += 1;
     }
     p
 }

@@ -1,7 +1,7 @@
 -- Laws of labels in a longer table: what stands past their end reads as 0 there too.
 use Rattle.std.specs.Prelude.{ℕ, zero, suc, ◌-◌, ◌≤◌, min, max, ◌≡◌, refl, List, [], ◌∷◌, ◌++◌, map, length, get_or, take, drop, replicate, eqb}
 use Rattle.std.proofs.Common.{arith, sym, ap, ◌∙◌, subst, ⊎_elim, length-append, length-take-le, eqb-true}
-use Rattle.std.proofs.lemmas.List.{length-replicate}
+use Rattle.std.proofs.lemmas.List.{length-replicate, drop-replicate}
 use Rattle.lists.specs.Constants.{get_or_constant}
 use Rattle.lists.specs.Members.{map_append}
 use Rattle.lists.specs.Tests.{both_ways}
@@ -48,15 +48,8 @@ joined_padded k g a b =
     ∙ map_append (moved (max x y) (min x y)) g (zeros k)
     ∙ ap (λ l. map (moved (max x y) (min x y)) g ++ l) (zeros_stay (moved (max x y) (min x y)) k (zero_stays x y))
 
-drop_same : (n size : ℕ) → n ≤ size → drop n (zeros size) ≡ zeros (size - n)
-drop_same zero size h = let e : size ≡ size - 0 = omega arith in ap zeros e
-drop_same (suc n) zero h = absurd (omega arith)
-drop_same (suc n) (suc size) h = drop_same n size (omega arith) ∙ (let e : size - n ≡ suc size - suc n = omega arith in ap zeros e)
-
--- the first n of a table's zeros, as many as were lent
-pub lent_size : (n size : ℕ) → n ≤ size → length (take n (zeros size)) ≡ n
-lent_size n size h = length-take-le n (zeros size) (omega (arith, length-replicate {A = ℕ} size 0))
-
--- the first n of them are groups now, each number alone
-pub new_stands : (size n m : ℕ) (l : List ℕ) → n ≤ size → m ≡ n → Stands l (alone m) → Stands (l ++ drop n (zeros size)) (padded (size - n) (alone n))
-new_stands size n m l h e s = rw (drop_same n size h) (stands_padded (size - n) l (alone n) (subst (λ x. Stands l (alone x)) e s))
+-- the first n of a table's zeros are groups now, each number alone
+pub new_stands : (size n : ℕ) (l : List ℕ) → n ≤ size → Stands l (alone (length (take n (zeros size)))) → Stands (l ++ drop n (zeros size)) (padded (size - n) (alone n))
+new_stands size n l h s =
+    let lent : length (take n (zeros size)) ≡ n = length-take-le n (zeros size) (omega (arith, length-replicate {A = ℕ} size 0)) in
+    rw drop-replicate (stands_padded (size - n) l (alone n) (subst (λ m. Stands l (alone m)) lent s))

@@ -1,8 +1,8 @@
 -- Laws of tables of parents: each number alone, halving a path, joining two groups, and labels put in the parents' place.
-use Rattle.std.specs.Prelude.{ℕ, zero, suc, ◌+◌, ◌≤◌, ◌<◌, min, max, ◌≡◌, refl, ◌⊎◌, true, false, not, List, map, length, get_or, set}
+use Rattle.std.specs.Prelude.{ℕ, zero, suc, ◌≤◌, ◌<◌, min, max, ◌≡◌, refl, ◌⊎◌, true, false, not, List, map, length, get_or, set}
 use Rattle.std.proofs.Common.{eq-or-lt_of_le, le_refl, not-suc-le-zero, arith, sym, ap, ◌∙◌, subst, inl, inr, ⊎_elim, length-set, ext_get_or, eq-eqb, ne_eqb}
 use Rattle.std.proofs.Math.Decide.{dec_lt, ℕ_discrete}
-use Rattle.std.proofs.Math.ListN.{get_or-eq_default}
+use Rattle.std.proofs.lemmas.List.{get_or_past}
 use Rattle.std.proofs.Math.Seq.{set_out}
 use Rattle.lists.specs.Lists.{below}
 use Rattle.lists.specs.Runs.{length_below, get_or_below, length_table, get_or_table}
@@ -10,9 +10,6 @@ use Rattle.lists.specs.Tables.{set_each}
 use Rattle.rules.specs.Groups.{alone, label_of, joined}
 use Rattle.rules.proofs.GroupLaws.{length_joined, joined_at, joined_same as joined_none}
 use Rattle.groups.specs.Parents.{Ordered, Stands, Rooted, JoinedIn, SeparateIn}
-
-past : (l : List ℕ) (i : ℕ) → length l ≤ i → get_or l i 0 ≡ 0
-past l i h = get_or-eq_default l 0 h
 
 within : (l : List ℕ) (i : ℕ) → (i < length l) ⊎ (length l ≤ i)
 within l i = elim (dec_lt i (length l)) [ yes h ↦ inl h | no h ↦ inr (omega arith) ]
@@ -28,15 +25,11 @@ set_any P l i v j here there =
 abbrev pub Numbered : List ℕ → ℕ → Type 0
 Numbered p i = (j : ℕ) → j < i → get_or p j 0 ≡ j
 
-pub numbered_step : (p q : List ℕ) (i : ℕ) → Numbered p i → i < length p → q ≡ set p i i → Numbered q (i + 1)
-numbered_step p q i n h e j l =
-    rw e (set_each (λ k x. k < i + 1 → x ≡ k) p i i 0 h (λ r. refl) j (λ ne r. n j (omega arith)) l)
-
 own : (n i : ℕ) → label_of (alone n) i ≤ i
 own n i =
     ⊎_elim
     (λ h. let e = get_or_below n i 0 (omega (arith, length_below n)) in omega arith)
-    (λ h. let e = past (alone n) i h in omega arith)
+    (λ h. let e = get_or_past (alone n) i 0 h in omega arith)
     (within (alone n) i)
 
 alone_stands : (n : ℕ) → Stands (alone n) (alone n)
@@ -45,7 +38,7 @@ alone_stands n = record {
   ordered = record { low = own n };
   up = λ i. ⊎_elim
       (λ h. ap (label_of (alone n)) (get_or_below n i 0 (omega (arith, length_below n))))
-      (λ h. let e = past (alone n) i h in let z = own n 0 in ap (label_of (alone n)) e ∙ omega arith)
+      (λ h. let e = get_or_past (alone n) i 0 h in let z = own n 0 in ap (label_of (alone n)) e ∙ omega arith)
       (within (alone n) i);
   top = λ i e. e;
 }
@@ -79,9 +72,6 @@ pub record Climbing (before : List ℕ) (start : ℕ) (now : List ℕ) (i up : �
   pub small : up < 4294967296
   pub stands : (ls : List ℕ) → Stands before ls → (label_of ls i ≡ label_of ls start) × Stands now ls
 
-pub climb_start : (p : List ℕ) (start up : ℕ) → Ordered p → up ≡ get_or p start 0 → up < 4294967296 → Climbing p start p start up
-climb_start p start up o e h = record { ordered = o; size = refl; parent = e; small = h; stands = λ ls s. (refl, s) }
-
 ordered_lower : (p : List ℕ) (i v : ℕ) → Ordered p → v ≤ i → Ordered (set p i v)
 ordered_lower p i v o h = record { low = λ j. set_any (λ k x. x ≤ k) p i v j (λ r. h) (o.low j) }
 
@@ -96,9 +86,6 @@ halved p ls i up far s e f =
       up = λ j. set_any (λ k x. label_of ls x ≡ label_of ls k) p i far j (λ r. same) (s.up j);
       top = λ j. set_any (λ k x. x ≡ k → label_of ls k ≡ k) p i far j (λ r q. s.top i (omega arith)) (s.top j);
     }
-
-pub climb_less : (p₀ p : List ℕ) (start i up far : ℕ) → Climbing p₀ start p i up → (up ≡ i → ⊥) → far ≡ get_or p up 0 → far < i
-climb_less p₀ p start i up far c n f = let a = c.ordered.low i in let b = c.ordered.low up in let e = c.parent in omega arith
 
 pub climb_step : (p₀ p q : List ℕ) (start i up far above : ℕ) → Climbing p₀ start p i up → far ≡ get_or p up 0 → q ≡ set p i far → above ≡ get_or q far 0
     → above < 4294967296 → Climbing p₀ start q far above
@@ -117,21 +104,13 @@ climb_step p₀ p q start i up far above c f e g h =
           (ap (label_of ls) f ∙ t.up up ∙ ap (label_of ls) c.parent ∙ t.up i ∙ r.0, subst (λ l. Stands l ls) (sym e) (halved p ls i up far t c.parent f));
     }
 
-pub climbed : (p₀ p : List ℕ) (start i up : ℕ) → Climbing p₀ start p i up → up ≡ i → Rooted p₀ p start up
-climbed p₀ p start i up c e = record {
-  ordered = c.ordered;
-  size = c.size;
-  small = c.small;
-  stands = λ ls s. let r = c.stands ls s in (e ∙ sym (r.1.top i (sym c.parent ∙ e)) ∙ r.0, r.1);
-}
-
 -- JOINING
 
 -- one number that is its own label gets a lower one as its parent
 stored : (q ls ms : List ℕ) (hi lo : ℕ) → Stands q ls → lo < hi → label_of ls hi ≡ hi → label_of ls lo ≡ lo → length ms ≡ length ls
     → ((i : ℕ) → label_of ls i ≡ hi → label_of ms i ≡ lo) → ((i : ℕ) → (label_of ls i ≡ hi → ⊥) → label_of ms i ≡ label_of ls i) → Stands (set q hi lo) ms
 stored q ls ms hi lo s l own_hi own_lo sized gone stays =
-    let inside : hi < length q = ⊎_elim (λ h. omega (arith, s.size)) (λ h. let e = past ls hi h in absurd (omega arith)) (within ls hi) in
+    let inside : hi < length q = ⊎_elim (λ h. omega (arith, s.size)) (λ h. let e = get_or_past ls hi 0 h in absurd (omega arith)) (within ls hi) in
     let same : (i j : ℕ) → label_of ls i ≡ label_of ls j → label_of ms i ≡ label_of ms j =
     λ i j e. elim (ℕ_discrete (label_of ls i) hi) [
       | yes h ↦ gone i h ∙ sym (gone j (sym e ∙ h))
@@ -152,14 +131,14 @@ module _ (g : List ℕ) (a b : ℕ) where
   joined_gone hi lo i p q l e =
       ⊎_elim
       (λ h. ⊎_elim (λ w. w.1 ∙ sym q) (λ w. let x = w.0 in let y = w.1 in absurd (omega arith)) (joined_at g a b i h))
-      (λ h. let z = past g i h in absurd (omega arith))
+      (λ h. let z = get_or_past g i 0 h in absurd (omega arith))
       (within g i)
 
   joined_stays : (hi lo i : ℕ) → hi ≡ max (label_of g a) (label_of g b) → lo ≡ min (label_of g a) (label_of g b) → (label_of g i ≡ hi → ⊥) → label_of (joined g a b) i ≡ label_of g i
   joined_stays hi lo i p q n =
       ⊎_elim
       (λ h. ⊎_elim (λ w. let v = w.1 in ⊎_elim (λ x. omega arith) (λ x. omega arith) w.0) (λ w. w.2) (joined_at g a b i h))
-      (λ h. past (joined g a b) i (omega (arith, length_joined g a b)) ∙ sym (past g i h))
+      (λ h. get_or_past (joined g a b) i 0 (omega (arith, length_joined g a b)) ∙ sym (get_or_past g i 0 h))
       (within g i)
 
 module _ (p m q : List ℕ) (a b ra rb : ℕ) (x : Rooted p m a ra) (y : Rooted m q b rb) where
@@ -222,23 +201,6 @@ pub record Settled (before ls now : List ℕ) (i : ℕ) : Type 0 where
   pub labels : (j : ℕ) → j < i → get_or now j 0 ≡ label_of ls j
   pub parents : (j : ℕ) → i ≤ j → get_or now j 0 ≡ get_or before j 0
 
-pub settled_none : (p ls : List ℕ) → Settled p ls p 0
-settled_none p ls = record { labels = λ j h. absurd (not-suc-le-zero h); parents = λ j h. refl }
-
-pub settled_step : (p₀ ls p q : List ℕ) (i up label : ℕ) → Stands p₀ ls → Settled p₀ ls p i → i < length p → up ≡ get_or p i 0 → label ≡ get_or p up 0 → q ≡ set p i label
-    → Settled p₀ ls q (i + 1)
-settled_step p₀ ls p q i up label s h lt e f g =
-    let par : up ≡ get_or p₀ i 0 = e ∙ h.parents i (le_refl i) in
-    let v : label ≡ label_of ls i =
-    ⊎_elim
-    (λ o. let ui : up ≡ i = par ∙ o in f ∙ ap (λ k. get_or p k 0) ui ∙ sym e ∙ ui ∙ sym (s.top i o))
-    (λ l. f ∙ h.labels up (omega arith) ∙ ap (label_of ls) par ∙ s.up i)
-    (eq-or-lt_of_le (s.ordered.low i)) in
-    record {
-      labels = λ j. rw g (set_each (λ k x. k < i + 1 → x ≡ label_of ls k) p i label 0 lt (λ r. v) j (λ n r. h.labels j (omega arith)));
-      parents = λ j. rw g (set_each (λ k x. i + 1 ≤ k → x ≡ get_or p₀ k 0) p i label 0 lt (λ r. absurd (omega arith)) j (λ n r. h.parents j (omega arith)));
-    }
-
 pub settled_all : (p₀ ls p : List ℕ) (i : ℕ) → Stands p₀ ls → length p ≡ length p₀ → Settled p₀ ls p i → length p₀ ≤ i → p ≡ ls
 settled_all p₀ ls p i s e h l = ext_get_or 0 p ls (e ∙ sym s.size) (λ j k. h.labels j (omega arith))
 
@@ -249,19 +211,6 @@ pub record Labelling (before : List ℕ) (n i : ℕ) (parents labels : List ℕ)
   pub ordered : Ordered parents
   pub size : length labels ≡ n
   pub stands : (ls : List ℕ) → Stands before ls → Stands parents ls × ((j : ℕ) → j < i → get_or labels j 0 ≡ label_of ls j)
-
-pub labelling_none : (p labels : List ℕ) → Ordered p → Labelling p (length labels) 0 p labels
-labelling_none p labels o = record { ordered = o; size = refl; stands = λ ls s. (s, λ j l. absurd (not-suc-le-zero l)) }
-
-pub labelling_step : (p₀ : List ℕ) (n i : ℕ) (p q labels after : List ℕ) (r : ℕ) → Labelling p₀ n i p labels → i < n → Rooted p q i r → after ≡ set labels i r → Labelling p₀ n (i + 1) q after
-labelling_step p₀ n i p q labels after r l h f e = record {
-  ordered = f.ordered;
-  size = ap length e ∙ length-set labels i r ∙ l.size;
-  stands = λ ls s.
-      let t = l.stands ls s in
-      let g = f.stands ls t.0 in
-      (g.1, λ j m. rw e (set_each (λ k x. k < i + 1 → x ≡ label_of ls k) labels i r 0 (omega (arith, l.size)) (λ _. g.0) j (λ ne k. t.1 j (omega arith)) m));
-}
 
 pub labelling_end : (p₀ : List ℕ) (n i : ℕ) (p labels ls : List ℕ) → Labelling p₀ n i p labels → n ≤ i → Stands p₀ ls → labels ≡ map (label_of ls) (below n)
 labelling_end p₀ n i p labels ls l h s =

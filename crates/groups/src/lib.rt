@@ -15,10 +15,8 @@ pub fn alone(parents: &mut [u32])
     requires { length parents.old ≤ 4294967296 }
     ensures { (parents.new ≡ alone_of (length parents.old)) × Stands parents.new (alone_of (length parents.old)) }
 {
-    let mut i: usize = 0;
-    while i < parents.len() {
-        put(parents, i, i);
-        i += 1;
+    for (i, parent) in parents.iter_mut().enumerate() {
+        *parent = i as u32;
     }
 }
 
@@ -60,12 +58,10 @@ pub fn join_in(parents: &mut [u32], a: usize, b: usize) -> bool
 pub fn settle(parents: &mut [u32])
     ensures { (ls : List ℕ) → Stands parents.old ls → parents.new ≡ ls }
 {
-    let mut i: usize = 0;
-    while i < parents.len() {
+    for i in 0..parents.len() {
         let up = get(parents, i);
         let label = get(parents, up);
         put(parents, i, label);
-        i += 1;
     }
 }
 
@@ -104,15 +100,11 @@ pub fn join(g: &mut Groups, a: usize, b: usize) -> bool
 }
 
 // Each number's label.
-pub fn labels_of(g: Groups, labels: &mut [u32])
+pub fn labels_of(mut g: Groups, labels: &mut [u32])
     requires { Ordered g.parents }
     ensures { (ls : List ℕ) → Stands g.parents ls → labels.new ≡ map (label_of ls) (below (length labels.old)) }
 {
-    let mut groups = g;
-    let mut i: usize = 0;
-    while i < labels.len() {
-        let r = root(&mut groups, i);
-        put(labels, i, r);
-        i += 1;
+    for (i, label) in labels.iter_mut().enumerate() {
+        *label = root(&mut g, i) as u32;
     }
 }

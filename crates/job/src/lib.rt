@@ -4,15 +4,13 @@
 #![tactic(auto)]
 
 ghost use Rattle.std.specs.Prelude.{◌≡◌, ◌+◌, ◌*◌, ◌<◌, ◌≤◌, get_or};
-ghost use Rattle.rules.specs.Sense.{sense_of, sense_number, same_sense, reverse as reversed, FourAnswers};
 ghost use Rattle.rules.specs.Job.{edge_at, face_at, start_by, end_by};
 ghost use Rattle.rules.specs.Read.{stored_sense};
-ghost use Rattle.rules.specs.Kinds.{kind_of};
 ghost use Rattle.rules.specs.Fields.{le16, le32};
 ghost use Rattle.job.specs.Lists.{points_in, edges_in, faces_in, loop_byte};
 
 use fields::{UNSET, get, half, word};
-use rules::{Counts, Kind, Sense};
+use rules::{Counts, Sense};
 
 // The index: heads of the chains of answers, the chains, places of answers, of faces and of loops, the loops' faces.
 pub const INDEX: usize = 7424;
@@ -28,89 +26,6 @@ pub const FACES: usize = 5120;
 pub const LOOPS: usize = 5376;
 
 pub const OWNERS: usize = 6400;
-
-// SENSES AND KINDS
-
-pub fn sense_of(n: usize) -> Sense
-    ensures { result ≡ sense_of n }
-{
-    if n == 0 {
-        return Sense::Same;
-    }
-    Sense::Reversed
-}
-
-pub fn sense_number(s: Sense) -> usize
-    ensures { (result ≡ sense_number s) × (result < 2) }
-{
-    match s {
-        Sense::Same => 0,
-        Sense::Reversed => 1,
-    }
-}
-
-pub fn reverse(s: Sense) -> Sense
-    ensures { result ≡ reversed s }
-{
-    match s {
-        Sense::Same => Sense::Reversed,
-        Sense::Reversed => Sense::Same,
-    }
-}
-
-// Case by case, to be held against ISO 10303-42: an oriented edge with orientation true (Same) runs along its edge, one
-// with orientation false (Reversed) runs against it.
-pub fn product(a: Sense, b: Sense) -> Sense
-    ensures { FourAnswers a b result }
-{
-    match a {
-        Sense::Same => match b {
-            Sense::Same => Sense::Same,
-            Sense::Reversed => Sense::Reversed,
-        },
-        Sense::Reversed => match b {
-            Sense::Same => Sense::Reversed,
-            Sense::Reversed => Sense::Same,
-        },
-    }
-}
-
-pub fn same_sense(a: Sense, b: Sense) -> bool
-    ensures { result ≡ same_sense a b }
-{
-    match a {
-        Sense::Same => match b {
-            Sense::Same => true,
-            Sense::Reversed => false,
-        },
-        Sense::Reversed => match b {
-            Sense::Same => false,
-            Sense::Reversed => true,
-        },
-    }
-}
-
-// The kind of a record.
-pub fn kind_of(k: usize) -> Kind
-    ensures { result ≡ kind_of k }
-{
-    match k {
-        1 => Kind::Head,
-        2 => Kind::Vertex,
-        3 => Kind::EdgeRecord,
-        4 => Kind::FaceRecord,
-        5 => Kind::LoopRecord,
-        6 => Kind::VertexLoop,
-        7 => Kind::Radial,
-        8 => Kind::Surface,
-        9 => Kind::Points,
-        10 => Kind::Curves,
-        11 => Kind::Singular,
-        12 => Kind::Orientation,
-        13 => Kind::Inside,
-        _ => Kind::Unknown,
-    }
-}
 
 // VERTICES AND EDGES
 
@@ -140,7 +55,7 @@ pub fn edge_sense(job: &[u8], c: Counts, e: usize) -> Sense
     ensures { result ≡ (edge_at (edges_in job.now c) e).sense }
 {
     if e < c.edges {
-        return sense_of(word(job, 16 + 10 * c.vertices + 22 * e + 4));
+        return Sense::from(word(job, 16 + 10 * c.vertices + 22 * e + 4));
     }
     Sense::Same
 }
@@ -203,7 +118,7 @@ pub fn face_own(job: &[u8], index: &[u32], c: Counts, f: usize) -> Sense
     ensures { result ≡ (face_at (faces_in job.now index.now c) f).own }
 {
     if f < c.faces {
-        return sense_of(word(job, get(index, FACES + f) + 10));
+        return Sense::from(word(job, get(index, FACES + f) + 10));
     }
     Sense::Same
 }
@@ -213,7 +128,7 @@ pub fn face_selected(job: &[u8], index: &[u32], c: Counts, f: usize) -> Sense
     ensures { result ≡ (face_at (faces_in job.now index.now c) f).selected }
 {
     if f < c.faces {
-        return sense_of(word(job, get(index, FACES + f) + 14));
+        return Sense::from(word(job, get(index, FACES + f) + 14));
     }
     Sense::Same
 }
@@ -247,7 +162,7 @@ pub fn stored_sense(job: &[u8], index: &[u32], c: Counts, f: usize) -> Sense
 {
     let own = face_own(job, index, c, f);
     let selected = face_selected(job, index, c, f);
-    product(own, selected)
+    own * selected
 }
 
 // LOOPS

@@ -6,8 +6,7 @@ use mathlib.Core.List.{List, [], ◌∷◌, ◌++◌, flat_map, map, append_asso
 use Rattle.std.proofs.lemmas.List.Edits.{sets-eq}
 use Rattle.lists.specs.Lists.{◌∈◌}
 use Rattle.lists.specs.Members.{flat_map_append}
-use Rattle.rules.specs.declared.Ending.{Ending}
-use Rattle.rules.specs.Outcome.{Outcome, ok, refuse, ◌>>=◌, need}
+use Rattle.rules.specs.Outcome.{Outcome, Ok, ◌>>=◌, need, Err}
 use Rattle.rules.specs.Fields.{le16, le32, fields_in, bytes16, bytes32, field_bytes}
 use Rattle.rules.proofs.FieldLaws.{le32_here}
 use Rattle.rules.specs.Frame.{Record, framed, framed_all}
@@ -25,6 +24,7 @@ use Rattle.theorems.specs.Shapes.{Shaped, AllShaped}
 use Rattle.lines.specs.Cut.{cut_put}
 use Rattle.lines.specs.Text.{record_at, record_size, records_in, recorded, row_length, row_at, row_size, rows_in}
 use Rattle.lines.specs.LineLaws.{record_some, row_some}
+use Rattle.rules.specs.declared.Fault.TheVariants.{NoRoom}
 
 -- FIELDS
 
@@ -89,10 +89,10 @@ records_back rs each = cut_put record_at record_size record_some framed rs (λ r
 
 -- the bytes of an outcome's records
 abbrev framed_of : Outcome (List Record) → Outcome (List ℕ)
-framed_of (ok rs) = ok (framed_all rs)
-framed_of (refuse number place) = refuse number place
+framed_of (Ok rs) = Ok (framed_all rs)
+framed_of (Err refusal) = Err refusal
 
-from_fit : (rs : List Record) (t : Bool) (n : ℕ) → need t 40 n (ok (framed_all rs)) ≡ framed_of (need t 40 n (ok (framed_all rs)) >>= λ _. ok rs)
+from_fit : (rs : List Record) (t : Bool) (n : ℕ) → need t NoRoom n (Ok (framed_all rs)) ≡ framed_of (need t NoRoom n (Ok (framed_all rs)) >>= λ _. Ok rs)
 unfolding need
 from_fit rs true n = refl
 from_fit rs false n = refl
@@ -102,35 +102,35 @@ sewn_records_lem : (rules : Rules) (job : List ℕ) (room : ℕ) → sewn rules 
 unfolding sewn sewn_records
 sewn_records_lem rules job room = from_job (loaded job)
   where
-    from_body : (o : Outcome Body) → (o >>= λ b. fitting room (framed_all (body_records b))) ≡ framed_of (o >>= λ b. fitting room (framed_all (body_records b)) >>= λ _. ok (body_records b))
-    from_body (ok b) = from_fit (body_records b) (leb (length (framed_all (body_records b))) room) (length (framed_all (body_records b)))
-    from_body (refuse n p) = refl
+    from_body : (o : Outcome Body) → (o >>= λ b. fitting room (framed_all (body_records b))) ≡ framed_of (o >>= λ b. fitting room (framed_all (body_records b)) >>= λ _. Ok (body_records b))
+    from_body (Ok b) = from_fit (body_records b) (leb (length (framed_all (body_records b))) room) (length (framed_all (body_records b)))
+    from_body (Err r) = refl
 
     from_job : (o : Outcome Job) → (o >>= λ j. rebuild rules j >>= λ b. fitting room (framed_all (body_records b)))
-        ≡ framed_of (o >>= λ j. rebuild rules j >>= λ b. fitting room (framed_all (body_records b)) >>= λ _. ok (body_records b))
-    from_job (ok j) = from_body (rebuild rules j)
-    from_job (refuse n p) = refl
+        ≡ framed_of (o >>= λ j. rebuild rules j >>= λ b. fitting room (framed_all (body_records b)) >>= λ _. Ok (body_records b))
+    from_job (Ok j) = from_body (rebuild rules j)
+    from_job (Err r) = refl
 
 -- an outcome of records that fit
 abbrev pub AllFit : Outcome (List Record) → Type 0
-AllFit (ok rs) = (r : Record) → r ∈ rs → Fits r
-AllFit (refuse number place) = Unit {0}
+AllFit (Ok rs) = (r : Record) → r ∈ rs → Fits r
+AllFit (Err refusal) = Unit {0}
 
-recorded_is : (o : Outcome (List Record)) (before after : List ℕ) (e : Ending) → AllFit o → Ends (framed_of o) before after e → recorded after e ≡ o
-recorded_is (ok rs) before after e h E =
-    ap (recorded after) E.0 ∙ ap {B = Outcome (List Record)} (λ l. ok (records_in (take (length (framed_all rs)) l))) E.1
-    ∙ ap {B = Outcome (List Record)} (λ l. ok (records_in l)) (take_at (framed_all rs) (drop (length (framed_all rs)) before) (length (framed_all rs)) refl)
-    ∙ ap {B = Outcome (List Record)} ok (records_back rs h)
-recorded_is (refuse n p) before after e h E = ap (recorded after) E.0
+recorded_is : (o : Outcome (List Record)) (before after : List ℕ) (e : Outcome ℕ) → AllFit o → Ends (framed_of o) before after e → recorded after e ≡ o
+recorded_is (Ok rs) before after e h E =
+    ap (recorded after) E.0 ∙ ap (λ l. Ok (records_in (take (length (framed_all rs)) l))) E.1
+    ∙ ap {B = Outcome (List Record)} (λ l. Ok (records_in l)) (take_at (framed_all rs) (drop (length (framed_all rs)) before) (length (framed_all rs)) refl)
+    ∙ ap {B = Outcome (List Record)} Ok (records_back rs h)
+recorded_is (Err r) before after e h E = ap (recorded after) E.0
 
 -- what is listed of sewing's answer is the text of the job's records
-pub room_listing : (rules : Rules) (job before after : List ℕ) (e : Ending) → AllFit (sewn_records rules job (length before)) → Ends (sewn rules job (length before)) before after e
+pub room_listing : (rules : Rules) (job before after : List ℕ) (e : Outcome ℕ) → AllFit (sewn_records rules job (length before)) → Ends (sewn rules job (length before)) before after e
     → listing_of (recorded after e) ≡ listing_of (sewn_records rules job (length before))
 room_listing rules job before after e h E =
     ap listing_of (recorded_is (sewn_records rules job (length before)) before after e h (subst (λ o. Ends o before after e) (sewn_records_lem rules job (length before)) E))
 
 -- with 65,536 bytes, it is the listing of document 01
-pub listing_is : (rules : Rules) (job before after : List ℕ) (e : Ending) → AllFit (sewn_records rules job 65536) → length before ≡ 65536 → Ends (sewn rules job (length before)) before after e
+pub listing_is : (rules : Rules) (job before after : List ℕ) (e : Outcome ℕ) → AllFit (sewn_records rules job 65536) → length before ≡ 65536 → Ends (sewn rules job (length before)) before after e
     → listing_of (recorded after e) ≡ listing rules job
 listing_is rules job before after e h n E =
     room_listing rules job before after e (subst (λ k. AllFit (sewn_records rules job k)) (sym n) h) E ∙ ap (λ k. listing_of (sewn_records rules job k)) n

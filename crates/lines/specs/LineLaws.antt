@@ -1,20 +1,25 @@
 -- Laws of a record's line, a stage's row, and an answer's text, put together from their parts.
-use Rattle.std.specs.Prelude.{ℕ, zero, suc, ◌+◌, ◌*◌, ◌-◌, ◌/◌, ◌<◌, ◌≤◌, ◌≡◌, refl, true, false, cond, length, get_or, take, drop, eqb, ltb}
-use Rattle.std.proofs.Common.{arith, sym, ap, ◌∙◌, ⊎_elim, length-append, length-take, drop-drop, lt-ltb, ne_eqb, ltb-true}
+use Rattle.std.specs.Prelude.{ℕ, zero, suc, ◌+◌, ◌*◌, ◌-◌, ◌/◌, ◌<◌, ◌≤◌, ◌≡◌, refl, true, false, cond, length, get_or, take, drop, eqb, ltb, ◌&&◌, Some, None, slice_index_or}
+use lib.Pointwise.{pointwise}
+use Rattle.std.proofs.Math.Seq.{drop-cons}
+use Rattle.std.proofs.Math.ListN.{drop_of_length-le}
+use Rattle.lists.specs.Lists.{same}
+use Rattle.std.proofs.Common.{◌⊎◌, ⊎_elim, arith, sym, ap, ◌∙◌, length-append, length-take, drop-drop, lt-ltb, ltb-true}
 use mathlib.Core.List.{List, [], ◌∷◌, ◌++◌, flat_map, append-nil, append_assoc}
 use Rattle.std.proofs.Math.ListN.{get_or-eq_default}
 use Rattle.lists.specs.Tests.{both_ways, cond_true, cond_false}
 use Rattle.lists.specs.Members.{flat_map_append}
-use Rattle.rules.specs.declared.Ending.{Ending}
-use Rattle.rules.specs.declared.Ending.TheVariants.{Written, Refused}
-use Rattle.rules.specs.Outcome.{refuse}
+use Rattle.rules.specs.declared.Refusal.{Refusal}
+use Rattle.rules.specs.declared.Stage.{Stage}
+use Rattle.rules.specs.declared.Stage.TheVariants.{Read, Pair, Merge, VertexLoops, Walk, Loops, Fans, Edges, Joining, Shells, Lumps}
+use Rattle.rules.specs.Outcome.{Outcome, Ok, Err, fault_number}
 use Rattle.rules.specs.Fields.{le16, le32, fields_in}
 use Rattle.rules.proofs.FieldLaws.{le16_drop, le32_here, le32_drop, length_fields, fields_first}
 use Rattle.rules.specs.Frame.{Record}
-use Rattle.rules.specs.Listing.{decimal, word_of, field_text, fields_text, line_of, refused_word, listing_of}
+use Rattle.rules.specs.Listing.{decimal, word_of, field_text, fields_text, line_of, refused_word, refusal_line, listing_of}
 use Rattle.fields.specs.Wrote.{Wrote, wrote_more}
 use Rattle.rules.specs.Rows.{row_text}
-use Rattle.lines.specs.Text.{field_text_in, plain_of, record_at, record_size, records_in, recorded, row_length, row_at, row_size, rows_in, joining_rows, fixed_of, counted_of, stage_rows, stage_text}
+use Rattle.lines.specs.Text.{field_text_in, plain_of, record_at, record_size, records_in, recorded, row_length, row_at, row_size, rows_in, joining_rows, fixed_of, counted_of, stage_rows, stage_text, stage_name, named_among}
 use Rattle.lines.specs.Writing.{wrote_same, decimal_short, fields_short}
 
 -- NAMES
@@ -171,7 +176,7 @@ record_next bytes from v e = ap (λ w. from + (6 + w)) (e ∙ sym (le32_here fro
 -- THE LINE OF A REFUSAL
 
 pub refusal_wrote : (before a b d after : List ℕ) (p q r t number place : ℕ) → Wrote before 0 refused_word a p → Wrote a p (field_text number) b q → Wrote b q (field_text place) d r → Wrote d r (10 ∷ []) after t
-    → Wrote before 0 (listing_of (refuse number place)) after t
+    → Wrote before 0 (refusal_line number place) after t
 refusal_wrote before a b d after p q r t number place w u v z =
     wrote_more before a after refused_word (field_text number ++ (field_text place ++ (10 ∷ []))) 0 p t w
     (wrote_more a b after (field_text number) (field_text place ++ (10 ∷ [])) p q t u (wrote_more b d after (field_text place) (10 ∷ []) q r t v z))
@@ -179,19 +184,23 @@ refusal_wrote before a b d after p q r t number place w u v z =
 -- THE LISTING OF AN ANSWER
 
 -- what is written is no longer than the output
-pub part_small : (out bytes : List ℕ) (n most : ℕ) (e : Ending) → e ≡ Written n → bytes ≡ take n out → length out < most → length bytes < most
+pub part_small : (out bytes : List ℕ) (n most : ℕ) (e : Outcome ℕ) → e ≡ Ok n → bytes ≡ take n out → length out < most → length bytes < most
 part_small out bytes n most e ee eb lt = omega (arith, ap length eb, length-take n out)
 
-pub listed_body : (out bytes before after : List ℕ) (q n : ℕ) (e : Ending) → e ≡ Written n → bytes ≡ take n out → Wrote before 0 (flat_map line_of (records_in bytes)) after q
+pub listed_body : (out bytes before after : List ℕ) (q n : ℕ) (e : Outcome ℕ) → e ≡ Ok n → bytes ≡ take n out → Wrote before 0 (flat_map line_of (records_in bytes)) after q
     → Wrote before 0 (listing_of (recorded out e)) after q
 listed_body out bytes before after q n e ee eb w =
     wrote_same before after (flat_map line_of (records_in bytes)) (listing_of (recorded out e)) 0 q
     (ap (λ l. flat_map line_of (records_in l)) eb ∙ ap (λ x. listing_of (recorded out x)) (sym ee)) w
 
-pub listed_refusal : (out before after : List ℕ) (q number place : ℕ) (e : Ending) → e ≡ Refused number place → Wrote before 0 (listing_of (refuse number place)) after q
+-- the line of a refusal, by its number
+refusal_is : (n : ℕ) (r : Refusal) → n ≡ fault_number r.fault → refusal_line n r.place ≡ listing_of (Err r)
+refusal_is n r e = ap (λ m. refusal_line m r.place) e
+
+pub listed_refusal : (out before after : List ℕ) (q n : ℕ) (r : Refusal) (e : Outcome ℕ) → e ≡ Err r → n ≡ fault_number r.fault → Wrote before 0 (refusal_line n r.place) after q
     → Wrote before 0 (listing_of (recorded out e)) after q
-listed_refusal out before after q number place e ee w =
-    wrote_same before after (listing_of (refuse number place)) (listing_of (recorded out e)) 0 q (ap (λ x. listing_of (recorded out x)) (sym ee)) w
+listed_refusal out before after q n r e ee en w =
+    wrote_same before after (refusal_line n r.place) (listing_of (recorded out e)) 0 q (refusal_is n r en ∙ ap (λ x. listing_of (recorded out x)) (sym ee)) w
 
 -- THE ROWS OF A STAGE
 
@@ -250,29 +259,64 @@ joining_wrote bytes counts rest edges loops before a b after p q t v ec er ev ee
     ∙ (λ i. flat_map row_text (rows_in 3 0 (take 12 bytes) ++ rows_in 7 0 (take (28 * ev i) (er i)) ++ rows_in 2 2 (drop (28 * ev i) (er i)))))
     (wrote_more before b after (x ++ y) l 0 q t (wrote_more before a b x y 0 p q w u) z)
 
--- a stage's rows, by its number
-pub stage_edges : (stage : ℕ) (bytes : List ℕ) → stage ≡ 8 → joining_rows bytes ≡ stage_rows stage bytes
+-- a stage's rows
+pub stage_edges : (stage : Stage) (bytes : List ℕ) → (stage ≡ Edges) ⊎ (stage ≡ Joining) → joining_rows bytes ≡ stage_rows stage bytes
 unfolding stage_rows
-stage_edges stage bytes e = ap (λ s. stage_rows s bytes) (sym e)
+stage_edges stage bytes h = ⊎_elim (λ e. ap (λ s. stage_rows s bytes) (sym e)) (λ e. ap (λ s. stage_rows s bytes) (sym e)) h
 
-pub stage_joining : (stage : ℕ) (bytes : List ℕ) → stage ≡ 9 → joining_rows bytes ≡ stage_rows stage bytes
+stage_plain : (stage : Stage) (bytes : List ℕ) → (stage ≡ Edges → ⊥) → (stage ≡ Joining → ⊥) → rows_in (fixed_of stage) (counted_of stage) bytes ≡ stage_rows stage bytes
 unfolding stage_rows
-stage_joining stage bytes e = ap (λ s. stage_rows s bytes) (sym e)
+stage_plain Read bytes e j = refl
+stage_plain Pair bytes e j = refl
+stage_plain Merge bytes e j = refl
+stage_plain VertexLoops bytes e j = refl
+stage_plain Walk bytes e j = refl
+stage_plain Loops bytes e j = refl
+stage_plain Fans bytes e j = refl
+stage_plain Edges bytes e j = absurd (e refl)
+stage_plain Joining bytes e j = absurd (j refl)
+stage_plain Shells bytes e j = refl
+stage_plain Lumps bytes e j = refl
 
-pub stage_other : (stage : ℕ) (bytes : List ℕ) (fixed counted : ℕ) → (stage ≡ 8 → ⊥) → (stage ≡ 9 → ⊥) → fixed ≡ fixed_of stage → counted ≡ counted_of stage → rows_in fixed counted bytes ≡ stage_rows stage bytes
-unfolding stage_rows
-stage_other stage bytes fixed counted h k ef ec =
-    let other : List (List ℕ) = rows_in (fixed_of stage) (counted_of stage) bytes in
-    (λ i. rows_in (ef i) (ec i) bytes) ∙ sym (cond_false (eqb stage 9) (joining_rows bytes) other (ne_eqb stage 9 k))
-    ∙ sym (cond_false (eqb stage 8) (joining_rows bytes) (cond (eqb stage 9) (joining_rows bytes) other) (ne_eqb stage 8 h))
+pub stage_other : (stage : Stage) (bytes : List ℕ) (fixed counted : ℕ) → (stage ≡ Edges → ⊥) → (stage ≡ Joining → ⊥) → fixed ≡ fixed_of stage → counted ≡ counted_of stage
+    → rows_in fixed counted bytes ≡ stage_rows stage bytes
+stage_other stage bytes fixed counted h k ef ec = (λ i. rows_in (ef i) (ec i) bytes) ∙ stage_plain stage bytes h k
 
-pub staged_rows_lem : (out bytes before after : List ℕ) (stage q n : ℕ) (e : Ending) → e ≡ Written n → bytes ≡ take n out → Wrote before 0 (flat_map row_text (stage_rows stage bytes)) after q
+pub staged_rows_lem : (out bytes before after : List ℕ) (stage : Stage) (q n : ℕ) (e : Outcome ℕ) → e ≡ Ok n → bytes ≡ take n out → Wrote before 0 (flat_map row_text (stage_rows stage bytes)) after q
     → Wrote before 0 (stage_text stage out e) after q
 staged_rows_lem out bytes before after stage q n e ee eb w =
     wrote_same before after (flat_map row_text (stage_rows stage bytes)) (stage_text stage out e) 0 q
     (ap (λ l. flat_map row_text (stage_rows stage l)) eb ∙ ap (stage_text stage out) (sym ee)) w
 
-pub staged_refusal : (out before after : List ℕ) (stage q number place : ℕ) (e : Ending) → e ≡ Refused number place → Wrote before 0 (listing_of (refuse number place)) after q
+pub staged_refusal : (out before after : List ℕ) (stage : Stage) (q n : ℕ) (r : Refusal) (e : Outcome ℕ) → e ≡ Err r → n ≡ fault_number r.fault → Wrote before 0 (refusal_line n r.place) after q
     → Wrote before 0 (stage_text stage out e) after q
-staged_refusal out before after stage q number place e ee w =
-    wrote_same before after (listing_of (refuse number place)) (stage_text stage out e) 0 q (ap (stage_text stage out) (sym ee)) w
+staged_refusal out before after stage q n r e ee en w =
+    wrote_same before after (refusal_line n r.place) (stage_text stage out e) 0 q (refusal_is n r en ∙ ap (stage_text stage out) (sym ee)) w
+
+-- THE NAMES OF THE STAGES
+
+-- `==` of two texts is the test of the definitions
+pub pointwise_same : (a b : List ℕ) → pointwise eqb a b ≡ same a b
+unfolding same
+pointwise_same [] [] = refl
+pointwise_same [] (y ∷ b) = refl
+pointwise_same (x ∷ a) [] = refl
+pointwise_same (x ∷ a) (y ∷ b) = ap (λ t. eqb x y && t) (pointwise_same a b)
+
+-- the stage at a place of some stages has the name, or it is sought among the later ones
+module _ (l : List Stage) (i : ℕ) (name : List ℕ) where
+  named_at : i < length l → named_among (drop i l) name ≡ cond (same name (stage_name (slice_index_or l i Read))) (Some (slice_index_or l i Read)) (named_among (drop (i + 1) l) name)
+  unfolding named_among
+  named_at h =
+      let on : suc i ≡ i + 1 = omega arith in
+      ap (λ m. named_among m name) (drop-cons l i Read h ∙ ap (λ k. slice_index_or l i Read ∷ drop k l) on)
+
+  pub named_here : i < length l → same name (stage_name (slice_index_or l i Read)) ≡ true → named_among (drop i l) name ≡ Some (slice_index_or l i Read)
+  named_here h e = named_at h ∙ cond_true (same name (stage_name (slice_index_or l i Read))) _ _ e
+
+  pub named_later : i < length l → same name (stage_name (slice_index_or l i Read)) ≡ false → named_among (drop i l) name ≡ named_among (drop (i + 1) l) name
+  named_later h e = named_at h ∙ cond_false (same name (stage_name (slice_index_or l i Read))) _ _ e
+
+  pub named_none : length l ≤ i → named_among (drop i l) name ≡ None
+  unfolding named_among
+  named_none h = ap (λ m. named_among m name) (drop_of_length-le l h)

@@ -5,8 +5,7 @@ use Rattle.lists.specs.Lists.{◌∈◌}
 use Rattle.lists.specs.Membership.{in_get_or}
 use Rattle.lists.specs.Members.{flat_map_length}
 use Rattle.lists.specs.KeepCounts.{sum_member}
-use Rattle.rules.specs.declared.Ending.{Ending}
-use Rattle.rules.specs.Outcome.{Outcome, ok, refuse}
+use Rattle.rules.specs.Outcome.{Outcome, Ok, Err}
 use Rattle.rules.proofs.OutcomeLaws.{ok_one, bind_ok}
 use Rattle.rules.specs.Frame.{Record, framed, framed_all}
 use Rattle.rules.specs.Load.{loaded}
@@ -28,9 +27,9 @@ pub bytes_below : (l : List ℕ) → ((i : ℕ) → get_or l i 0 < 256) → Belo
 bytes_below l h x m = let r = in_get_or 0 m in subst (λ y. y < 256) r.2 (h r.0)
 
 -- AllFit by what the outcome can be
-all_fit_by : (o : Outcome (List Record)) → ((rs : List Record) → o ≡ ok rs → (r : Record) → r ∈ rs → Fits r) → AllFit o
-all_fit_by (ok rs) h = h rs refl
-all_fit_by (refuse n p) h = tt
+all_fit_by : (o : Outcome (List Record)) → ((rs : List Record) → o ≡ Ok rs → (r : Record) → r ∈ rs → Fits r) → AllFit o
+all_fit_by (Ok rs) h = h rs refl
+all_fit_by (Err r) h = tt
 
 -- the records of a job of bytes fit their bytes
 pub all_fit : (t : Table) (job : List ℕ) (room : ℕ) → Below 256 job → room < 4294967296 → AllFit (sewn_records (with_table t) job room)
@@ -39,7 +38,7 @@ all_fit t job room bytes h = all_fit_by (sewn_records (with_table t) job room) (
     let a = bind_ok (loaded job) _ rs e in
     let b = bind_ok (rebuild (with_table t) a.0) _ rs a.2 in
     let body : Body = b.0 in
-    let c = bind_ok (fitting room (framed_all (body_records body))) (λ _. ok (body_records body)) rs b.2 in
+    let c = bind_ok (fitting room (framed_all (body_records body))) (λ _. Ok (body_records body)) rs b.2 in
     let i : r ∈ body_records body = subst (λ l. r ∈ l) (sym (ok_one c.2)) m in
     let narrow = rebuilt_narrow t job a.0 body bytes a.1 b.1 r i in
     record {
@@ -51,15 +50,15 @@ all_fit t job room bytes h = all_fit_by (sewn_records (with_table t) job room) (
 -- WHAT IS LISTED OF A JOB
 
 -- the text of sewing's answer in so many bytes is that of the job's records
-pub recorded_listing : (t : Table) (job before after : List ℕ) (e : Ending) → Below 256 job → length before < 4294967296 → Ends (sewn (with_table t) job (length before)) before after e
+pub recorded_listing : (t : Table) (job before after : List ℕ) (e : Outcome ℕ) → Below 256 job → length before < 4294967296 → Ends (sewn (with_table t) job (length before)) before after e
     → listing_of (recorded after e) ≡ listing_of (sewn_records (with_table t) job (length before))
 recorded_listing t job before after e bytes h E = room_listing (with_table t) job before after e (all_fit t job (length before) bytes h) E
 
 -- what sewing a job makes of an output
 abbrev pub SewnInto : List ℕ → List ℕ → List ℕ → Type 0
-SewnInto job before after = (e : Ending) × Ends (sewn ordinary job (length before)) before after e
+SewnInto job before after = (e : Outcome ℕ) × Ends (sewn ordinary job (length before)) before after e
 
-pub sews : (job before after : List ℕ) (e : Ending) → Ends (sewn ordinary job (length before)) before after e → SewnInto job before after
+pub sews : (job before after : List ℕ) (e : Outcome ℕ) → Ends (sewn ordinary job (length before)) before after e → SewnInto job before after
 sews job before after e E = (e, E)
 
 -- a page on which a job's listing was put: the place after the text, which is at most 196,608, and the whole text where the page has room
@@ -67,7 +66,7 @@ abbrev pub Lists : List ℕ → List ℕ → List ℕ → ℕ → Type 0
 Lists job page printed r = Printed (listing ordinary job) page printed 196608 r
 
 -- the text of sewing's answer is put as the job's listing
-pub lists : (job before after page printed : List ℕ) (q : ℕ) (e : Ending) → Below 256 job → length before ≡ 65536
+pub lists : (job before after page printed : List ℕ) (q : ℕ) (e : Outcome ℕ) → Below 256 job → length before ≡ 65536
     → Ends (sewn ordinary job (length before)) before after e → Wrote page 0 (listing_of (recorded after e)) printed q → Lists job page printed q
 lists job before after page printed q e bytes n E w =
     let fit = all_fit full_table job 65536 bytes (omega arith) in

@@ -5,7 +5,8 @@ use mathlib.Core.List.Memᴰ
 use mathlib.Core.List.{List, [], ◌∷◌, ◌++◌, flat_map}
 use Rattle.lists.specs.Lists.{◌∈◌}
 use Rattle.lists.specs.Tests.{both_ways, cond_true, cond_false}
-use Rattle.rules.specs.Outcome.{Outcome, ok, refuse, ◌>>=◌, need}
+use Rattle.rules.specs.declared.Refusal.{Refusal}
+use Rattle.rules.specs.Outcome.{Outcome, Ok, ◌>>=◌, need, Err, fault_number}
 use Rattle.rules.specs.Frame.{Record, framed, framed_all}
 use Rattle.rules.specs.Job.{Job, unset}
 use Rattle.rules.specs.Load.{loaded}
@@ -18,6 +19,7 @@ use Rattle.rules.specs.Rows.{row_text}
 use Rattle.lines.specs.Writing.{decimal_short}
 use Rattle.lines.specs.LineLaws.{name_short}
 use Rattle.lines.specs.Exact.{Fits, AllFit, framed_length}
+use Rattle.rules.specs.declared.Fault.TheVariants.{NoRoom}
 
 -- powers of ten
 unfoldable tens : ℕ → ℕ
@@ -102,10 +104,10 @@ lines_three (r ∷ rs) each =
 
 -- the records of an outcome take no more than so many bytes
 abbrev pub Within : ℕ → Outcome (List Record) → Type 0
-Within room (ok rs) = length (framed_all rs) ≤ room
-Within room (refuse number place) = Unit {0}
+Within room (Ok rs) = length (framed_all rs) ≤ room
+Within room (Err refusal) = Unit {0}
 
-within_fit : (rs : List Record) (room n : ℕ) (t : Bool) → (t ≡ true → length (framed_all rs) ≤ room) → Within room (need t 40 n (ok (framed_all rs)) >>= λ _. ok rs)
+within_fit : (rs : List Record) (room n : ℕ) (t : Bool) → (t ≡ true → length (framed_all rs) ≤ room) → Within room (need t NoRoom n (Ok (framed_all rs)) >>= λ _. Ok rs)
 unfolding need
 within_fit rs room n true h = h refl
 within_fit rs room n false h = tt
@@ -114,20 +116,22 @@ pub sewn_within : (rules : Rules) (job : List ℕ) (room : ℕ) → Within room 
 unfolding sewn_records
 sewn_within rules job room = from_job (loaded job)
   where
-    from_body : (o : Outcome Body) → Within room (o >>= λ b. fitting room (framed_all (body_records b)) >>= λ _. ok (body_records b))
-    from_body (ok b) =
+    from_body : (o : Outcome Body) → Within room (o >>= λ b. fitting room (framed_all (body_records b)) >>= λ _. Ok (body_records b))
+    from_body (Ok b) =
         within_fit (body_records b) room (length (framed_all (body_records b))) (leb (length (framed_all (body_records b))) room) (leb-true (length (framed_all (body_records b))) room)
-    from_body (refuse n p) = tt
+    from_body (Err r) = tt
 
-    from_job : (o : Outcome Job) → Within room (o >>= λ j. rebuild rules j >>= λ b. fitting room (framed_all (body_records b)) >>= λ _. ok (body_records b))
-    from_job (ok j) = from_body (rebuild rules j)
-    from_job (refuse n p) = tt
+    from_job : (o : Outcome Job) → Within room (o >>= λ j. rebuild rules j >>= λ b. fitting room (framed_all (body_records b)) >>= λ _. Ok (body_records b))
+    from_job (Ok j) = from_body (rebuild rules j)
+    from_job (Err r) = tt
 
-pub refusal_short : (number place : ℕ) → length (listing_of (refuse number place)) ≤ 50
-refusal_short number place =
+pub refusal_short : (r : Refusal) → length (listing_of (Err r)) ≤ 50
+refusal_short r =
+    let number = fault_number r.fault in
+    let place = r.place in
     let a : List ℕ = field_text place ++ (10 ∷ []) in
     omega (arith, length-append refused_word (field_text number ++ a), length-append (field_text number) a, length-append (field_text place) (10 ∷ []), decimal_short number, decimal_short place)
 
 pub listed_small : (o : Outcome (List Record)) → AllFit o → Within 65536 o → length (listing_of o) ≤ 196608
-listed_small (ok rs) h w = omega (arith, lines_three rs h)
-listed_small (refuse number place) h w = omega (arith, refusal_short number place)
+listed_small (Ok rs) h w = omega (arith, lines_three rs h)
+listed_small (Err r) h w = omega (arith, refusal_short r)

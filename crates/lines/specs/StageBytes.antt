@@ -7,7 +7,7 @@ use mathlib.Core.List.{List, [], ◌∷◌, ◌++◌, flat_map, map, append-nil}
 use Rattle.lists.specs.Lists.{below, keep}
 use Rattle.lists.specs.Members.{flat_map_append}
 use Rattle.lists.specs.Rows.{flat_map_each, flat_map_single}
-use Rattle.rules.specs.Outcome.{Outcome, ok, refuse, ◌>>=◌, need}
+use Rattle.rules.specs.Outcome.{Outcome, Ok, ◌>>=◌, need, Err}
 use Rattle.rules.proofs.OutcomeLaws.{bind_then, bind_same}
 use Rattle.rules.specs.Fields.{le32, fields_in, field, bytes32, field_bytes}
 use Rattle.rules.proofs.FieldLaws.{field_in}
@@ -29,20 +29,21 @@ use Rattle.fields.specs.Tabled.{length_field_bytes}
 use Rattle.theorems.specs.Shapes.{Shaped, Laid}
 use Rattle.lines.specs.Text.{rows_in, joining_rows}
 use Rattle.lines.specs.Exact.{fields_back, rows_back, bytes_by_rows}
+use Rattle.rules.specs.declared.Fault.TheVariants.{NoRoom}
 
 -- THE BYTES OF A STAGE
 
 -- the bytes of an outcome's rows
 abbrev pub row_bytes : Outcome (List (List ℕ)) → Outcome (List ℕ)
-row_bytes (ok rows) = ok (flat_map field_bytes rows)
-row_bytes (refuse number place) = refuse number place
+row_bytes (Ok rows) = Ok (flat_map field_bytes rows)
+row_bytes (Err refusal) = Err refusal
 
 -- the bytes of rows, where they fit
 abbrev fitted : ℕ → List (List ℕ) → Outcome (List ℕ)
 fitted room rows = fitting room (flat_map field_bytes rows)
 
 -- the test of 40 passes rows and bytes alike
-fit_bytes : (rows : List (List ℕ)) (t : Bool) (n : ℕ) → need t 40 n (ok (flat_map field_bytes rows)) ≡ row_bytes (need t 40 n (ok (flat_map field_bytes rows)) >>= λ _. ok rows)
+fit_bytes : (rows : List (List ℕ)) (t : Bool) (n : ℕ) → need t NoRoom n (Ok (flat_map field_bytes rows)) ≡ row_bytes (need t NoRoom n (Ok (flat_map field_bytes rows)) >>= λ _. Ok rows)
 unfolding need
 fit_bytes rows true n = refl
 fit_bytes rows false n = refl
@@ -53,13 +54,13 @@ staged_bytes : (f : List ℕ → ℕ → Outcome (List ℕ)) (rows_of : Rules �
 unfolding staged_rows
 staged_bytes f rows_of rules job room e = e ∙ from_job (loaded job)
   where
-    from_rows : (o : Outcome (List (List ℕ))) → (o >>= fitted room) ≡ row_bytes (o >>= λ rows. fitted room rows >>= λ _. ok rows)
-    from_rows (ok rows) = fit_bytes rows (leb (length (flat_map field_bytes rows)) room) (length (flat_map field_bytes rows))
-    from_rows (refuse n p) = refl
+    from_rows : (o : Outcome (List (List ℕ))) → (o >>= fitted room) ≡ row_bytes (o >>= λ rows. fitted room rows >>= λ _. Ok rows)
+    from_rows (Ok rows) = fit_bytes rows (leb (length (flat_map field_bytes rows)) room) (length (flat_map field_bytes rows))
+    from_rows (Err r) = refl
 
-    from_job : (o : Outcome Job) → (o >>= λ j. rows_of rules j >>= fitted room) ≡ row_bytes (o >>= λ j. rows_of rules j >>= λ rows. fitted room rows >>= λ _. ok rows)
-    from_job (ok j) = from_rows (rows_of rules j)
-    from_job (refuse n p) = refl
+    from_job : (o : Outcome Job) → (o >>= λ j. rows_of rules j >>= fitted room) ≡ row_bytes (o >>= λ j. rows_of rules j >>= λ rows. fitted room rows >>= λ _. Ok rows)
+    from_job (Ok j) = from_rows (rows_of rules j)
+    from_job (Err r) = refl
 
 -- the fields of one row for each member
 each_fits : {A : Type 0} (room : ℕ) (f : A → List ℕ) (xs : List A) → stage_bytes room (flat_map f xs) ≡ fitted room (map f xs)

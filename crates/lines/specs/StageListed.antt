@@ -1,12 +1,11 @@
 -- The lines of a stage of a job of bytes are those of its rows, as docs/STAGES.md has them.
-use Rattle.std.specs.Prelude.{ℕ, zero, suc, ◌*◌, ◌<◌, ◌≤◌, ◌≡◌, refl, ◌⊎◌, length, take, drop, leb}
+use Rattle.std.specs.Prelude.{ℕ, ◌*◌, ◌<◌, ◌≤◌, ◌≡◌, refl, length, take, drop, leb, Option, Some, None}
 use Rattle.std.proofs.Common.{arith, sym, ap, subst, ◌∙◌, ⊎_elim, length-append, take_at, leb-true}
 use mathlib.Core.List.Memᴰ
-use mathlib.Core.List.{List, [], ◌∷◌, map, flat_map}
-use Rattle.std.proofs.Math.ListN.{get_or-eq_default}
+use mathlib.Core.List.{List, [], ◌∷◌, flat_map}
 use Rattle.lists.specs.Lists.{◌∈◌}
-use Rattle.rules.specs.declared.Ending.{Ending}
-use Rattle.rules.specs.Outcome.{Outcome, ok, refuse}
+use Rattle.rules.specs.declared.Fault.TheVariants.{NoRoom}
+use Rattle.rules.specs.Outcome.{Outcome, Ok, Err}
 use Rattle.rules.proofs.OutcomeLaws.{ok_one, bind_ok, need_ok}
 use Rattle.rules.specs.Fields.{field_bytes}
 use Rattle.rules.specs.Job.{Job}
@@ -14,7 +13,9 @@ use Rattle.rules.specs.Load.{loaded}
 use Rattle.rules.specs.Rules.{Rules, full_table, ordinary}
 use Rattle.rules.specs.Sew.{fitting, Ends}
 use Rattle.rules.specs.Rows.{read_rows, pair_rows, merge_rows, vertex_loop_rows, walk_rows, loop_rows, fan_rows, edge_rows, joining_rows as joined_rows, shell_rows, lump_rows, staged_rows, row_text, rows_listing}
-use Rattle.rules.specs.Rows.{all_rows, stage_listing}
+use Rattle.rules.specs.Rows.{stage_listing}
+use Rattle.rules.specs.declared.Stage.{Stage}
+use Rattle.rules.specs.declared.Stage.TheVariants.{Read, Pair, Merge, VertexLoops, Walk, Loops, Fans, Edges, Joining, Shells, Lumps}
 use Rattle.rules.specs.Operation.{operation}
 use Rattle.fields.specs.Wrote.{Wrote, wrote_none}
 use Rattle.fields.specs.Tabled.{length_field_bytes}
@@ -32,19 +33,19 @@ use Rattle.lines.specs.StageBytes.{laid_back}
 -- ROWS THAT FIT AND ARE READ BACK
 
 -- the rows of a stage in so many bytes: they are read back, none is empty, each field has four bytes, and their bytes fit
-pub record Held (stage room : ℕ) (rows : List (List ℕ)) : Type 0 where
+pub record Held (stage : Stage) (room : ℕ) (rows : List (List ℕ)) : Type 0 where
   pub back : stage_rows stage (flat_map field_bytes rows) ≡ rows
   pub some : (row : List ℕ) → row ∈ rows → 0 < length row
   pub low : (row : List ℕ) → row ∈ rows → Below 4294967296 row
   pub within : length (flat_map field_bytes rows) ≤ room
 
 -- an outcome of such rows
-abbrev pub AllHeld : ℕ → ℕ → Outcome (List (List ℕ)) → Type 0
-AllHeld stage room (ok rows) = Held stage room rows
-AllHeld stage room (refuse number place) = Unit {0}
+abbrev pub AllHeld : Stage → ℕ → Outcome (List (List ℕ)) → Type 0
+AllHeld stage room (Ok rows) = Held stage room rows
+AllHeld stage room (Err refusal) = Unit {0}
 
 -- rows of one shape
-shaped_held : (stage room fixed counted : ℕ) (rows : List (List ℕ)) → 0 < fixed → rows_in fixed counted (flat_map field_bytes rows) ≡ stage_rows stage (flat_map field_bytes rows)
+shaped_held : (stage : Stage) (room fixed counted : ℕ) (rows : List (List ℕ)) → 0 < fixed → rows_in fixed counted (flat_map field_bytes rows) ≡ stage_rows stage (flat_map field_bytes rows)
     → length (flat_map field_bytes rows) ≤ room → AllShaped fixed counted rows → Held stage room rows
 shaped_held stage room fixed counted rows h e le each = record {
   back = sym e ∙ rows_back fixed counted rows h each;
@@ -54,7 +55,7 @@ shaped_held stage room fixed counted rows h e le each = record {
 }
 
 -- the rows of edges and joining
-laid_held : (stage room : ℕ) (rows : List (List ℕ)) → joining_rows (flat_map field_bytes rows) ≡ stage_rows stage (flat_map field_bytes rows)
+laid_held : (stage : Stage) (room : ℕ) (rows : List (List ℕ)) → joining_rows (flat_map field_bytes rows) ≡ stage_rows stage (flat_map field_bytes rows)
     → length (flat_map field_bytes rows) ≤ room → Laid rows → Held stage room rows
 laid_held stage room rows e le L = record {
   back = sym e ∙ laid_back rows L;
@@ -71,127 +72,116 @@ laid_held stage room rows e le L = record {
         (Memᴰ.cases_cons (subst (λ l. row ∈ l) L.laid m))
 
 -- what holds of the rows of every loaded job whose bytes fit holds of the outcome
-held_by : (stage : ℕ) (rows_of : Rules → Job → Outcome (List (List ℕ))) (job : List ℕ) (room : ℕ)
-    → ((j : Job) (rows : List (List ℕ)) → loaded job ≡ ok j → rows_of ordinary j ≡ ok rows → length (flat_map field_bytes rows) ≤ room → Held stage room rows)
+held_by : (stage : Stage) (rows_of : Rules → Job → Outcome (List (List ℕ))) (job : List ℕ) (room : ℕ)
+    → ((j : Job) (rows : List (List ℕ)) → loaded job ≡ Ok j → rows_of ordinary j ≡ Ok rows → length (flat_map field_bytes rows) ≤ room → Held stage room rows)
     → AllHeld stage room (staged_rows rows_of ordinary job room)
 unfolding staged_rows
 held_by stage rows_of job room each = go (staged_rows rows_of ordinary job room) refl
   where
     go : (o : Outcome (List (List ℕ))) → staged_rows rows_of ordinary job room ≡ o → AllHeld stage room o
-    go (refuse n p) e = tt
-    go (ok rows) e =
+    go (Err r) e = tt
+    go (Ok rows) e =
         let a = bind_ok (loaded job) _ rows e in
         let b = bind_ok (rows_of ordinary a.0) _ rows a.2 in
         let bytes : List ℕ = flat_map field_bytes b.0 in
-        let c = bind_ok (fitting room bytes) (λ _. ok b.0) rows b.2 in
-        let n = need_ok (leb (length bytes) room) 40 (length bytes) (ok bytes) c.0 c.1 in
+        let c = bind_ok (fitting room bytes) (λ _. Ok b.0) rows b.2 in
+        let n = need_ok (leb (length bytes) room) NoRoom (length bytes) (Ok bytes) c.0 c.1 in
         subst (Held stage room) (ok_one c.2) (each a.0 b.0 a.1 b.1 (leb-true (length bytes) room n.0))
 
--- THE STAGES BY NUMBER
+-- EVERY STAGE
 
 -- what is known of a stage: its rows or refusal, that these are listed, that it writes their bytes, and that they are read back
-pub record Known (stage : ℕ) (job : List ℕ) (room : ℕ) : Type 0 where
+pub record Known (stage : Stage) (job : List ℕ) (room : ℕ) : Type 0 where
   pub rows : Outcome (List (List ℕ))
-  pub lines : stage_listing stage ordinary job room ≡ rows_listing rows
-  pub bytes : operation stage job room ≡ row_bytes rows
+  pub lines : stage_listing (Some stage) ordinary job room ≡ rows_listing rows
+  pub bytes : operation (Some stage) job room ≡ row_bytes rows
   pub held : AllHeld stage room rows
 
--- every stage from 1 to 11, of a job of bytes
-pub stage_known : (stage : ℕ) → 0 < stage → stage ≤ 11 → (job : List ℕ) → Below 256 job → (room : ℕ) → Known stage job room
-unfolding stage_listing operation stage_rows fixed_of counted_of
-stage_known zero h k job b room = absurd (omega arith)
-stage_known (suc zero) h k job b room = record {
+-- every stage, of a job of bytes
+pub stage_known : (stage : Stage) → (job : List ℕ) → Below 256 job → (room : ℕ) → Known stage job room
+unfolding stage_listing stage_rows fixed_of counted_of
+stage_known Read job b room = record {
   rows = staged_rows read_rows ordinary job room;
   lines = refl;
   bytes = read_bytes ordinary job room;
-  held = held_by 1 read_rows job room (λ j rows l e le. shaped_held 1 room 4 0 rows (omega arith) refl le (read_shaped full_table job b j l rows e));
+  held = held_by Read read_rows job room (λ j rows l e le. shaped_held Read room 4 0 rows (omega arith) refl le (read_shaped full_table job b j l rows e));
 }
-stage_known (suc (suc zero)) h k job b room = record {
+stage_known Pair job b room = record {
   rows = staged_rows pair_rows ordinary job room;
   lines = refl;
   bytes = pair_bytes ordinary job room;
-  held = held_by 2 pair_rows job room (λ j rows l e le. shaped_held 2 room 1 0 rows (omega arith) refl le (pair_shaped full_table job b j l rows e));
+  held = held_by Pair pair_rows job room (λ j rows l e le. shaped_held Pair room 1 0 rows (omega arith) refl le (pair_shaped full_table job b j l rows e));
 }
-stage_known (suc (suc (suc zero))) h k job b room = record {
+stage_known Merge job b room = record {
   rows = staged_rows merge_rows ordinary job room;
   lines = refl;
   bytes = merge_bytes ordinary job room;
-  held = held_by 3 merge_rows job room (λ j rows l e le. shaped_held 3 room 2 0 rows (omega arith) refl le (merge_shaped full_table job b j l rows e));
+  held = held_by Merge merge_rows job room (λ j rows l e le. shaped_held Merge room 2 0 rows (omega arith) refl le (merge_shaped full_table job b j l rows e));
 }
-stage_known (suc (suc (suc (suc zero)))) h k job b room = record {
+stage_known VertexLoops job b room = record {
   rows = staged_rows vertex_loop_rows ordinary job room;
   lines = refl;
   bytes = vertex_loop_bytes ordinary job room;
-  held = held_by 4 vertex_loop_rows job room (λ j rows l e le. shaped_held 4 room 2 0 rows (omega arith) refl le (vertex_loops_shaped full_table job b j l rows e));
+  held = held_by VertexLoops vertex_loop_rows job room (λ j rows l e le. shaped_held VertexLoops room 2 0 rows (omega arith) refl le (vertex_loops_shaped full_table job b j l rows e));
 }
-stage_known (suc (suc (suc (suc (suc zero))))) h k job b room = record {
+stage_known Walk job b room = record {
   rows = staged_rows walk_rows ordinary job room;
   lines = refl;
   bytes = walk_bytes ordinary job room;
-  held = held_by 5 walk_rows job room (λ j rows l e le. shaped_held 5 room 3 0 rows (omega arith) refl le (walk_shaped full_table job b j l rows e));
+  held = held_by Walk walk_rows job room (λ j rows l e le. shaped_held Walk room 3 0 rows (omega arith) refl le (walk_shaped full_table job b j l rows e));
 }
-stage_known (suc (suc (suc (suc (suc (suc zero)))))) h k job b room = record {
+stage_known Loops job b room = record {
   rows = staged_rows loop_rows ordinary job room;
   lines = refl;
   bytes = loop_bytes ordinary job room;
-  held = held_by 6 loop_rows job room (λ j rows l e le. shaped_held 6 room 2 1 rows (omega arith) refl le (loops_shaped full_table job b j l rows e));
+  held = held_by Loops loop_rows job room (λ j rows l e le. shaped_held Loops room 2 1 rows (omega arith) refl le (loops_shaped full_table job b j l rows e));
 }
-stage_known (suc (suc (suc (suc (suc (suc (suc zero))))))) h k job b room = record {
+stage_known Fans job b room = record {
   rows = staged_rows fan_rows ordinary job room;
   lines = refl;
   bytes = fan_bytes_lem ordinary job room;
-  held = held_by 7 fan_rows job room (λ j rows l e le. shaped_held 7 room 3 0 rows (omega arith) refl le (fans_shaped full_table job b j l rows e));
+  held = held_by Fans fan_rows job room (λ j rows l e le. shaped_held Fans room 3 0 rows (omega arith) refl le (fans_shaped full_table job b j l rows e));
 }
-stage_known (suc (suc (suc (suc (suc (suc (suc (suc zero)))))))) h k job b room = record {
+stage_known Edges job b room = record {
   rows = staged_rows edge_rows ordinary job room;
   lines = refl;
   bytes = edge_bytes ordinary job room;
-  held = held_by 8 edge_rows job room (λ j rows l e le. laid_held 8 room rows refl le (edges_laid full_table job b j l rows e));
+  held = held_by Edges edge_rows job room (λ j rows l e le. laid_held Edges room rows refl le (edges_laid full_table job b j l rows e));
 }
-stage_known (suc (suc (suc (suc (suc (suc (suc (suc (suc zero))))))))) h k job b room = record {
+stage_known Joining job b room = record {
   rows = staged_rows joined_rows ordinary job room;
   lines = refl;
   bytes = joining_bytes ordinary job room;
-  held = held_by 9 joined_rows job room (λ j rows l e le. laid_held 9 room rows refl le (joining_laid full_table job b j l rows e));
+  held = held_by Joining joined_rows job room (λ j rows l e le. laid_held Joining room rows refl le (joining_laid full_table job b j l rows e));
 }
-stage_known (suc (suc (suc (suc (suc (suc (suc (suc (suc (suc zero)))))))))) h k job b room = record {
+stage_known Shells job b room = record {
   rows = staged_rows shell_rows ordinary job room;
   lines = refl;
   bytes = shell_bytes_lem ordinary job room;
-  held = held_by 10 shell_rows job room (λ j rows l e le. shaped_held 10 room 2 1 rows (omega arith) refl le (shells_shaped full_table job b j l rows e));
+  held = held_by Shells shell_rows job room (λ j rows l e le. shaped_held Shells room 2 1 rows (omega arith) refl le (shells_shaped full_table job b j l rows e));
 }
-stage_known (suc (suc (suc (suc (suc (suc (suc (suc (suc (suc (suc zero))))))))))) h k job b room = record {
+stage_known Lumps job b room = record {
   rows = staged_rows lump_rows ordinary job room;
   lines = refl;
   bytes = lump_bytes ordinary job room;
-  held = held_by 11 lump_rows job room (λ j rows l e le. shaped_held 11 room 2 1 rows (omega arith) refl le (lumps_shaped full_table job b j l rows e));
+  held = held_by Lumps lump_rows job room (λ j rows l e le. shaped_held Lumps room 2 1 rows (omega arith) refl le (lumps_shaped full_table job b j l rows e));
 }
-stage_known (suc (suc (suc (suc (suc (suc (suc (suc (suc (suc (suc (suc s)))))))))))) h k job b room = absurd (omega arith)
-
--- any other number has no lines
-pub no_stage : (stage : ℕ) → (stage ≡ 0) ⊎ (11 < stage) → (rules : Rules) (job : List ℕ) (room : ℕ) → stage_listing stage rules job room ≡ []
-unfolding stage_listing
-no_stage stage h rules job room =
-    ⊎_elim
-    (λ e. ap (λ k. stage_listing k rules job room) e)
-    (λ lt. get_or-eq_default ([] ∷ map (λ rows_of. rows_listing (staged_rows rows_of rules job room)) all_rows) [] lt)
-    h
 
 -- WHAT IS SHOWN
 
 -- the text of an answer whose rows are read back
-held_text : (stage room : ℕ) (o : Outcome (List (List ℕ))) (before after : List ℕ) (e : Ending) → AllHeld stage room o → Ends (row_bytes o) before after e → stage_text stage after e ≡ rows_listing o
-held_text stage room (ok rows) before after e H E =
+held_text : (stage : Stage) (room : ℕ) (o : Outcome (List (List ℕ))) (before after : List ℕ) (e : Outcome ℕ) → AllHeld stage room o → Ends (row_bytes o) before after e → stage_text stage after e ≡ rows_listing o
+held_text stage room (Ok rows) before after e H E =
     let bytes : List ℕ = flat_map field_bytes rows in
     ap (stage_text stage after) E.0 ∙ ap (λ l. flat_map row_text (stage_rows stage (take (length bytes) l))) E.1
     ∙ ap (λ l. flat_map row_text (stage_rows stage l)) (take_at bytes (drop (length bytes) before) (length bytes) refl) ∙ ap (flat_map row_text) H.back
-held_text stage room (refuse n p) before after e H E = ap (stage_text stage after) E.0
+held_text stage room (Err r) before after e H E = ap (stage_text stage after) E.0
 
 -- what an output shows of a stage's answer is the stage's listing
-pub stage_text_lem : (stage : ℕ) (job before after : List ℕ) (e : Ending) → 0 < stage → stage ≤ 11 → Below 256 job → Ends (operation stage job (length before)) before after e
-    → stage_text stage after e ≡ stage_listing stage ordinary job (length before)
-stage_text_lem stage job before after e h k b E =
-    let K = stage_known stage h k job b (length before) in
+pub stage_text_lem : (stage : Stage) (job before after : List ℕ) (e : Outcome ℕ) → Below 256 job → Ends (operation (Some stage) job (length before)) before after e
+    → stage_text stage after e ≡ stage_listing (Some stage) ordinary job (length before)
+stage_text_lem stage job before after e b E =
+    let K = stage_known stage job b (length before) in
     held_text stage (length before) K.rows before after e K.held (subst (λ o. Ends o before after e) K.bytes E) ∙ sym K.lines
 
 -- eleven characters a field
@@ -210,45 +200,32 @@ rows_eleven (row ∷ rows) some low =
     )
 
 -- rows of 131,072 bytes, or a refusal
-held_small : (stage : ℕ) (o : Outcome (List (List ℕ))) → AllHeld stage 131072 o → length (rows_listing o) ≤ 360448
-held_small stage (ok rows) H = omega (arith, rows_eleven rows H.some H.low, H.within)
-held_small stage (refuse n p) H = omega (arith, refusal_short n p)
+held_small : (stage : Stage) (o : Outcome (List (List ℕ))) → AllHeld stage 131072 o → length (rows_listing o) ≤ 360448
+held_small stage (Ok rows) H = omega (arith, rows_eleven rows H.some H.low, H.within)
+held_small stage (Err r) H = omega (arith, refusal_short r)
 
 -- with 131,072 bytes of output the lines of a stage have at most 360,448 characters
-pub stage_small : (stage : ℕ) (job : List ℕ) → 0 < stage → stage ≤ 11 → Below 256 job → length (stage_listing stage ordinary job 131072) ≤ 360448
-stage_small stage job h k b = let K = stage_known stage h k job b 131072 in omega (arith, ap length K.lines, held_small stage K.rows K.held)
+pub stage_small : (stage : Stage) (job : List ℕ) → Below 256 job → length (stage_listing (Some stage) ordinary job 131072) ≤ 360448
+stage_small stage job b = let K = stage_known stage job b 131072 in omega (arith, ap length K.lines, held_small stage K.rows K.held)
 
--- what a stage makes of an output: that of its number, and nothing for a number that is no stage
-abbrev pub StagedInto : ℕ → List ℕ → List ℕ → List ℕ → Type 0
-StagedInto stage job before after =
-    (0 < stage → stage ≤ 11 → (e : Ending) × Ends (operation stage job (length before)) before after e)
-    × ((stage ≡ 0) ⊎ (11 < stage) → after ≡ before)
-
--- no number is that of a stage and not
-not_both : {A : Type 0} (stage : ℕ) → 0 < stage → stage ≤ 11 → (stage ≡ 0) ⊎ (11 < stage) → A
-not_both stage some most none = absurd (⊎_elim (λ zero. omega (arith, some, zero)) (λ past. omega (arith, most, past)) none)
-
-pub runs : (stage : ℕ) (job before after : List ℕ) (e : Ending) → 0 < stage → stage ≤ 11 → Ends (operation stage job (length before)) before after e → StagedInto stage job before after
-runs stage job before after e some most E = (λ _ _. (e, E), not_both stage some most)
-
-pub stays : (stage : ℕ) (job out : List ℕ) → (stage ≡ 0) ⊎ (11 < stage) → StagedInto stage job out out
-stays stage job out none = (λ some most. not_both stage some most none, λ _. refl)
+-- what a stage makes of an output; where there is no stage, it stays
+abbrev pub StagedInto : Option Stage → List ℕ → List ℕ → List ℕ → Type 0
+StagedInto None job before after = after ≡ before
+StagedInto (Some stage) job before after = (e : Outcome ℕ) × Ends (operation (Some stage) job (length before)) before after e
 
 -- a page on which a stage's lines were put: the place after the text, which is at most 360,448, and the whole text where the page has room
-abbrev pub StageLists : ℕ → List ℕ → List ℕ → List ℕ → ℕ → Type 0
+abbrev pub StageLists : Option Stage → List ℕ → List ℕ → List ℕ → ℕ → Type 0
 StageLists stage job page printed r = Printed (stage_listing stage ordinary job 131072) page printed 360448 r
 
 -- the lines of a stage are put as its listing says
-pub lists_stage : (stage : ℕ) (job before after page printed : List ℕ) (q : ℕ) (e : Ending) → 0 < stage → stage ≤ 11 → Below 256 job → length before ≡ 131072
-    → Ends (operation stage job (length before)) before after e → Wrote page 0 (stage_text stage after e) printed q → StageLists stage job page printed q
-lists_stage stage job before after page printed q e h k b n E w =
-    let text : List ℕ = stage_listing stage ordinary job 131072 in
-    let is : stage_text stage after e ≡ text = stage_text_lem stage job before after e h k b E ∙ ap (stage_listing stage ordinary job) n in
-    prints text page printed 360448 q (wrote_same page printed (stage_text stage after e) text 0 q is w) (stage_small stage job h k b)
+pub lists_stage : (stage : Stage) (job before after page printed : List ℕ) (q : ℕ) (e : Outcome ℕ) → Below 256 job → length before ≡ 131072
+    → Ends (operation (Some stage) job (length before)) before after e → Wrote page 0 (stage_text stage after e) printed q → StageLists (Some stage) job page printed q
+lists_stage stage job before after page printed q e b n E w =
+    let text : List ℕ = stage_listing (Some stage) ordinary job 131072 in
+    let is : stage_text stage after e ≡ text = stage_text_lem stage job before after e b E ∙ ap (stage_listing (Some stage) ordinary job) n in
+    prints text page printed 360448 q (wrote_same page printed (stage_text stage after e) text 0 q is w) (stage_small stage job b)
 
--- nothing is put for a number that is no stage
-pub lists_none : (stage : ℕ) (job page : List ℕ) → (stage ≡ 0) ⊎ (11 < stage) → StageLists stage job page page 0
-lists_none stage job page h =
-    let text : List ℕ = stage_listing stage ordinary job 131072 in
-    let none : [] ≡ text = sym (no_stage stage h ordinary job 131072) in
-    prints text page page 360448 0 (wrote_same page page [] text 0 0 none (wrote_none page 0)) (omega (arith, ap length none))
+-- nothing is put where there is no stage
+pub lists_none : (job page : List ℕ) → StageLists None job page page 0
+unfolding stage_listing
+lists_none job page = prints [] page page 360448 0 (wrote_none page 0) (omega arith)

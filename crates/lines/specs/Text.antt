@@ -1,10 +1,11 @@
 -- The text of an answer, from the bytes that the output holds: the lines of a body's records and of a stage's rows.
-use Rattle.std.specs.Prelude.{ℕ, ◌+◌, ◌*◌, ◌/◌, Bool, cond, take, drop, eqb, ltb}
+use Rattle.std.specs.Prelude.{ℕ, ◌+◌, ◌*◌, ◌/◌, Bool, cond, take, drop, eqb, ltb, Option, Some, None}
 use mathlib.Core.List.{List, [], ◌∷◌, ◌++◌, flat_map}
 use Rattle.lists.specs.Lists.{same}
-use Rattle.rules.specs.declared.Ending.{Ending}
-use Rattle.rules.specs.declared.Ending.TheVariants.{Written, Refused}
-use Rattle.rules.specs.Outcome.{Outcome, ok, refuse}
+use Rattle.rules.specs.declared.Stage.{Stage}
+use Rattle.rules.specs.declared.Stage.TheVariants.{Read, Pair, Merge, VertexLoops, Walk, Loops, Fans, Edges, Joining, Shells, Lumps}
+use Rattle.rules.specs.Operation.{all_stages}
+use Rattle.rules.specs.Outcome.{Outcome, Ok, Err}
 use Rattle.rules.specs.Fields.{le16, le32, fields_in}
 use Rattle.rules.specs.Frame.{Record}
 use Rattle.rules.specs.Listing.{field_text, vertex_text, listing_of}
@@ -32,9 +33,9 @@ abbrev pub records_in : List ℕ → List Record
 records_in bytes = cut_all record_at record_size bytes
 
 -- the answer of sewing as records, by its ending and the output
-abbrev pub recorded : List ℕ → Ending → Outcome (List Record)
-recorded out (Written n) = ok (records_in (take n out))
-recorded out (Refused number place) = refuse number place
+abbrev pub recorded : List ℕ → Outcome ℕ → Outcome (List Record)
+recorded out (Ok n) = Ok (records_in (take n out))
+recorded out (Err refusal) = Err refusal
 
 -- THE ROWS OF A STAGE
 
@@ -58,35 +59,75 @@ joining_rows bytes =
     let end = 28 * le32 bytes 8 in
     rows_in 3 0 (take 12 bytes) ++ rows_in 7 0 (take end rest) ++ rows_in 2 2 (drop end rest)
 
--- the fields of a stage's row, by the stage's number from 1 to 11
-unfoldable pub fixed_of : ℕ → ℕ
-fixed_of stage = cond (eqb stage 1) 4 (cond (eqb stage 2) 1 (cond (eqb stage 5) 3 (cond (eqb stage 7) 3 2)))
+-- the fields of a stage's row
+unfoldable pub fixed_of : Stage → ℕ
+fixed_of Read = 4
+fixed_of Pair = 1
+fixed_of Merge = 2
+fixed_of VertexLoops = 2
+fixed_of Walk = 3
+fixed_of Loops = 2
+fixed_of Fans = 3
+fixed_of Edges = 2
+fixed_of Joining = 2
+fixed_of Shells = 2
+fixed_of Lumps = 2
 
-unfoldable pub counted_of : ℕ → ℕ
-counted_of stage = cond (eqb stage 6) 1 (cond (eqb stage 10) 1 (cond (eqb stage 11) 1 0))
+-- whether the second one counts further ones
+unfoldable pub counted_of : Stage → ℕ
+counted_of Read = 0
+counted_of Pair = 0
+counted_of Merge = 0
+counted_of VertexLoops = 0
+counted_of Walk = 0
+counted_of Loops = 1
+counted_of Fans = 0
+counted_of Edges = 0
+counted_of Joining = 0
+counted_of Shells = 1
+counted_of Lumps = 1
 
-unfoldable pub stage_rows : ℕ → List ℕ → List (List ℕ)
-stage_rows stage bytes = cond (eqb stage 8) (joining_rows bytes) (cond (eqb stage 9) (joining_rows bytes) (rows_in (fixed_of stage) (counted_of stage) bytes))
+unfoldable pub stage_rows : Stage → List ℕ → List (List ℕ)
+stage_rows Read bytes = rows_in (fixed_of Read) (counted_of Read) bytes
+stage_rows Pair bytes = rows_in (fixed_of Pair) (counted_of Pair) bytes
+stage_rows Merge bytes = rows_in (fixed_of Merge) (counted_of Merge) bytes
+stage_rows VertexLoops bytes = rows_in (fixed_of VertexLoops) (counted_of VertexLoops) bytes
+stage_rows Walk bytes = rows_in (fixed_of Walk) (counted_of Walk) bytes
+stage_rows Loops bytes = rows_in (fixed_of Loops) (counted_of Loops) bytes
+stage_rows Fans bytes = rows_in (fixed_of Fans) (counted_of Fans) bytes
+stage_rows Edges bytes = joining_rows bytes
+stage_rows Joining bytes = joining_rows bytes
+stage_rows Shells bytes = rows_in (fixed_of Shells) (counted_of Shells) bytes
+stage_rows Lumps bytes = rows_in (fixed_of Lumps) (counted_of Lumps) bytes
 
 -- the answer of a stage as text, by its ending and the output
-abbrev pub stage_text : ℕ → List ℕ → Ending → List ℕ
-stage_text stage out (Written n) = flat_map row_text (stage_rows stage (take n out))
-stage_text stage out (Refused number place) = listing_of (refuse number place)
+abbrev pub stage_text : Stage → List ℕ → Outcome ℕ → List ℕ
+stage_text stage out (Ok n) = flat_map row_text (stage_rows stage (take n out))
+stage_text stage out (Err refusal) = listing_of (Err refusal)
 
 -- THE NAMES OF THE STAGES
 
--- read, pair, merge, vertex-loops, walk, loops, fans, edges, joining, shells, lumps; 0 for any other name
-unfoldable pub stage_number : List ℕ → ℕ
-stage_number name =
-    cond (same name (114 ∷ 101 ∷ 97 ∷ 100 ∷ [])) 1
-    (cond (same name (112 ∷ 97 ∷ 105 ∷ 114 ∷ [])) 2
-    (cond (same name (109 ∷ 101 ∷ 114 ∷ 103 ∷ 101 ∷ [])) 3
-    (cond (same name (118 ∷ 101 ∷ 114 ∷ 116 ∷ 101 ∷ 120 ∷ 45 ∷ 108 ∷ 111 ∷ 111 ∷ 112 ∷ 115 ∷ [])) 4
-    (cond (same name (119 ∷ 97 ∷ 108 ∷ 107 ∷ [])) 5
-    (cond (same name (108 ∷ 111 ∷ 111 ∷ 112 ∷ 115 ∷ [])) 6
-    (cond (same name (102 ∷ 97 ∷ 110 ∷ 115 ∷ [])) 7
-    (cond (same name (101 ∷ 100 ∷ 103 ∷ 101 ∷ 115 ∷ [])) 8
-    (cond (same name (106 ∷ 111 ∷ 105 ∷ 110 ∷ 105 ∷ 110 ∷ 103 ∷ [])) 9
-    (cond (same name (115 ∷ 104 ∷ 101 ∷ 108 ∷ 108 ∷ 115 ∷ [])) 10
-    (cond (same name (108 ∷ 117 ∷ 109 ∷ 112 ∷ 115 ∷ [])) 11
-    0))))))))))
+-- read, pair, merge, vertex-loops, walk, loops, fans, edges, joining, shells, lumps
+unfoldable pub stage_name : Stage → List ℕ
+stage_name Read = 114 ∷ 101 ∷ 97 ∷ 100 ∷ []
+stage_name Pair = 112 ∷ 97 ∷ 105 ∷ 114 ∷ []
+stage_name Merge = 109 ∷ 101 ∷ 114 ∷ 103 ∷ 101 ∷ []
+stage_name VertexLoops = 118 ∷ 101 ∷ 114 ∷ 116 ∷ 101 ∷ 120 ∷ 45 ∷ 108 ∷ 111 ∷ 111 ∷ 112 ∷ 115 ∷ []
+stage_name Walk = 119 ∷ 97 ∷ 108 ∷ 107 ∷ []
+stage_name Loops = 108 ∷ 111 ∷ 111 ∷ 112 ∷ 115 ∷ []
+stage_name Fans = 102 ∷ 97 ∷ 110 ∷ 115 ∷ []
+stage_name Edges = 101 ∷ 100 ∷ 103 ∷ 101 ∷ 115 ∷ []
+stage_name Joining = 106 ∷ 111 ∷ 105 ∷ 110 ∷ 105 ∷ 110 ∷ 103 ∷ []
+stage_name Shells = 115 ∷ 104 ∷ 101 ∷ 108 ∷ 108 ∷ 115 ∷ []
+stage_name Lumps = 108 ∷ 117 ∷ 109 ∷ 112 ∷ 115 ∷ []
+
+-- the first of some stages that has a name
+unfoldable pub named_among : List Stage → List ℕ → Option Stage
+named_among [] name = None
+named_among (s ∷ more) name =
+    let later = named_among more name in
+    cond (same name (stage_name s)) (Some s) later
+
+-- the stage of a name, if there is one
+unfoldable pub stage_named : List ℕ → Option Stage
+stage_named name = named_among all_stages name

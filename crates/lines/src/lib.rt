@@ -6,15 +6,14 @@
 ghost use Rattle.std.specs.Prelude.{◌≡◌, ◌+◌, ◌*◌, ◌<◌, ◌≤◌, ◌^◌, length, take, drop, set};
 ghost use mathlib.Core.List.{flat_map};
 ghost use Rattle.lists.specs.Lists.{same};
-ghost use Rattle.rules.specs.Outcome.{refuse};
 ghost use Rattle.rules.specs.Fields.{fields_in};
-ghost use Rattle.rules.specs.Listing.{decimal, word_of, line_of, listing_of};
+ghost use Rattle.rules.specs.Listing.{decimal, word_of, line_of, refusal_line, listing_of};
 ghost use Rattle.fields.specs.Wrote.{Wrote};
 ghost use Rattle.rules.specs.Rows.{row_text};
-ghost use Rattle.lines.specs.Text.{field_text_in, plain_of, record_at, records_in, recorded, rows_in, joining_rows, stage_rows, stage_text, fixed_of, counted_of, stage_number};
+ghost use Rattle.lines.specs.Text.{field_text_in, plain_of, record_at, records_in, recorded, rows_in, joining_rows, stage_rows, stage_text, fixed_of, counted_of, stage_name, stage_named};
 
 use fields::{UNSET, half, word};
-use rules::Ending;
+use rules::{Refusal, Stage};
 
 // BYTES AND NUMBERS
 
@@ -42,17 +41,7 @@ pub fn back(bytes: &[u8], from: usize) -> &[u8]
 pub fn is_same(a: &[u8], b: &[u8]) -> bool
     ensures { result ≡ same a.now b.now }
 {
-    if a.len() != b.len() {
-        return false;
-    }
-    let mut i: usize = 0;
-    while i < a.len() {
-        if a[i] != b[i] {
-            return false;
-        }
-        i += 1;
-    }
-    true
+    a == b
 }
 
 fn put_byte(page: &mut [u8], at: usize, b: u8)
@@ -204,7 +193,7 @@ pub fn put_lines(page: &mut [u8], body: &[u8]) -> usize
 
 // The line of a refusal.
 pub fn put_refusal(page: &mut [u8], number: usize, place: usize) -> usize
-    ensures { Wrote page.old 0 (listing_of (refuse number place)) page.new result }
+    ensures { Wrote page.old 0 (refusal_line number place) page.new result }
 {
     let p = put_text(page, 0, b"refused");
     let q = put_field(page, p, number, false);
@@ -213,16 +202,16 @@ pub fn put_refusal(page: &mut [u8], number: usize, place: usize) -> usize
 }
 
 // The listing of sewing's answer, with the body at the start of the output.
-pub fn put_listing(page: &mut [u8], out: &[u8], ending: Ending) -> usize
+pub fn put_listing(page: &mut [u8], out: &[u8], ending: Result<usize, Refusal>) -> usize
     requires { length out.now < 4294967296 }
     ensures { Wrote page.old 0 (listing_of (recorded out.now ending)) page.new result }
 {
     match ending {
-        Ending::Written(n) => {
+        Ok(n) => {
             let body = front(out, n);
             put_lines(page, body)
         }
-        Ending::Refused(number, place) => put_refusal(page, number, place),
+        Err(refusal) => put_refusal(page, refusal.fault.number(), refusal.place),
     }
 }
 
@@ -269,96 +258,101 @@ fn put_joining(page: &mut [u8], bytes: &[u8]) -> usize
 }
 
 // How many fields a row of a stage has at least.
-fn fixed_fields(stage: usize) -> usize
+#[tactic(auto, unfolding(crate::specs::Text::fixed_of))]
+fn fixed_fields(stage: Stage) -> usize
     ensures { (result ≡ fixed_of stage) × (0 < result) × (result ≤ 7) }
 {
     match stage {
-        1 => 4,
-        2 => 1,
-        5 => 3,
-        7 => 3,
+        Stage::Read => 4,
+        Stage::Pair => 1,
+        Stage::Walk | Stage::Fans => 3,
         _ => 2,
     }
 }
 
 // Whether the second field of a row counts further ones: 1 if so, else 0.
-fn counted_fields(stage: usize) -> usize
+#[tactic(auto, unfolding(crate::specs::Text::counted_of))]
+fn counted_fields(stage: Stage) -> usize
     ensures { (result ≡ counted_of stage) × (result ≤ 2) }
 {
     match stage {
-        6 => 1,
-        10 => 1,
-        11 => 1,
+        Stage::Loops | Stage::Shells | Stage::Lumps => 1,
         _ => 0,
     }
 }
 
-// A line for each row of a stage, by the stage's number from 1 to 11.
-fn put_stage_rows(page: &mut [u8], stage: usize, bytes: &[u8]) -> usize
+// A line for each row of a stage.
+fn put_stage_rows(page: &mut [u8], stage: Stage, bytes: &[u8]) -> usize
     requires { length bytes.now < 4294967296 }
     ensures { Wrote page.old 0 (flat_map row_text (stage_rows stage bytes.now)) page.new result }
 {
-    if stage == 8 {
-        return put_joining(page, bytes);
+    match stage {
+        Stage::Edges | Stage::Joining => put_joining(page, bytes),
+        _ => {
+            let fixed = fixed_fields(stage);
+            let counted = counted_fields(stage);
+            put_rows(page, 0, bytes, fixed, counted)
+        }
     }
-    if stage == 9 {
-        return put_joining(page, bytes);
-    }
-    let fixed = fixed_fields(stage);
-    let counted = counted_fields(stage);
-    put_rows(page, 0, bytes, fixed, counted)
 }
 
 // The lines of a stage's answer, with its fields at the start of the output.
-pub fn put_stage(page: &mut [u8], stage: usize, out: &[u8], ending: Ending) -> usize
+pub fn put_stage(page: &mut [u8], stage: Stage, out: &[u8], ending: Result<usize, Refusal>) -> usize
     requires { length out.now < 4294967296 }
     ensures { Wrote page.old 0 (stage_text stage out.now ending) page.new result }
 {
     match ending {
-        Ending::Written(n) => {
+        Ok(n) => {
             let bytes = front(out, n);
             put_stage_rows(page, stage, bytes)
         }
-        Ending::Refused(number, place) => put_refusal(page, number, place),
+        Err(refusal) => put_refusal(page, refusal.fault.number(), refusal.place),
     }
 }
 
-// The number of a stage by its name; 0 for any other name.
-pub fn stage_number(name: &[u8]) -> usize
-    ensures { result ≡ stage_number name.now }
+// The name of a stage.
+#[tactic(auto, unfolding(crate::specs::Text::stage_name))]
+fn stage_name(stage: Stage) -> &'static [u8]
+    ensures { result.now ≡ stage_name stage }
 {
-    if is_same(name, b"read") {
-        return 1;
+    match stage {
+        Stage::Read => b"read",
+        Stage::Pair => b"pair",
+        Stage::Merge => b"merge",
+        Stage::VertexLoops => b"vertex-loops",
+        Stage::Walk => b"walk",
+        Stage::Loops => b"loops",
+        Stage::Fans => b"fans",
+        Stage::Edges => b"edges",
+        Stage::Joining => b"joining",
+        Stage::Shells => b"shells",
+        Stage::Lumps => b"lumps",
     }
-    if is_same(name, b"pair") {
-        return 2;
+}
+
+// The stages in their order.
+const STAGES: [Stage; 11] = [
+    Stage::Read,
+    Stage::Pair,
+    Stage::Merge,
+    Stage::VertexLoops,
+    Stage::Walk,
+    Stage::Loops,
+    Stage::Fans,
+    Stage::Edges,
+    Stage::Joining,
+    Stage::Shells,
+    Stage::Lumps,
+];
+
+// The stage of a name, if there is one.
+pub fn stage_named(name: &[u8]) -> Option<Stage>
+    ensures { result ≡ stage_named name.now }
+{
+    for stage in STAGES {
+        if is_same(name, stage_name(stage)) {
+            return Some(stage);
+        }
     }
-    if is_same(name, b"merge") {
-        return 3;
-    }
-    if is_same(name, b"vertex-loops") {
-        return 4;
-    }
-    if is_same(name, b"walk") {
-        return 5;
-    }
-    if is_same(name, b"loops") {
-        return 6;
-    }
-    if is_same(name, b"fans") {
-        return 7;
-    }
-    if is_same(name, b"edges") {
-        return 8;
-    }
-    if is_same(name, b"joining") {
-        return 9;
-    }
-    if is_same(name, b"shells") {
-        return 10;
-    }
-    if is_same(name, b"lumps") {
-        return 11;
-    }
-    0
+    None
 }

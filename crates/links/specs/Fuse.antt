@@ -32,52 +32,35 @@ pub own_last : (stretches : List ℕ) (size k : ℕ) → length stretches ≤ 2 
 unfolding own_end
 own_last stretches size k h = sym (ap (λ c. cond c (get_or stretches (2 * k + 2) 0) size) (le-ltb (2 * k + 3) (length stretches) h))
 
-pub turned_is : (codes nexts head codes' nexts' head' : List ℕ) (start p x q after : ℕ) → q ≡ get_or nexts (p - start) 0 → after ≡ get_or nexts (q - start) 0 → codes' ≡ set codes (p - start) x
-    → nexts' ≡ set nexts (p - start) after → head' ≡ set head 0 p → Turned codes nexts head start p x codes' nexts' head'
-turned_is codes nexts head codes' nexts' head' start p x q after eq ea ec en eh = record {
-  items = ec;
-  links = en ∙ ap (set nexts (p - start)) (ea ∙ ap (λ z. get_or nexts (z - start) 0) eq);
-  front = eh;
-}
-
 -- the slot of the item y, its loop, and where the loop's own stretch starts and ends, as the code finds them
-module _ (t : Links) (y x p k start bound : ℕ) (can : Fusable t y) (ep : p ≡ get_or t.spots y 0) (ek : k ≡ get_or t.owners p 0) (es : start ≡ get_or t.stretches (2 * k) 0)
+module _ (t : Links) (y p k start bound : ℕ) (can : Fusable t y) (ep : p ≡ get_or t.spots y 0) (ek : k ≡ get_or t.owners p 0) (es : start ≡ get_or t.stretches (2 * k) 0)
     (eb : bound ≡ own_end t.stretches (length t.codes) k) where
   here_can : FusableIn t k p
   here_can = subst (λ z. FusableIn t z p) (sym ek) (subst (λ z. FusableIn t (get_or t.owners z 0) z) (sym ep) can)
 
   -- a loop's own stretch is there to be lent, and slot p lies in it
-  pub end_there : (e : ℕ) → e ≡ get_or t.stretches (2 * k + 1) 0 → 1 ≤ e
-  end_there e ee = omega (arith, here_can.ending)
-
-  pub lent_order : start ≤ bound
-  lent_order = omega (arith, here_can.own.from_start, here_can.own.to_end)
-
-  pub lent_codes : bound ≤ length t.codes
+  lent_codes : bound ≤ length t.codes
   lent_codes = omega (arith, here_can.held.codes_hold)
 
-  pub lent_nexts : bound ≤ length t.nexts
+  lent_nexts : bound ≤ length t.nexts
   lent_nexts = omega (arith, here_can.held.nexts_hold)
 
-  pub lent_head : k + 1 ≤ length t.heads
+  lent_head : k + 1 ≤ length t.heads
   lent_head = omega (arith, here_can.held.room)
 
-  pub slot_after : start ≤ p
+  slot_after : start ≤ p
   slot_after = omega (arith, here_can.own.from_start)
 
   next_is : get_or (stretch t.nexts start bound) (p - start) 0 ≡ get_or t.nexts p 0
   next_is = part_get t.nexts start bound p 0 slot_after (omega (arith, here_can.own.to_end))
 
-  pub next_after_lem : start ≤ get_or (stretch t.nexts start bound) (p - start) 0
-  next_after_lem = omega (arith, next_is, here_can.next_own.from_start)
-
   -- what stands in the tables when the lent parts are back
-  pub fuse_is : (e : ℕ) (codes nexts head spots stretches : List ℕ) → e ≡ get_or t.stretches (2 * k + 1) 0 → Turned (stretch t.codes start bound) (stretch t.nexts start bound)
+  pub fuse_is : (x e : ℕ) (codes nexts head spots stretches : List ℕ) → e ≡ get_or t.stretches (2 * k + 1) 0 → Turned (stretch t.codes start bound) (stretch t.nexts start bound)
       (stretch t.heads k (k + 1)) start p x codes nexts head
       → spots ≡ set t.spots x p → stretches ≡ set t.stretches (2 * k + 1) (e - 1)
       → links_of (put_mid start (bound - start) t.codes codes) (put_mid start (bound - start) t.nexts nexts) (put_mid k ((k + 1) - k) t.heads head) t.owners spots stretches ≡ fused_at t y x
   unfolding fused_in
-  fuse_is e codes nexts head spots stretches ee w es' et =
+  fuse_is x e codes nexts head spots stretches ee w es' et =
       let after : get_or (stretch t.nexts start bound) (get_or (stretch t.nexts start bound) (p - start) 0 - start) 0 ≡ get_or t.nexts (get_or t.nexts p 0) 0 =
       ap (λ z. get_or (stretch t.nexts start bound) (z - start) 0) next_is
       ∙ part_get t.nexts start bound (get_or t.nexts p 0) 0 (omega (arith, here_can.next_own.from_start)) (omega (arith, here_can.next_own.to_end)) in

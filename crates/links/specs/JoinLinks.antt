@@ -38,16 +38,6 @@ loops_of t = map (loop_of t) (below (length t.stretches / 2))
 unfoldable pub in_code : List EdgeData → ℕ → ℕ → ℕ
 in_code es v a = 2 * a + sense_number (in_sense v (edge_data_at es a))
 
-pub in_reversed : (es : List EdgeData) (v a s : ℕ) → s ≡ (edge_data_at es a).start → s ≡ v → 2 * a + 1 ≡ in_code es v a
-unfolding in_code
-in_reversed es v a s e h = sym (ap (λ c. 2 * a + sense_number (cond c Reversed Same)) (eq-eqb (edge_data_at es a).start v (sym e ∙ h)))
-
-pub in_same : (es : List EdgeData) (v a s : ℕ) → s ≡ (edge_data_at es a).start → (s ≡ v → ⊥) → 2 * a ≡ in_code es v a
-unfolding in_code
-in_same es v a s e h =
-    let z : 2 * a ≡ 2 * a + 0 = omega arith in
-    z ∙ sym (ap (λ c. 2 * a + sense_number (cond c Reversed Same)) (ne_eqb (edge_data_at es a).start v (λ q. h (e ∙ q))))
-
 in_code_lem : (es : List EdgeData) (v a : ℕ) → item_in (in_code es v a) ≡ in_item es v a
 unfolding in_code
 in_code_lem es v a = item_is a (in_sense v (edge_data_at es a))
@@ -220,7 +210,8 @@ module _ (es : List EdgeData) (v a b : ℕ) (two : TwoEdges es v a b) (t : Links
   second_now =
       ap (map item_in) second_fused.own
       ∙ (λ i. item_is (length es) Reversed i ∷ second_at.are i)
-      ∙ sym (joined_found es v a b (loop_of t kb) (in_item es v b) (out_item es v a) second_loop.2 ∙ ap (λ h. new_item es (cond h Same Reversed) ∷ second_loop.2.rest) (ne_eqb b a (λ (q : b ≡ a). omega (arith, two.lower))))
+      ∙ sym (joined_found es v a b (loop_of t kb) (in_item es v b) (out_item es v a) second_loop.2
+      ∙ ap (λ h. new_item es (cond h Same Reversed) ∷ second_loop.2.rest) (ne_eqb b a (λ (q : b ≡ a). omega (arith, two.lower))))
 
   other_now : (j : ℕ) → IsLoop t.stretches j → (j ≡ ka → ⊥) → (j ≡ kb → ⊥) → loop_of twice j ≡ joined_items es v a b (loop_of t j)
   other_now j q na nb =

@@ -25,10 +25,6 @@ lay_step codes nexts l m w i e p q x h b ex eq em =
     let s : i + 1 ≡ suc i = add-one i in
     (λ k. sets ((em ∙ ap (set l i) ex) k) (s k) (codes_at codes (follow nexts (eq k) n))) ∙ ap (λ k. sets l i (codes_at codes (follow nexts p k))) z ∙ h
 
-pub lay_done : (codes nexts l w : List ℕ) (i e p : ℕ) → sets l i (codes_at codes (follow nexts p (e - i))) ≡ w → e ≤ i → l ≡ w
-unfolding follow
-lay_done codes nexts l w i e p h b = let z : 0 ≡ e - i = omega arith in ap (λ k. sets l i (codes_at codes (follow nexts p k))) z ∙ h
-
 -- ALL LOOPS
 
 -- a run of stores over a whole list
@@ -45,10 +41,14 @@ ring_size : (codes nexts : List ℕ) (x n : ℕ) → length (codes_at codes (fol
 ring_size codes nexts x n = length-map (follow nexts x n) (λ s. get_or codes s 0) ∙ length_follow nexts x n
 
 -- a loop's own stretch is its items, from the head on
-pub lay_whole : (codes nexts l m : List ℕ) (head n : ℕ) → n ≡ length l → m ≡ sets l 0 (codes_at codes (follow nexts head (n - 0))) → m ≡ codes_at codes (follow nexts head (length l))
-lay_whole codes nexts l m head n en e =
-    let z : n - 0 ≡ length l = omega arith in
-    e ∙ ap (λ k. sets l 0 (codes_at codes (follow nexts head k))) z ∙ sets_whole l (codes_at codes (follow nexts head (length l))) (ring_size codes nexts head (length l))
+pub lay_done : (codes nexts l₀ l : List ℕ) (head i p : ℕ) → sets l i (codes_at codes (follow nexts p (length l₀ - i))) ≡ sets l₀ 0 (codes_at codes (follow nexts head (length l₀ - 0))) → length l₀ ≤ i
+    → l ≡ codes_at codes (follow nexts head (length l₀))
+unfolding follow
+lay_done codes nexts l₀ l head i p h b =
+    let none : 0 ≡ length l₀ - i = omega arith in
+    let all : length l₀ - 0 ≡ length l₀ = omega arith in
+    ap (λ k. sets l i (codes_at codes (follow nexts p k))) none ∙ h ∙ ap (λ k. sets l₀ 0 (codes_at codes (follow nexts head k))) all
+    ∙ sets_whole l₀ (codes_at codes (follow nexts head (length l₀))) (ring_size codes nexts head (length l₀))
 
 -- an earlier loop ends before a later one starts
 pub laid_before : (stretches items : List ℕ) → Laid stretches items → (j k : ℕ) → j < k → 2 * k + 1 < length stretches → get_or stretches (2 * j + 1) 0 ≤ get_or stretches (2 * k) 0
@@ -80,13 +80,12 @@ module _ (codes nexts heads stretches items₀ : List ℕ) where
   unfolding laid_upto
   upto_none = refl
 
-  pub upto_all : (items : List ℕ) (n k : ℕ) → items ≡ laid_upto codes nexts heads stretches items₀ k → n ≡ length stretches / 2 → n ≤ k → k ≤ n → items ≡ laid_out codes nexts heads stretches items₀
-  upto_all items n k e en low high = let z : k ≡ length stretches / 2 = omega arith in e ∙ ap (laid_upto codes nexts heads stretches items₀) z
-
   pub length_upto : (k : ℕ) → length (laid_upto codes nexts heads stretches items₀ k) ≡ length items₀
   unfolding laid_upto
   length_upto zero = refl
-  length_upto (suc k) = length-sets (laid_upto codes nexts heads stretches items₀ k) (get_or stretches (2 * k) 0) (codes_at codes (follow nexts (get_or heads k 0) (size_at stretches k))) ∙ length_upto k
+  length_upto (suc k) =
+      length-sets (laid_upto codes nexts heads stretches items₀ k) (get_or stretches (2 * k) 0) (codes_at codes (follow nexts (get_or heads k 0) (size_at stretches k)))
+      ∙ length_upto k
 
   module _ (laid : Laid stretches items₀) where
     part : (k : ℕ) → IsLoop stretches k
@@ -94,26 +93,27 @@ module _ (codes nexts heads stretches items₀ : List ℕ) where
         ≡ put_mid (get_or stretches (2 * k) 0) (size_at stretches k) (laid_upto codes nexts heads stretches items₀ k) (codes_at codes (follow nexts (get_or heads k 0) (size_at stretches k)))
     unfolding laid_upto
     part k q =
-        sets_part (get_or stretches (2 * k) 0) (get_or stretches (2 * k + 1) 0) (laid_upto codes nexts heads stretches items₀ k) (codes_at codes (follow nexts (get_or heads k 0) (size_at stretches k))) (laid.order k q)
-        (omega (arith, laid.inside k q, length_upto k)) (ring_size codes nexts (get_or heads k 0) (size_at stretches k))
+        sets_part (get_or stretches (2 * k) 0) (get_or stretches (2 * k + 1) 0) (laid_upto codes nexts heads stretches items₀ k)
+        (codes_at codes (follow nexts (get_or heads k 0) (size_at stretches k))) (laid.order k q) (omega (arith, laid.inside k q, length_upto k))
+        (ring_size codes nexts (get_or heads k 0) (size_at stretches k))
 
     -- the loop k laid out in its own stretch
-    pub upto_part : (items own : List ℕ) (k head start end : ℕ) → k < length stretches / 2 → items ≡ laid_upto codes nexts heads stretches items₀ k → head ≡ get_or heads k 0 → start ≡ get_or stretches (2 * k) 0
-        → end ≡ get_or stretches (2 * k + 1) 0 → own ≡ codes_at codes (follow nexts head (length (stretch items start end)))
-        → (put_mid start (end - start) items own ≡ laid_upto codes nexts heads stretches items₀ (k + 1)) × (length (put_mid start (end - start) items own) ≡ length items₀)
+    pub upto_part : (items own : List ℕ) (k head start end : ℕ) → k < length stretches / 2 → items ≡ laid_upto codes nexts heads stretches items₀ k
+        → head ≡ get_or heads k 0 → start ≡ get_or stretches (2 * k) 0 → end ≡ get_or stretches (2 * k + 1) 0
+        → own ≡ codes_at codes (follow nexts head (length (stretch items start end)))
+        → put_mid start (end - start) items own ≡ laid_upto codes nexts heads stretches items₀ (k + 1)
     upto_part items own k head start end b e eh es ee eo =
         let q : IsLoop stretches k = omega arith in
         let inside : end ≤ length items = omega (arith, laid.inside k q, ap length e ∙ length_upto k) in
         let ring : own ≡ codes_at codes (follow nexts head (end - start)) = eo ∙ ap (λ n. codes_at codes (follow nexts head n)) (length_stretch items start end inside) in
-        let more : put_mid start (end - start) items own ≡ laid_upto codes nexts heads stretches items₀ (k + 1)
-        = (λ i. put_mid (es i) (ee i - es i) (e i) (ring i))
+        (λ i. put_mid (es i) (ee i - es i) (e i) (ring i))
         ∙ ap (λ h. put_mid (get_or stretches (2 * k) 0) (size_at stretches k) (laid_upto codes nexts heads stretches items₀ k) (codes_at codes (follow nexts h (end - start)))) eh
         ∙ (λ i. put_mid (get_or stretches (2 * k) 0) (size_at stretches k) (laid_upto codes nexts heads stretches items₀ k) (codes_at codes (follow nexts (get_or heads k 0) (ee i - es i))))
-        ∙ sym (part k q) ∙ ap (laid_upto codes nexts heads stretches items₀) (sym (add-one k)) in
-        (more, ap length more ∙ length_upto (k + 1))
+        ∙ sym (part k q) ∙ ap (laid_upto codes nexts heads stretches items₀) (sym (add-one k))
 
     -- what lies in the stretches of the loops below k
-    loops_upto : (k : ℕ) → k ≤ length stretches / 2 → (j : ℕ) → j < k → loop_at (laid_upto codes nexts heads stretches items₀ k) stretches j ≡ codes_at codes (follow nexts (get_or heads j 0) (size_at stretches j))
+    loops_upto : (k : ℕ) → k ≤ length stretches / 2 → (j : ℕ) → j < k
+        → loop_at (laid_upto codes nexts heads stretches items₀ k) stretches j ≡ codes_at codes (follow nexts (get_or heads j 0) (size_at stretches j))
     loops_upto zero h j b = absurd (not-suc-le-zero b)
     loops_upto (suc k) h j b =
         let q : IsLoop stretches k = omega arith in
@@ -129,7 +129,8 @@ module _ (codes nexts heads stretches items₀ : List ℕ) where
               (ap (λ m. stretch m a e) (part k q) ∙ own_part a e l ring (laid.order k q) inside size)
           | no n ↦
               ap (λ m. loop_at m stretches j) (part k q)
-              ∙ before_part a e l ring (laid.order k q) inside size (get_or stretches (2 * j) 0) (get_or stretches (2 * j + 1) 0) (laid.order j p) (laid_before stretches items₀ laid j k (omega (arith, n)) q)
+              ∙ before_part a e l ring (laid.order k q) inside size (get_or stretches (2 * j) 0) (get_or stretches (2 * j + 1) 0) (laid.order j p)
+              (laid_before stretches items₀ laid j k (omega (arith, n)) q)
               ∙ loops_upto k (omega arith) j (omega (arith, n))
         ]
 
@@ -143,13 +144,6 @@ module _ (codes nexts heads stretches items₀ : List ℕ) where
         part k q
         ∙ (λ i. put_mid (get_or stretches (2 * k) 0) (size_at stretches k) (same_upto same k (omega arith) i) (same k q i))
         ∙ put_same (get_or stretches (2 * k) 0) (size_at stretches k) items₀
-
--- a loop's stretch, as a layer reads it, lies in the list
-pub reads_order : (stretches items : List ℕ) → Laid stretches items → (k start end : ℕ) → k < length stretches / 2 → start ≡ get_or stretches (2 * k) 0 → end ≡ get_or stretches (2 * k + 1) 0 → start ≤ end
-reads_order stretches items laid k start end b es ee = omega (arith, laid.order k (omega arith))
-
-pub reads_inside : (stretches items now : List ℕ) → Laid stretches items → (k end : ℕ) → k < length stretches / 2 → end ≡ get_or stretches (2 * k + 1) 0 → length now ≡ length items → end ≤ length now
-reads_inside stretches items now laid k end b ee same = omega (arith, laid.inside k (omega arith))
 
 -- BY LINKED TABLES
 

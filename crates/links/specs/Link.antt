@@ -55,9 +55,6 @@ pub record Linking (items stretches codes nexts owners spots : List ℕ) (k s : 
   pub ready : Linkable items stretches codes nexts owners spots
   pub slots : (j r : ℕ) → InLoop stretches j r → Reached k s j r → SlotLinked items stretches codes nexts owners spots j r
 
-pub linking_none : (items stretches codes nexts owners spots : List ℕ) → Linkable items stretches codes nexts owners spots → Linking items stretches codes nexts owners spots 0 0
-linking_none items stretches codes nexts owners spots h = record { ready = h; slots = λ j r q w. absurd (⊎_elim (λ z. not-suc-le-zero z) (λ z. not-suc-le-zero z.1) w) }
-
 -- a slot lies in one loop
 in_one : (stretches items : List ℕ) → Laid stretches items → (j k r : ℕ) → InLoop stretches j r → InLoop stretches k r → j ≡ k
 in_one stretches items laid j k r p q =
@@ -140,20 +137,6 @@ module _ (items stretches codes nexts owners spots : List ℕ) (k : ℕ) where
 pub record Headed (stretches heads₀ heads : List ℕ) (k : ℕ) : Type 0 where
   pub size : length heads ≡ length heads₀
   pub starts : (j : ℕ) → j < k → IsLoop stretches j → get_or heads j 0 ≡ get_or stretches (2 * j) 0
-
-pub headed_none : (stretches heads : List ℕ) → Headed stretches heads heads 0
-headed_none stretches heads = record { size = refl; starts = λ j h. absurd (not-suc-le-zero h) }
-
-pub headed_more : (stretches heads₀ heads heads' : List ℕ) (k start : ℕ) → length stretches ≤ 2 * length heads₀ → Headed stretches heads₀ heads k → start ≡ get_or stretches (2 * k) 0
-    → heads' ≡ set heads k start → Headed stretches heads₀ heads' (k + 1)
-headed_more stretches heads₀ heads heads' k start fit u e eh = record {
-  size = ap length eh ∙ length-set heads k start ∙ u.size;
-  starts = λ j h q.
-      elim (ℕ_discrete j k) [
-        | yes z ↦ ap (λ l. get_or l j 0) eh ∙ ap (λ i. get_or (set heads k start) i 0) z ∙ get_or-set_same heads k start 0 (omega (arith, u.size)) ∙ e ∙ ap (λ i. get_or stretches (2 * i) 0) (sym z)
-        | no n ↦ ap (λ l. get_or l j 0) eh ∙ get_or-set_other heads k j start 0 n ∙ u.starts j (omega (arith, n)) q
-      ];
-}
 
 -- ALL LOOPS
 

@@ -125,7 +125,8 @@ module _ (es : List EdgeData) (items stretches : List ℕ) (laid : Laid stretche
   pub sound_known : (j r : ℕ) → InLoop stretches j r → get_or items r 0 < 2 * length es
   sound_known j r p =
       let x : ℕ = get_or items r 0 in
-      let z : x / 2 < length es = active_inside es (x / 2) ((loop_sound es (laid_loops items stretches) sound (laid_loop items stretches j) (loop_there j p.is)).actives (item_in x) (stands_in_loop j r p)) in
+      let z : x / 2 < length es =
+      active_inside es (x / 2) ((loop_sound es (laid_loops items stretches) sound (laid_loop items stretches j) (loop_there j p.is)).actives (item_in x) (stands_in_loop j r p)) in
       omega arith
 
   pub sound_linkable : (codes nexts owners spots : List ℕ) → length items ≤ length codes → length codes ≤ length nexts → length items ≤ length owners → 2 * length es ≤ length spots

@@ -17,6 +17,7 @@ use fields::{get, put};
 // LINKING
 
 // The slot after s in the loop from `start` to `end`.
+#[tactic(auto, unfolding(crate::specs::Link::next_slot))]
 fn next_slot(start: usize, end: usize, s: usize) -> usize
     requires { (start < 4294967296) × (s < end) × (end < 4294967296) }
     ensures { (result ≡ next_slot start end s) × (result < 4294967296) }
@@ -42,15 +43,13 @@ fn link_loop(
 {
     let start = get(stretches, 2 * k);
     let end = get(stretches, 2 * k + 1);
-    let mut s = start;
-    while s < end {
+    for s in start..end {
         let x = get(items, s);
         let q = next_slot(start, end, s);
         put(list, s, x);
         put(nexts, s, q);
         put(owners, s, k);
         put(spots, x, s);
-        s += 1;
     }
 }
 
@@ -67,19 +66,16 @@ pub fn link_loops(
     requires { Linkable items.now stretches.now list.old nexts.old owners.old spots.old × (length stretches.now ≤ 2 * length heads.old) × (length stretches.now < 4294967296) }
     ensures { LinkedLoops items.now (links_of list.new nexts.new heads.new owners.new spots.new stretches.now) }
 {
-    let n = stretches.len() / 2;
-    let mut k: usize = 0;
-    while k < n {
+    for k in 0..stretches.len() / 2 {
         link_loop(items, stretches, list, nexts, owners, spots, k);
-        let start = get(stretches, 2 * k);
-        put(heads, k, start);
-        k += 1;
+        put(heads, k, get(stretches, 2 * k));
     }
 }
 
 // A JOIN
 
 // Where loop k's own stretch of a list of that size ends: where the next loop starts, or at the list's end.
+#[tactic(auto, unfolding(crate::specs::Tables::own_end))]
 fn own_end(stretches: &[u32], size: usize, k: usize) -> usize
     requires { k < 4294967296 }
     ensures { result ≡ own_end stretches.now size k }
@@ -142,14 +138,12 @@ fn fuse(
 }
 
 // The item of edge a that ends at corner v.
+#[tactic(auto, unfolding(crate::specs::JoinLinks::in_code))]
 fn in_code(rows: &[u32], v: usize, a: usize) -> usize
     requires { a < 2147483648 }
     ensures { result ≡ in_code (rows_in rows.now) v a }
 {
-    if edge_start(rows, a) == v {
-        return 2 * a + 1;
-    }
-    2 * a
+    2 * a + usize::from(edge_start(rows, a) == v)
 }
 
 // The join of edges a and b at corner v: where an item of either ends there, it and the next become the new edge's.
@@ -181,14 +175,10 @@ pub fn join_places(
 fn lay_loop(list: &[u32], nexts: &[u32], head: usize, part: &mut [u32])
     ensures { part.new ≡ codes_at list.now (follow nexts.now head (length part.old)) }
 {
-    let n = part.len();
     let mut p = head;
-    let mut i: usize = 0;
-    while i < n {
-        let x = get(list, p);
-        put(part, i, x);
+    for x in part.iter_mut() {
+        *x = get(list, p) as u32;
         p = get(nexts, p);
-        i += 1;
     }
 }
 
@@ -197,13 +187,9 @@ pub fn lay_loops(list: &[u32], nexts: &[u32], heads: &[u32], stretches: &[u32], 
     requires { Laid stretches.now items.old }
     ensures { items.new ≡ laid_out list.now nexts.now heads.now stretches.now items.old }
 {
-    let n = stretches.len() / 2;
-    let mut k: usize = 0;
-    while k < n {
-        let head = get(heads, k);
+    for k in 0..stretches.len() / 2 {
         let start = get(stretches, 2 * k);
         let end = get(stretches, 2 * k + 1);
-        lay_loop(list, nexts, head, &mut items[start..end]);
-        k += 1;
+        lay_loop(list, nexts, get(heads, k), &mut items[start..end]);
     }
 }

@@ -1,5 +1,5 @@
 -- What holds after a record that is taken: the job, the index, for each kind.
-use Rattle.std.specs.Prelude.{ℕ, zero, suc, ◌+◌, ◌*◌, ◌-◌, ◌/◌, ◌<◌, List, true, false, ◌&&◌, length, set, eqb, ltb, leb}
+use Rattle.std.specs.Prelude.{ℕ, zero, suc, ◌+◌, ◌*◌, ◌-◌, ◌/◌, ◌<◌, List, true, false, ◌&&◌, length, set, eqb, ltb, leb, Option, Some, None, is_some}
 use Rattle.std.proofs.Common.{arith, ap, ◌∙◌, true≢false, leb-false}
 use Rattle.std.proofs.Math.Path.{◌≡◌, refl, sym}
 use Rattle.std.proofs.Math.Bool.{cond}
@@ -10,7 +10,7 @@ use Rattle.rules.specs.declared.Kind.TheVariants.{Unknown, Head, Vertex, EdgeRec
 use Rattle.rules.specs.declared.Counts.{Counts}
 use Rattle.rules.specs.Fields.{le16, le32}
 use Rattle.rules.proofs.FieldLaws.{length_fields}
-use Rattle.rules.specs.Questions.{Found, missing, found, find, is_found}
+use Rattle.rules.specs.Questions.{find}
 use Rattle.rules.specs.Job.{of_items, at_vertex, items_of}
 use Rattle.rules.specs.Kinds.{kind_of, number_of, part_of, is_answer, right_length, right_position, limit_passed, question_of}
 use Rattle.rules.specs.Load.{counted, loop_of, extended, answered_before}
@@ -48,9 +48,9 @@ pub fields_count : (bytes : List ℕ) (at : ℕ) → length (fields_at bytes at)
 unfolding fields_at
 fields_count bytes at = length_fields (le32 bytes at / 4) _
 
-not_found : (f : Found) → is_found f ≡ false → f ≡ missing
-not_found missing e = refl
-not_found (found v) e = absurd (true≢false e)
+not_found : (f : Option (List ℕ)) → is_some f ≡ false → f ≡ None
+not_found None e = refl
+not_found (Some v) e = absurd (true≢false e)
 
 module _ (bytes ix : List ℕ) (c : Counts) (at : ℕ) (P : Placed c at) (L : Limited c) (I : Indexed bytes ix c) where
   abbrev x : List ℕ
@@ -115,7 +115,7 @@ module _ (bytes ix : List ℕ) (c : Counts) (at : ℕ) (P : Placed c at) (L : Li
   answer_indexed a l b low d e =
       let k = kind_of (le16 bytes (at + 4)) in
       let f = find (answers_in bytes ix c) (number_of k) (question_of k x) in
-      let new : f ≡ missing = not_found f (sym (ap (λ t. t && is_found f) a) ∙ b) in
+      let new : f ≡ None = not_found f (sym (ap (λ t. t && is_some f) a) ∙ b) in
       indexed_enter bytes ix c at I low (a, l) new d e
 
   told : (k : Kind) → kind_of (le16 bytes (at + 4)) ≡ k → is_answer k ≡ true → right_length k (le32 bytes at) ≡ true → answered_before k (answers_in bytes ix c) x ≡ false

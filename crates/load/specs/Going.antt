@@ -1,30 +1,26 @@
 -- Loading record by record: what holds where the next record begins, and that the whole is what follows from there.
-use Rattle.std.specs.Prelude.{ℕ, ◌+◌, ◌*◌, ◌/◌, ◌<◌, ◌≤◌, ◌≡◌, refl, List, Bool, true, false, length, drop}
+use Rattle.std.specs.Prelude.{ℕ, ◌+◌, ◌*◌, ◌/◌, ◌<◌, ◌≤◌, ◌≡◌, List, true, false, length, drop}
 use Rattle.std.proofs.Common.{arith, sym, ap, ◌∙◌, subst}
 use Rattle.rules.specs.declared.Kind.{Kind}
 use Rattle.rules.specs.declared.Kind.TheVariants.{FaceRecord}
 use Rattle.rules.specs.declared.Counts.{Counts}
 use Rattle.rules.specs.Fields.{le16, le32}
-use Rattle.rules.specs.Outcome.{ok, refuse}
+use Rattle.rules.specs.declared.Fault.TheVariants.{CutShort}
+use Rattle.rules.specs.Outcome.{Ok, refuse, need}
 use Rattle.rules.specs.Frame.{whole_record, frame_at, taking}
 use Rattle.rules.proofs.FrameLaws.{frame_is, taking_is, whole_within}
 use Rattle.rules.specs.Kinds.{kind_of, is_loop, is_answer, right_length}
-use Rattle.rules.specs.Load.{counted, extended, load_record, loading}
+use Rattle.rules.specs.Load.{counted, extended, load_record}
 use Rattle.theorems.specs.Sound.{Limited}
 use Rattle.job.specs.Lists.{fields_at, job_in}
 use Rattle.answers.specs.Index.{Indexed}
 use Rattle.selected.specs.Sources.{Sourced}
 use Rattle.records.specs.Limits.{whole_fields, limited_kept, loop_part, answer_room}
-use Rattle.load.specs.declared.Stepped.{Stepped}
-use Rattle.load.specs.declared.Stepped.TheVariants.{Refused, Taken}
-use Rattle.load.specs.declared.Loaded.{Loaded}
-use Rattle.load.specs.declared.Loaded.TheVariants.{Refused as Refusal, Done}
 use Rattle.load.specs.Placed.{Placed, placed_kept}
 use Rattle.load.specs.Kept.{kept_index}
 use Rattle.load.specs.After.{fields_count, job_kept, indexed_kept}
 use Rattle.load.specs.SourcesKept.{kept_sources, face_room, sourced_kept}
-use Rattle.load.specs.Verdicts.{stop_whole}
-use Rattle.load.specs.Judged.{state_in, record_at, Passed, Judged}
+use Rattle.load.specs.Judged.{state_in, record_at, taken_at, Passed, passed}
 
 -- what holds of index and counts where the next record begins
 pub record Going (bytes ix t : List ℕ) (c : Counts) (at : ℕ) : Type 0 where
@@ -35,74 +31,79 @@ pub record Going (bytes ix t : List ℕ) (c : Counts) (at : ℕ) : Type 0 where
   pub indexed : Indexed bytes ix c
   pub sourced : Sourced bytes ix t c
 
--- what a step says of the record at a byte, by the index before and after and the table of faces after
-abbrev pub SteppedAs : List ℕ → List ℕ → List ℕ → List ℕ → Counts → ℕ → Stepped → Type 0
-SteppedAs bytes ix iy u c at (Refused n) = (iy ≡ ix) × (load_record (frame_at at (drop at bytes)) (state_in bytes ix c) ≡ refuse n at)
-SteppedAs bytes ix iy u c at (Taken d next) =
-    (load_record (frame_at at (drop at bytes)) (state_in bytes ix c) ≡ ok (state_in bytes iy d)) × (next ≡ at + taking (drop at bytes)) × (at < next) × Going bytes iy u d next
-
--- what loading answers
-abbrev pub LoadedAs : List ℕ → List ℕ → Loaded → Type 0
-LoadedAs bytes ix (Refusal n p) = loading bytes ≡ refuse n p
-LoadedAs bytes ix (Done c) = (loading bytes ≡ ok (record { counts = c; job = job_in bytes ix c })) × Indexed bytes ix c
+-- the next record: where it begins, and what holds there
+pub record OnTo (bytes ix t : List ℕ) (at : ℕ) (c : Counts) (next : ℕ) : Type 0 where
+  pub begins : next ≡ at + taking (drop at bytes)
+  pub further : at < next
+  pub going : Going bytes ix t c next
 
 -- ONE RECORD
 
 -- a record that is cut
-pub step_cut : (bytes ix u : List ℕ) (c : Counts) (at : ℕ) (t : Bool) → t ≡ whole_record (drop at bytes) → t ≡ false → SteppedAs bytes ix ix u c at (Refused 2)
-unfolding frame_at
-step_cut bytes ix u c at t e q = (refl, stop_whole (frame_at at (drop at bytes)) (state_in bytes ix c) (sym e ∙ q))
+pub step_cut : (bytes ix : List ℕ) (c : Counts) (at : ℕ) → whole_record (drop at bytes) ≡ false → load_record (frame_at at (drop at bytes)) (state_in bytes ix c) ≡ refuse CutShort at
+unfolding load_record need frame_at
+step_cut bytes ix c at w = rw w
 
 -- the record at a byte, where it is whole
-frame_here : (bytes ix : List ℕ) (c : Counts) (at : ℕ) → whole_record (drop at bytes) ≡ true
+pub frame_here : (bytes ix : List ℕ) (c : Counts) (at : ℕ) → whole_record (drop at bytes) ≡ true
     → load_record (frame_at at (drop at bytes)) (state_in bytes ix c) ≡ load_record (record_at bytes at) (state_in bytes ix c)
 unfolding fields_at
 frame_here bytes ix c at w = ap (λ f. load_record f (state_in bytes ix c)) (frame_is bytes at w)
 
-module _ (bytes ix : List ℕ) (c : Counts) (at : ℕ) (t : Bool) (w : t ≡ whole_record (drop at bytes)) (whole : t ≡ true) (k : Kind) where
-  -- one that is refused
-  pub step_refused : (u : List ℕ) (r : ℕ) → Judged bytes ix c at k r → 0 < r → SteppedAs bytes ix ix u c at (Refused r)
-  step_refused u r J h = (refl, frame_here bytes ix c at (sym w ∙ whole) ∙ J.refused h)
+-- a whole record that is taken
+module _ {bytes ix t : List ℕ} {c : Counts} {at : ℕ} {k : Kind} {size : ℕ} (G : Going bytes ix t c at) (kind : k ≡ kind_of (le16 bytes (at + 4))) (long : size ≡ le32 bytes at)
+    (T : load_record (record_at bytes at) (state_in bytes ix c) ≡ Ok (taken_at k bytes ix c at))
+  where
+    P : Passed bytes ix c at k
+    P = passed kind long T
 
-  -- one that is taken
-  pub step_taken : (iy v u : List ℕ) (d : Counts) (r size m next : ℕ) → Going bytes ix v c at → Judged bytes ix c at k r → r ≤ 0 → k ≡ kind_of (le16 bytes (at + 4)) → size ≡ le32 bytes at
-      → m ≡ size / 4 → iy ≡ kept_index k bytes ix c at → u ≡ kept_sources k bytes v c at → d ≡ counted k m c → next ≡ at + 6 + size → SteppedAs bytes ix iy u c at (Taken d next)
-  step_taken iy v u d r size m next G J z kind long half kept kept_too count end =
-      let P : Passed bytes ix c at k = J.passed (omega arith) in
-      let whole' = sym w ∙ whole in
-      let n : ℕ = length (fields_at bytes at) in
-      let nm : n ≡ m = fields_count bytes at ∙ sym (half ∙ ap (λ s. s / 4) long) in
-      let fields : le32 bytes at ≡ 4 * n = whole_fields k (le32 bytes at) P.right ∙ ap (λ s. 4 * s) (sym (fields_count bytes at)) in
-      let counts : counted k n c ≡ d = ap (λ s. counted k s c) nm ∙ sym count in
-      let job : extended k at (fields_at bytes at) (job_in bytes ix c) ≡ job_in bytes iy d =
-      sym (job_kept bytes ix c at G.placed G.limited G.indexed k (sym kind) P.right P.position P.limit) ∙ (λ i. job_in bytes (sym kept i) (counts i)) in
-      let there : at + 6 + 4 * n ≡ next = omega arith in
-      let takes = taking_is bytes at whole' in
-      let sourced : Sourced bytes iy u d =
-      subst (Sourced bytes iy u) counts (subst (λ l. Sourced bytes l u (counted k n c)) (sym kept)
-      (subst (λ l. Sourced bytes (kept_index k bytes ix c at) l (counted k n c)) (sym kept_too)
-      (sourced_kept bytes ix c at G.placed G.limited G.indexed v G.sourced k (sym kind) P.right P.position P.limit))) in (
-        frame_here bytes ix c at whole' ∙ P.taken ∙ (λ i. ok (record { counts = counts i; job = job i })),
-        omega arith,
-        omega arith,
+    -- what entering it in the index and among the faces asks
+    pub faces_some : is_loop k ≡ true → 0 < c.faces
+    faces_some t = G.placed.faced (loop_part k c.part t P.position)
+
+    pub faces_room : k ≡ FaceRecord → c.faces < 256
+    faces_room e = face_room k c (length (fields_at bytes at)) P.limit e
+
+    pub answers_room : is_answer k ≡ true → c.answers < 2048
+    answers_room t = answer_room k c (length (fields_at bytes at)) t P.limit
+
+    -- the counts after it, the index, and the faces
+    abbrev d : Counts
+    d = counted k (size / 4) c
+
+    abbrev iy : List ℕ
+    iy = kept_index k bytes ix c at
+
+    abbrev u : List ℕ
+    u = kept_sources k bytes t c at
+
+    counts : counted k (length (fields_at bytes at)) c ≡ d
+    counts = ap (λ n. counted k n c) (fields_count bytes at ∙ ap (λ s. s / 4) (sym long))
+
+    -- it is as the definitions have it
+    pub step_taken : whole_record (drop at bytes) ≡ true → Ok (state_in bytes iy d) ≡ load_record (frame_at at (drop at bytes)) (state_in bytes ix c)
+    step_taken w =
+        let job : job_in bytes iy d ≡ extended k at (fields_at bytes at) (job_in bytes ix c) =
+        ap (job_in bytes iy) (sym counts) ∙ job_kept bytes ix c at G.placed G.limited G.indexed k (sym kind) P.right P.position P.limit in
+        (λ i. Ok (record { counts = sym counts i; job = job i })) ∙ sym T ∙ sym (frame_here bytes ix c at w)
+
+    -- and the next one begins where it ends
+    pub step_on : whole_record (drop at bytes) ≡ true → OnTo bytes iy u at d (at + 6 + size)
+    step_on w =
+        let n = length (fields_at bytes at) in
+        let fields : size ≡ 4 * n = long ∙ whole_fields k (le32 bytes at) P.right ∙ ap (λ s. 4 * s) (sym (fields_count bytes at)) in
+        let there : at + 6 + 4 * n ≡ at + 6 + size = ap (λ s. at + 6 + s) (sym fields) in
+        let fits : right_length k (4 * n) ≡ true = ap (right_length k) (sym fields ∙ long) ∙ P.right in
         record {
-          small = G.small;
-          within = let h = whole_within bytes at whole' in omega arith;
-          placed = subst (λ e. Placed e next) counts (subst (Placed (counted k n c)) there
-              (placed_kept n c at G.placed k (ap (right_length k) (sym fields) ∙ P.right) P.position));
-          limited = subst Limited counts (limited_kept c G.limited k n P.limit);
-          indexed = subst (Indexed bytes iy) counts (subst (λ l. Indexed bytes l (counted k n c)) (sym kept)
-              (indexed_kept bytes ix c at G.placed G.limited G.indexed k (sym kind) P.right P.limit P.new));
-          sourced = sourced;
-        },
-      )
-
--- what entering a record in the index asks
-pub faces_some : (bytes ix : List ℕ) (c : Counts) (at : ℕ) (k : Kind) (r : ℕ) (v : List ℕ) → Going bytes ix v c at → Judged bytes ix c at k r → r ≤ 0 → is_loop k ≡ true → 0 < c.faces
-faces_some bytes ix c at k r v G J z t = G.placed.faced (loop_part k c.part t (J.passed (omega arith)).position)
-
-pub faces_room : (bytes ix : List ℕ) (c : Counts) (at : ℕ) (k : Kind) (r : ℕ) → Judged bytes ix c at k r → r ≤ 0 → k ≡ FaceRecord → c.faces < 256
-faces_room bytes ix c at k r J z e = face_room k c (length (fields_at bytes at)) (J.passed (omega arith)).limit e
-
-pub answers_room : (bytes ix : List ℕ) (c : Counts) (at : ℕ) (k : Kind) (r : ℕ) → Judged bytes ix c at k r → r ≤ 0 → is_answer k ≡ true → c.answers < 2048
-answers_room bytes ix c at k r J z t = answer_room k c (length (fields_at bytes at)) t (J.passed (omega arith)).limit
+          begins = omega (arith, taking_is bytes at w, long);
+          further = omega arith;
+          going = record {
+            small = G.small;
+            within = omega (arith, whole_within bytes at w, long);
+            placed = subst (λ e. Placed e (at + 6 + size)) counts (subst (Placed (counted k n c)) there (placed_kept n c at G.placed k fits P.position));
+            limited = subst Limited counts (limited_kept c G.limited k n P.limit);
+            indexed = subst (Indexed bytes iy) counts (indexed_kept bytes ix c at G.placed G.limited G.indexed k (sym kind) P.right P.limit P.new);
+            sourced = subst (Sourced bytes iy u) counts
+                (sourced_kept bytes ix c at G.placed G.limited G.indexed t G.sourced k (sym kind) P.right P.position P.limit);
+          };
+        }

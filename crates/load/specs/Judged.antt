@@ -1,29 +1,27 @@
--- The verdict on a whole record: the number of the first refusal, or 0 and that it is taken.
-use Rattle.std.specs.Prelude.{ℕ, ◌+◌, ◌*◌, ◌/◌, ◌<◌, ◌≡◌, refl, List, Bool, true, false, ◌&&◌, not, length, drop}
+-- The tests of a whole record, by its kind and length as the code reads them.
+use Rattle.std.specs.Prelude.{ℕ, ◌+◌, ◌/◌, ◌<◌, ◌≡◌, List, Bool, true, false, ◌&&◌, not, length, drop}
 use Rattle.std.proofs.Common.{arith, ◌∙◌, eqb-true}
 use Rattle.std.proofs.Math.Path.{sym, ap}
-use Rattle.std.proofs.lemmas.Bool.{not-true, not-false}
+use Rattle.std.proofs.lemmas.Bool.{not-true}
 use Rattle.lists.specs.Lists.{some}
 use Rattle.lists.specs.Tests.{and_both}
 use Rattle.rules.specs.declared.Kind.{Kind}
-use Rattle.rules.specs.declared.Kind.TheVariants.{Unknown, Head, Vertex, EdgeRecord, FaceRecord, LoopRecord, VertexLoop, Radial, Surface, Points, Curves, Singular, Orientation, Inside}
+use Rattle.rules.specs.declared.Kind.TheVariants.{FaceRecord}
 use Rattle.rules.specs.declared.Counts.{Counts}
 use Rattle.rules.specs.declared.Face.{Face}
 use Rattle.rules.specs.Fields.{le16, le32, fields_in}
-use Rattle.rules.specs.Outcome.{ok, refuse}
+use Rattle.rules.specs.Outcome.{Outcome, Ok, need}
+use Rattle.rules.proofs.OutcomeLaws.{need_ok}
 use Rattle.rules.specs.Frame.{Frame}
-use Rattle.rules.specs.Questions.{find, is_found}
-use Rattle.rules.specs.Job.{Answer}
-use Rattle.rules.specs.Kinds.{kind_of, number_of, is_answer, question_of, right_length, right_position, limit_passed, fields_permitted}
+use Rattle.rules.specs.Kinds.{kind_of, number_of, right_length, right_position, limit_passed, fields_permitted}
 use Rattle.rules.specs.Load.{Loading, counted, extended, same_source, selected_before, right_joints, answered_before, load_record}
 use Rattle.theorems.specs.Sound.{Limited}
 use Rattle.job.specs.Lists.{points_in, edges_in, fields_at, face_in, faces_in, answers_in, job_in}
 use Rattle.job.specs.FieldLaws.{face_is}
-use Rattle.answers.specs.Question.{RightAnswer}
 use Rattle.answers.specs.Index.{Indexed}
-use Rattle.records.specs.Limits.{whole_fields}
+use Rattle.records.specs.Apart.{other_kind}
 use Rattle.load.specs.After.{fields_count}
-use Rattle.load.specs.Verdicts.{stop_length, stop_position, stop_limit, stop_fields, stop_selected, stop_joints, stop_answered, record_taken}
+use Rattle.rules.specs.declared.Fault.TheVariants.{Misplaced, FieldNotPermitted, LimitPassed, LoopJoints, AnsweredTwice, SelectedTwice}
 
 -- what is loaded, as bytes, index and counts have it
 abbrev pub state_in : List ℕ → List ℕ → Counts → Loading
@@ -42,35 +40,53 @@ pub record Here (bytes ix : List ℕ) (c : Counts) (at : ℕ) (k : Kind) (size :
   pub long : size ≡ le32 bytes at
   pub small : size < 4294967296
 
--- the tests that a record has passed, and that it is taken
+-- what is loaded where the record at a byte is taken
+abbrev pub taken_at : Kind → List ℕ → List ℕ → Counts → ℕ → Loading
+taken_at k bytes ix c at = record { counts = counted k (length (fields_at bytes at)) c; job = extended k at (fields_at bytes at) (job_in bytes ix c) }
+
+-- the tests of a whole record by its kind and length as read; it is taken where all hold
+abbrev pub tests : Kind → ℕ → List ℕ → List ℕ → Counts → ℕ → Outcome Loading
+tests k size bytes ix c at =
+    need (right_length k size && right_position k c.part) Misplaced at
+    (need (not (limit_passed k c (size / 4))) LimitPassed at
+    (need (fields_permitted k c (fields_in (size / 4) (drop (at + 6) bytes))) FieldNotPermitted at
+    (need (not (selected_before k (faces_in bytes ix c) (fields_at bytes at))) SelectedTwice at
+    (need (right_joints k (points_in bytes c) (edges_in bytes c) (fields_in (size / 4) (drop (at + 6) bytes))) LoopJoints at
+    (need (not (answered_before k (answers_in bytes ix c) (fields_at bytes at))) AnsweredTwice at
+    (Ok (taken_at k bytes ix c at)))))))
+
+-- they are the definition's
+tested : (bytes ix : List ℕ) (c : Counts) (at : ℕ) (k : Kind) (size : ℕ) → k ≡ kind_of (le16 bytes (at + 4)) → size ≡ le32 bytes at
+    → load_record (record_at bytes at) (state_in bytes ix c) ≡ tests k size bytes ix c at
+unfolding load_record need fields_at job_in
+tested bytes ix c at k size kind long = rw (kind, long, fields_count)
+
+pub judged : {bytes ix : List ℕ} {c : Counts} {at : ℕ} {k : Kind} {size : ℕ} → Here bytes ix c at k size → load_record (record_at bytes at) (state_in bytes ix c) ≡ tests k size bytes ix c at
+judged {bytes} {ix} {c} {at} {k} {size} H = tested bytes ix c at k size H.kind H.long
+
+-- the tests that a record has passed
 pub record Passed (bytes ix : List ℕ) (c : Counts) (at : ℕ) (k : Kind) : Type 0 where
   pub right : right_length k (le32 bytes at) ≡ true
   pub position : right_position k c.part ≡ true
   pub limit : limit_passed k c (length (fields_at bytes at)) ≡ false
   pub new : answered_before k (answers_in bytes ix c) (fields_at bytes at) ≡ false
-  pub taken : load_record (record_at bytes at) (state_in bytes ix c)
-      ≡ ok (record { counts = counted k (length (fields_at bytes at)) c; job = extended k at (fields_at bytes at) (job_in bytes ix c) })
 
--- the verdict r
-pub record Judged (bytes ix : List ℕ) (c : Counts) (at : ℕ) (k : Kind) (r : ℕ) : Type 0 where
-  pub refused : 0 < r → load_record (record_at bytes at) (state_in bytes ix c) ≡ refuse r at
-  pub passed : r ≡ 0 → Passed bytes ix c at k
-
-stop : (bytes ix : List ℕ) (c : Counts) (at : ℕ) (k : Kind) (r : ℕ) → 0 < r → load_record (record_at bytes at) (state_in bytes ix c) ≡ refuse r at → Judged bytes ix c at k r
-stop bytes ix c at k r h e = record { refused = λ z. e; passed = λ z. absurd (omega arith) }
-
--- the question of a record that is an answer, and of one that is none
-pub right_answer : (bytes ix : List ℕ) (c : Counts) (at : ℕ) (k : Kind) (size : ℕ) (t : Bool) → Here bytes ix c at k size → right_length k size ≡ true → t ≡ is_answer k → t ≡ true
-    → RightAnswer bytes at
-right_answer bytes ix c at k size t H l e q = (ap is_answer (sym H.kind) ∙ sym e ∙ q, (λ i. right_length (sym H.kind i) (sym H.long i)) ∙ l)
-
-pub asked_before : (bytes ix : List ℕ) (c : Counts) (at : ℕ) (k : Kind) (size : ℕ) (r : Bool) → Here bytes ix c at k size
-    → r ≡ answered_before (kind_of (le16 bytes (at + 4))) (answers_in bytes ix c) (fields_at bytes at) → r ≡ answered_before k (answers_in bytes ix c) (fields_at bytes at)
-asked_before bytes ix c at k size r H e = e ∙ ap (λ j. answered_before j (answers_in bytes ix c) (fields_at bytes at)) (sym H.kind)
-
-pub no_question : (k : Kind) (ys : List Answer) (x : List ℕ) (t : Bool) → t ≡ is_answer k → t ≡ false → answered_before k ys x ≡ false
-unfolding answered_before
-no_question k ys x t e q = ap (λ u. u && is_found (find ys (number_of k) (question_of k x))) (sym e ∙ q)
+pub passed : {bytes ix : List ℕ} {c : Counts} {at : ℕ} {k : Kind} {size : ℕ} {s : Loading} → k ≡ kind_of (le16 bytes (at + 4)) → size ≡ le32 bytes at
+    → load_record (record_at bytes at) (state_in bytes ix c) ≡ Ok s → Passed bytes ix c at k
+passed {bytes} {ix} {c} {at} {k} {size} {s} kind long e =
+    let placed = need_ok _ _ _ _ s (sym (tested bytes ix c at k size kind long) ∙ e) in
+    let limit = need_ok _ _ _ _ s placed.1 in
+    let permitted = need_ok _ _ _ _ s limit.1 in
+    let fresh = need_ok _ _ _ _ s permitted.1 in
+    let joints = need_ok _ _ _ _ s fresh.1 in
+    let new = need_ok _ _ _ _ s joints.1 in
+    let right = and_both _ _ placed.0 in
+    record {
+      right = ap (right_length k) (sym long) ∙ right.0;
+      position = right.1;
+      limit = ap (limit_passed k c) (fields_count bytes at ∙ ap (λ m. m / 4) (sym long)) ∙ not-true _ limit.0;
+      new = not-true _ new.0;
+    }
 
 -- the face of a record that selects one, and of one that selects none
 pub selected_as : (bytes ix : List ℕ) (c : Counts) (at : ℕ) (k : Kind) (size : ℕ) (r : Bool) → Here bytes ix c at k size → right_length k size ≡ true → k ≡ FaceRecord
@@ -83,120 +99,4 @@ selected_as bytes ix c at k size r H l e q =
 
 pub no_face_lem : (k : Kind) (fs : List Face) (x : List ℕ) → (k ≡ FaceRecord → ⊥) → false ≡ selected_before k fs x
 unfolding selected_before number_of
-no_face_lem Unknown fs x h = refl
-no_face_lem Head fs x h = refl
-no_face_lem Vertex fs x h = refl
-no_face_lem EdgeRecord fs x h = refl
-no_face_lem FaceRecord fs x h = absurd (h refl)
-no_face_lem LoopRecord fs x h = refl
-no_face_lem VertexLoop fs x h = refl
-no_face_lem Radial fs x h = refl
-no_face_lem Surface fs x h = refl
-no_face_lem Points fs x h = refl
-no_face_lem Curves fs x h = refl
-no_face_lem Singular fs x h = refl
-no_face_lem Orientation fs x h = refl
-no_face_lem Inside fs x h = refl
-
--- the verdicts by the code's tests
-module _ (bytes ix : List ℕ) (c : Counts) (at : ℕ) (k : Kind) (size : ℕ) (H : Here bytes ix c at k size) where
-  abbrev f : Frame
-  f = record_at bytes at
-
-  abbrev s : Loading
-  s = state_in bytes ix c
-
-  count : (n : ℕ) → n ≡ size / 4 → n ≡ length (fields_at bytes at)
-  count n e = e ∙ ap (λ m. m / 4) H.long ∙ sym (fields_count bytes at)
-
-  fields : (n : ℕ) → n ≡ size / 4 → fields_in n (drop (at + 6) bytes) ≡ fields_at bytes at
-  unfolding fields_at
-  fields n e = ap (λ m. fields_in m (drop (at + 6) bytes)) (e ∙ ap (λ m. m / 4) H.long)
-
-  -- 3
-  pub judge_misplaced : (t : Bool) → t ≡ not (right_length k size && right_position k c.part) → t ≡ true → Judged bytes ix c at k 3
-  judge_misplaced t e q =
-      let b : (right_length k size && right_position k c.part) ≡ false = not-true (right_length k size && right_position k c.part) (sym e ∙ q) in
-      stop bytes ix c at k 3 (omega arith) (go (right_length k size) refl b)
-    where
-      long : right_length k (le32 bytes at) ≡ right_length k size
-      long = ap (right_length k) (sym H.long)
-
-      go : (u : Bool) → right_length k size ≡ u → (right_length k size && right_position k c.part) ≡ false → load_record f s ≡ refuse 3 at
-      go false p b = stop_length f s k (sym H.kind) refl (long ∙ p)
-      go true p b = stop_position f s k (sym H.kind) refl (long ∙ p) (sym (ap (λ v. v && right_position k c.part) p) ∙ b)
-
-  -- a record in its place
-  pub in_place : (t : Bool) → t ≡ not (right_length k size && right_position k c.part) → t ≡ false → (right_length k size ≡ true) × (right_position k c.part ≡ true)
-  in_place t e q = and_both (right_length k size) (right_position k c.part) (not-false (right_length k size && right_position k c.part) (sym e ∙ q))
-
-  module _ (l : right_length k size ≡ true) (p : right_position k c.part ≡ true) (n : ℕ) (e : n ≡ size / 4) where
-    right : right_length k (le32 bytes at) ≡ true
-    right = ap (right_length k) (sym H.long) ∙ l
-
-    -- its length by its fields
-    pub right_fields : right_length k (4 * n) ≡ true
-    right_fields = let w = whole_fields k size l in let q : 4 * n ≡ size = omega arith in ap (right_length k) q ∙ l
-
-    limit : (t u : Bool) → t ≡ limit_passed k c n → t ≡ u → limit_passed k c (length (fields_at bytes at)) ≡ u
-    limit t u a b = ap (limit_passed k c) (sym (count n e)) ∙ sym a ∙ b
-
-    -- 5
-    pub judge_limit : (t : Bool) → t ≡ limit_passed k c n → t ≡ true → Judged bytes ix c at k 5
-    judge_limit t a b = stop bytes ix c at k 5 (omega arith) (stop_limit f s k (sym H.kind) refl right p (limit t true a b))
-
-    module _ (m : Bool) (m_is : m ≡ limit_passed k c n) (room : m ≡ false) (x : Bool) (x_is : x ≡ fields_permitted k c (fields_in n (drop (at + 6) bytes))) where
-      permitted : (u : Bool) → x ≡ u → fields_permitted k c (fields_at bytes at) ≡ u
-      permitted u b = ap (fields_permitted k c) (sym (fields n e)) ∙ sym x_is ∙ b
-
-      -- 4
-      pub judge_fields : x ≡ false → Judged bytes ix c at k 4
-      judge_fields b = stop bytes ix c at k 4 (omega arith) (stop_fields f s k (sym H.kind) refl right p (limit m false m_is room) (permitted false b))
-
-      module _ (x_ok : x ≡ true) (q : Bool) (q_is : q ≡ selected_before k (faces_in bytes ix c) (fields_at bytes at)) where
-        fresh : (u : Bool) → q ≡ u → selected_before k (job_in bytes ix c).faces (fields_at bytes at) ≡ u
-        unfolding job_in
-        fresh u b = sym q_is ∙ b
-
-        -- 45
-        pub judge_selected : q ≡ true → Judged bytes ix c at k 45
-        judge_selected b =
-            stop bytes ix c at k 45 (omega arith)
-            (stop_selected f s k (sym H.kind) refl right p (limit m false m_is room) (permitted true x_ok) (fresh true b))
-
-        module _ (q_no : q ≡ false) (j : Bool) (j_is : j ≡ right_joints k (points_in bytes c) (edges_in bytes c) (fields_in n (drop (at + 6) bytes))) where
-          joints : (u : Bool) → j ≡ u → right_joints k (job_in bytes ix c).points (job_in bytes ix c).edges (fields_at bytes at) ≡ u
-          unfolding job_in
-          joints u b = ap (right_joints k (points_in bytes c) (edges_in bytes c)) (sym (fields n e)) ∙ sym j_is ∙ b
-
-          -- 6
-          pub judge_joints : j ≡ false → Judged bytes ix c at k 6
-          judge_joints b =
-              stop bytes ix c at k 6 (omega arith)
-              (stop_joints f s k (sym H.kind) refl right p (limit m false m_is room) (permitted true x_ok) (fresh false q_no) (joints false b))
-
-          module _ (j_ok : j ≡ true) (a : Bool) (a_is : a ≡ answered_before k (answers_in bytes ix c) (fields_at bytes at)) where
-            before : (u : Bool) → a ≡ u → answered_before k (job_in bytes ix c).answers (fields_at bytes at) ≡ u
-            unfolding job_in
-            before u b = sym a_is ∙ b
-
-            -- 7
-            pub judge_answered : a ≡ true → Judged bytes ix c at k 7
-            judge_answered b =
-                stop bytes ix c at k 7 (omega arith)
-                (stop_answered f s k (sym H.kind) refl right p (limit m false m_is room) (permitted true x_ok) (fresh false q_no) (joints true j_ok)
-                (before true b))
-
-            -- no refusal
-            pub judge_none : a ≡ false → Judged bytes ix c at k 0
-            judge_none b = record {
-              refused = λ h. absurd (omega arith);
-              passed = λ z. record {
-                right = right;
-                position = p;
-                limit = limit m false m_is room;
-                new = sym a_is ∙ b;
-                taken = record_taken f s k (sym H.kind) refl right p (limit m false m_is room) (permitted true x_ok) (fresh false q_no) (joints true j_ok)
-                    (before false b);
-              };
-            }
+no_face_lem k fs x h = rw (other_kind k FaceRecord h)

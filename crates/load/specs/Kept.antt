@@ -46,16 +46,7 @@ kept_index Singular bytes ix c at = entered bytes ix c.answers at
 kept_index Orientation bytes ix c at = entered bytes ix c.answers at
 kept_index Inside bytes ix c at = entered bytes ix c.answers at
 
--- the same where the kind is told by an equation, as the code has it
-pub kept_as : (k l : Kind) (bytes ix : List ℕ) (c : Counts) (at : ℕ) (iy : List ℕ) → k ≡ l → iy ≡ kept_index l bytes ix c at → iy ≡ kept_index k bytes ix c at
-kept_as k l bytes ix c at iy e q = q ∙ ap (λ j. kept_index j bytes ix c at) (sym e)
-
 -- LOOPS IN THE INDEX
-
--- place and face stored one after the other
-pub two_puts : (ix mid out : List ℕ) (c : Counts) (at : ℕ) → mid ≡ set ix (5376 + c.loops) at → out ≡ set mid (6400 + c.loops) (c.faces - 1) → out ≡ loop_kept ix c at
-unfolding loop_kept
-two_puts ix mid out c at e q = q ∙ ap (λ l. set l (6400 + c.loops) (c.faces - 1)) e
 
 module _ (ix : List ℕ) (c : Counts) (at : ℕ) (size : length ix ≡ 7424) (low : c.loops < 1024) where
   -- two places change

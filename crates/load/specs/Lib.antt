@@ -3,7 +3,6 @@ pub mod ListsMore
 pub mod Kept
 pub mod After
 pub mod SourcesKept
-pub mod Verdicts
 pub mod Judged
 pub mod Going
 pub mod Follows

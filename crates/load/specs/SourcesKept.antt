@@ -15,6 +15,7 @@ use Rattle.answers.specs.Index.{Indexed, entered}
 use Rattle.answers.specs.EnterLaws.{entered_past}
 use Rattle.selected.specs.Sources.{face_entered, Sourced}
 use Rattle.selected.specs.SourceLaws.{sourced_same, sourced_enter}
+use Rattle.records.specs.Apart.{other_kind}
 use Rattle.load.specs.Placed.{Placed}
 use Rattle.load.specs.Kept.{loop_kept, kept_index, long}
 use Rattle.load.specs.After.{job_kept}
@@ -23,27 +24,10 @@ use Rattle.load.specs.After.{job_kept}
 unfoldable pub kept_sources : Kind → List ℕ → List ℕ → Counts → ℕ → List ℕ
 kept_sources k bytes t c at = cond (eqb (number_of k) 4) (face_entered bytes t c.faces at) t
 
--- as the code has it, by the kind
-pub face_kept : (k : Kind) (bytes t u : List ℕ) (c : Counts) (at : ℕ) → k ≡ FaceRecord → u ≡ face_entered bytes t c.faces at → u ≡ kept_sources k bytes t c at
-unfolding kept_sources number_of
-face_kept k bytes t u c at e q = q ∙ ap (λ j. kept_sources j bytes t c at) (sym e)
-
+-- where none is entered
 pub none_kept : (k : Kind) (bytes t : List ℕ) (c : Counts) (at : ℕ) → (k ≡ FaceRecord → ⊥) → t ≡ kept_sources k bytes t c at
 unfolding kept_sources number_of
-none_kept Unknown bytes t c at h = refl
-none_kept Head bytes t c at h = refl
-none_kept Vertex bytes t c at h = refl
-none_kept EdgeRecord bytes t c at h = refl
-none_kept FaceRecord bytes t c at h = absurd (h refl)
-none_kept LoopRecord bytes t c at h = refl
-none_kept VertexLoop bytes t c at h = refl
-none_kept Radial bytes t c at h = refl
-none_kept Surface bytes t c at h = refl
-none_kept Points bytes t c at h = refl
-none_kept Curves bytes t c at h = refl
-none_kept Singular bytes t c at h = refl
-none_kept Orientation bytes t c at h = refl
-none_kept Inside bytes t c at h = refl
+none_kept k bytes t c at h = rw (other_kind k FaceRecord h)
 
 -- there is room for a face that is taken
 pub face_room : (k : Kind) (c : Counts) (n : ℕ) → limit_passed k c n ≡ false → k ≡ FaceRecord → c.faces < 256

@@ -3,75 +3,47 @@
 
 #![tactic(auto)]
 
-ghost use Rattle.std.specs.Prelude.{◌≡◌, true, ◌&&◌, not, ◌<◌, length, drop, replicate};
+ghost use Rattle.std.specs.Prelude.{◌≡◌, true, ◌&&◌, not, ◌-◌, ◌<◌, ◌≤◌, length, drop, replicate, IfOk};
 ghost use Rattle.rules.specs.declared.Kind.TheVariants.{FaceRecord};
-ghost use Rattle.rules.specs.Frame.{whole_record};
+ghost use Rattle.rules.specs.Outcome.{Ok, ◌>>=◌ as ◌and_then◌};
+ghost use Rattle.rules.specs.Frame.{whole_record, frame_at};
 ghost use Rattle.rules.specs.Kinds.{is_loop, is_answer, right_length, right_position};
-ghost use Rattle.rules.specs.Load.{no_counts, selected_before, answered_before, requested, shown};
+ghost use Rattle.rules.specs.Load.{no_counts, selected_before, answered_before, load_record, loading, requested, shown};
 ghost use Rattle.theorems.specs.Sound.{Limited};
 ghost use Rattle.job.specs.Lists.{fields_at, faces_in, answers_in};
+ghost use Rattle.answers.specs.Index.{Indexed};
 ghost use Rattle.selected.specs.Sources.{Sourced};
 ghost use Rattle.load.specs.Kept.{loop_kept, kept_index};
 ghost use Rattle.load.specs.SourcesKept.{kept_sources};
-ghost use Rattle.load.specs.Judged.{Here, Judged};
-ghost use Rattle.load.specs.Going.{Going, SteppedAs, LoadedAs};
-ghost use Rattle.load.specs.Stretches.{stretch_of, Within, Placed};
+ghost use Rattle.load.specs.Judged.{Here, record_at, state_in, taken_at};
+ghost use Rattle.load.specs.Going.{Going, OnTo};
+ghost use Rattle.load.specs.Stretches.{Placed};
 
 use fields::{half, put, word};
 use job::{FACES, INDEX, LOOPS, OWNERS};
-use rules::{Counts, Kind};
+use rules::{Counts, Fault, Kind, Refusal};
 use selected::SOURCES;
-
-// What becomes of one record: the number of a refusal, or the counts after it and the byte of the next.
-#[derive(Clone, Copy)]
-pub enum Stepped {
-    Refused(usize),
-    Taken(Counts, usize),
-}
-
-#[derive(Clone, Copy)]
-pub enum Loaded {
-    Refused(usize, usize),
-    Done(Counts),
-}
-
-// A loop's payload, from its first byte to the byte after it.
-#[derive(Clone, Copy)]
-pub enum Stretched {
-    Refused(usize, usize),
-    At(usize, usize),
-}
+use std::ops::Range;
 
 // 2: header and payload of the record at a byte are not cut short.
+#[tactic(auto, using(rules::proofs::FrameLaws::whole_is, rules::proofs::FrameLaws::head_cut, rules::proofs::FrameLaws::payload_cut))]
 fn is_whole(job: &[u8], at: usize) -> bool
     requires { at < 4294967296 }
     ensures { result ≡ whole_record (drop at job.now) }
 {
     let body = at + 6;
-    if job.len() < body {
-        return false;
-    }
-    let end = body + word(job, at);
-    if job.len() < end {
-        return false;
-    }
-    true
+    body <= job.len() && body + word(job, at) <= job.len()
 }
 
 // 3: a record has another length than its kind, or stands in another part.
 fn is_misplaced(kind: Kind, size: usize, part: usize) -> bool
     ensures { result ≡ not (right_length kind size && right_position kind part) }
 {
-    if records::right_length(kind, size) {
-        if records::right_position(kind, part) {
-            return false;
-        }
-        return true;
-    }
-    true
+    !(records::right_length(kind, size) && records::right_position(kind, part))
 }
 
 // 45: the face of the record at a byte is selected before.
+#[tactic(auto, using(crate::specs::Judged::selected_as, crate::specs::Judged::no_face_lem))]
 fn is_selected(
     job: &[u8],
     index: &[u32],
@@ -91,18 +63,16 @@ fn is_selected(
 }
 
 // 7: the question of the record at a byte is answered before.
+#[tactic(auto, unfolding(rules::specs::Load::answered_before))]
 fn is_answered(job: &[u8], index: &[u32], c: Counts, at: usize, kind: Kind, size: usize) -> bool
     requires { Here job.now index.now c at kind size × (right_length kind size ≡ true) }
     ensures { result ≡ answered_before kind (answers_in job.now index.now c) (fields_at job.now at) }
 {
-    if records::is_answer(kind) {
-        return answers::answered_before(job, index, c, at);
-    }
-    false
+    records::is_answer(kind) && answers::answered_before(job, index, c, at)
 }
 
-// The first refusal from 3 on that a whole record meets; 0 for none.
-fn fault(
+// The tests of a whole record from 3 on, in their order.
+fn judge(
     job: &[u8],
     index: &[u32],
     sources: &[u8],
@@ -110,33 +80,34 @@ fn fault(
     at: usize,
     kind: Kind,
     size: usize,
-) -> usize
+) -> Result<(), Refusal>
     requires { Here job.now index.now c at kind size × Sourced job.now index.now sources.now c }
-    ensures { Judged job.now index.now c at kind result }
+    ensures { (result and_then λ _. Ok (taken_at kind job.now index.now c at)) ≡ load_record (record_at job.now at) (state_in job.now index.now c) }
 {
     if is_misplaced(kind, size, c.part) {
-        return 3;
+        return Err(Fault::Misplaced.at(at));
     }
     let n = size / 4;
     if records::limit_passed(kind, c, n) {
-        return 5;
+        return Err(Fault::LimitPassed.at(at));
     }
-    if records::fields_permitted(job, kind, c, at + 6, n) {
-        if is_selected(job, index, sources, c, at, kind, size) {
-            return 45;
-        }
-        if records::right_joints(job, kind, c, at + 6, n) {
-            if is_answered(job, index, c, at, kind, size) {
-                return 7;
-            }
-            return 0;
-        }
-        return 6;
+    if !records::fields_permitted(job, kind, c, at + 6, n) {
+        return Err(Fault::FieldNotPermitted.at(at));
     }
-    4
+    if is_selected(job, index, sources, c, at, kind, size) {
+        return Err(Fault::SelectedTwice.at(at));
+    }
+    if !records::right_joints(job, kind, c, at + 6, n) {
+        return Err(Fault::LoopJoints.at(at));
+    }
+    if is_answered(job, index, c, at, kind, size) {
+        return Err(Fault::AnsweredTwice.at(at));
+    }
+    Ok(())
 }
 
 // A loop's place and face are entered in the index.
+#[tactic(auto, unfolding(crate::specs::Kept::loop_kept))]
 fn keep_loop(index: &mut [u32], c: Counts, at: usize)
     requires { Limited c × (0 < c.faces) × (at < 4294967296) }
     ensures { index.new ≡ loop_kept index.old c at }
@@ -146,29 +117,27 @@ fn keep_loop(index: &mut [u32], c: Counts, at: usize)
 }
 
 // The place of a face, a loop or an answer is entered in the index.
+#[tactic(auto, unfolding(crate::specs::Kept::kept_index, rules::specs::Kinds::number_of))]
 fn keep(job: &[u8], index: &mut [u32], kind: Kind, c: Counts, at: usize)
     requires { Limited c × (at < 4294967296) × (is_loop kind ≡ true → 0 < c.faces) × (is_answer kind ≡ true → c.answers < 2048) }
     ensures { index.new ≡ kept_index kind job.now index.old c at }
 {
     match kind {
-        Kind::Unknown => {}
-        Kind::Head => {}
-        Kind::Vertex => {}
-        Kind::EdgeRecord => {}
+        Kind::Unknown | Kind::Head | Kind::Vertex | Kind::EdgeRecord => {}
         Kind::FaceRecord => put(index, FACES + c.faces, at),
-        Kind::LoopRecord => keep_loop(index, c, at),
-        Kind::VertexLoop => keep_loop(index, c, at),
-        Kind::Radial => answers::enter(job, index, c.answers, at),
-        Kind::Surface => answers::enter(job, index, c.answers, at),
-        Kind::Points => answers::enter(job, index, c.answers, at),
-        Kind::Curves => answers::enter(job, index, c.answers, at),
-        Kind::Singular => answers::enter(job, index, c.answers, at),
-        Kind::Orientation => answers::enter(job, index, c.answers, at),
-        Kind::Inside => answers::enter(job, index, c.answers, at),
+        Kind::LoopRecord | Kind::VertexLoop => keep_loop(index, c, at),
+        Kind::Radial
+        | Kind::Surface
+        | Kind::Points
+        | Kind::Curves
+        | Kind::Singular
+        | Kind::Orientation
+        | Kind::Inside => answers::enter(job, index, c.answers, at),
     }
 }
 
 // A face is entered by its source face number.
+#[tactic(auto, using(crate::specs::SourcesKept::none_kept), unfolding(crate::specs::SourcesKept::kept_sources, rules::specs::Kinds::number_of))]
 fn keep_source(job: &[u8], sources: &mut [u8], kind: Kind, c: Counts, at: usize)
     requires { (kind ≡ FaceRecord → c.faces < 256) × (at < 4294967296) }
     ensures { sources.new ≡ kept_sources kind job.now sources.old c at }
@@ -179,24 +148,28 @@ fn keep_source(job: &[u8], sources: &mut [u8], kind: Kind, c: Counts, at: usize)
     }
 }
 
-// The record at a byte: refused, or its place and its source face number entered and the counts after it.
-fn step(job: &[u8], index: &mut [u32], sources: &mut [u8], c: Counts, at: usize) -> Stepped
+// The record at a byte: its place and its source face number are entered; the counts after it, and the byte of the next.
+fn step(
+    job: &[u8],
+    index: &mut [u32],
+    sources: &mut [u8],
+    c: Counts,
+    at: usize,
+) -> Result<(Counts, usize), Refusal>
     requires { Going job.now index.old sources.old c at × (at < length job.now) }
-    ensures { SteppedAs job.now index.old index.new sources.new c at result }
+    ensures loads { (result and_then λ next. Ok (state_in job.now index.new next.0)) ≡ load_record (frame_at at (drop at job.now)) (state_in job.now index.old c) }
+    ensures goes_on { IfOk result (λ next. OnTo job.now index.new sources.new at next.0 next.1) }
 {
-    if is_whole(job, at) {
-        let size = word(job, at);
-        let kind = job::kind_of(half(job, at + 4));
-        let number = fault(job, index, sources, c, at, kind, size);
-        if 0 < number {
-            return Stepped::Refused(number);
-        }
-        keep(job, index, kind, c, at);
-        keep_source(job, sources, kind, c, at);
-        let after = records::count_record(kind, size / 4, c);
-        return Stepped::Taken(after, at + 6 + size);
+    if !is_whole(job, at) {
+        return Err(Fault::CutShort.at(at));
     }
-    Stepped::Refused(2)
+    let size = word(job, at);
+    let kind = Kind::from(half(job, at + 4));
+    judge(job, index, sources, c, at, kind, size)?;
+    keep(job, index, kind, c, at);
+    keep_source(job, sources, kind, c, at);
+    let after = records::count_record(kind, size / 4, c);
+    Ok((after, at + 6 + size))
 }
 
 fn nothing() -> Counts
@@ -214,63 +187,49 @@ fn nothing() -> Counts
 }
 
 // The records in order, up to the first refusal. The index is all 0 at first.
-pub fn load(job: &[u8], index: &mut [u32]) -> Loaded
+pub fn load(job: &[u8], index: &mut [u32]) -> Result<Counts, Refusal>
     requires { index.old ≡ replicate 7424 0 }
-    ensures { LoadedAs job.now index.new result }
+    ensures loads { (result and_then λ c. Ok (state_in job.now index.new c)) ≡ loading job.now }
+    ensures indexed { IfOk result (λ c. Indexed job.now index.new c) }
 {
     if 65536 < job.len() {
-        return Loaded::Refused(1, 65536);
+        return Err(Fault::TooLong.at(65536));
     }
-    if job.len() == 0 {
-        return Loaded::Refused(3, 0);
+    if job.is_empty() {
+        return Err(Fault::Misplaced.at(0));
     }
     let mut sources = [0u8; SOURCES];
     let mut c = nothing();
     let mut at: usize = 0;
     while at < job.len() {
-        let s = step(job, index, &mut sources, c, at);
-        match s {
-            Stepped::Refused(n) => {
-                return Loaded::Refused(n, at);
-            }
-            Stepped::Taken(after, next) => {
-                c = after;
-                at = next;
-            }
-        }
+        (c, at) = step(job, index, &mut sources, c, at)?;
     }
-    Loaded::Done(c)
+    Ok(c)
 }
 
 // THE LOOP REQUEST
 
 // The payload of loop n among both sorts, from its first byte to the byte after it; after the refusals of load a number
 // too high is refused.
-pub fn loop_stretch(job: &[u8], n: usize) -> Stretched
-    ensures { (stretch_of result ≡ requested job.now n) × Within job.now result }
+pub fn loop_stretch(job: &[u8], n: usize) -> Result<Range<usize>, Refusal>
+    ensures finds { (result and_then λ r. Ok (record { start = r.start; size = r.end - r.start })) ≡ requested job.now n }
+    ensures within { IfOk result (λ r. (r.start < r.end) × (r.end ≤ length job.now)) }
 {
     let mut index = [0u32; INDEX];
-    let r = load(job, &mut index);
-    match r {
-        Loaded::Refused(number, place) => Stretched::Refused(number, place),
-        Loaded::Done(c) => {
-            if c.loops <= n {
-                return Stretched::Refused(4, n);
-            }
-            let start = job::loop_start(&index, n);
-            let end = start + job::loop_size(job, &index, n);
-            Stretched::At(start, end)
-        }
+    let c = load(job, &mut index)?;
+    if c.loops <= n {
+        return Err(Fault::FieldNotPermitted.at(n));
     }
+    let start = job::loop_start(&index, n);
+    Ok(start..start + job::loop_size(job, &index, n))
 }
 
 // The bytes of the job that hold the payload of loop n, where they stand in the job; none where the request is refused.
 pub fn loop_payload(job: &[u8], n: usize) -> &[u8]
     ensures { (result.now ≡ shown job.now (requested job.now n)) × Placed job.entry.ref_ptr (requested job.now n) result.ref_ptr }
 {
-    let s = loop_stretch(job, n);
-    match s {
-        Stretched::Refused(_, _) => &job[0..0],
-        Stretched::At(start, end) => &job[start..end],
+    match loop_stretch(job, n) {
+        Ok(bytes) => &job[bytes],
+        Err(_) => &job[0..0],
     }
 }

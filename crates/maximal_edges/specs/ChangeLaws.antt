@@ -26,25 +26,28 @@ pub count_edges : (rows : List ℕ) (n : ℕ) → 7 * n ≤ length rows → leng
 count_edges rows n h = count_rows (take (7 * n) rows) n (length-take-le (7 * n) rows h)
 
 -- an edge stored becomes a ring
-pub rows_ring : (rows rows' : List ℕ) (n a : ℕ) (x y : EdgeData) → 7 * n ≤ length rows → a < n → x ≡ edge_data_at (edges_in rows n) a → y ≡ ring_of x → rows' ≡ with_row rows a y
+pub rows_ring : (rows : List ℕ) {rows' : List ℕ} (n a : ℕ) {x y : EdgeData} → 7 * n ≤ length rows → a < n → x ≡ edge_data_at (edges_in rows n) a → y ≡ ring_of x → rows' ≡ with_row rows a y
     → edges_in rows' n ≡ set (edges_in rows n) a (ring_of (edge_data_at (edges_in rows n) a))
-rows_ring rows rows' n a x y fits h ex ey er =
+rows_ring rows n a {y = y} fits h ex ey er =
     let z : y ≡ ring_of (edge_data_at (edges_in rows n) a) = ey ∙ ap ring_of ex in
     ap (λ t. edges_in t n) (er ∙ ap (with_row rows a) z) ∙ rows_stored rows n a (ring_of (edge_data_at (edges_in rows n) a)) h fits (paired_at (take (7 * n) rows) a)
 
 -- two edges retired and one more stored
-pub rows_join : (rows once twice thrice : List ℕ) (n v a b : ℕ) (x y p q new : EdgeData) → 7 * n + 7 ≤ length rows → a < n → b < n → x ≡ edge_data_at (edges_in rows n) a → y ≡ edge_data_at (edges_in rows n) b
+pub rows_join : (rows : List ℕ) {once twice thrice : List ℕ} (n v a b : ℕ) {x y p q new : EdgeData} → 7 * n + 7 ≤ length rows → a < n → b < n → x ≡ edge_data_at (edges_in rows n) a
+    → y ≡ edge_data_at (edges_in rows n) b
     → p ≡ retired x → q ≡ retired y → new ≡ joined_edge v x y → once ≡ with_row rows a p → twice ≡ with_row once b q → thrice ≡ with_row twice n new
     → edges_in thrice (n + 1) ≡ join_edges v a b (edges_in rows n)
 unfolding join_edges joined_edge
-rows_join rows once twice thrice n v a b x y p q new fits ha hb ex ey ep eq en e₁ e₂ e₃ =
+rows_join rows {once} {twice} {thrice} n v a b {p = p} {q} fits ha hb ex ey ep eq en e₁ e₂ e₃ =
     let es : List EdgeData = edges_in rows n in
     let first : EdgeData = edge_data_at es a in
     let second : EdgeData = edge_data_at es b in
     let l₁ : length once ≡ length rows = ap length e₁ ∙ length_with rows a p in
     let l₂ : length twice ≡ length rows = ap length e₂ ∙ length_with once b q ∙ l₁ in
-    let z₁ : edges_in once n ≡ set es a (retired first) = ap (λ t. edges_in t n) (e₁ ∙ ap (with_row rows a) (ep ∙ ap retired ex)) ∙ rows_stored rows n a (retired first) ha (omega arith) (paired_at (take (7 * n) rows) a) in
-    let z₂ : edges_in twice n ≡ set (edges_in once n) b (retired second) = ap (λ t. edges_in t n) (e₂ ∙ ap (with_row once b) (eq ∙ ap retired ey)) ∙ rows_stored once n b (retired second) hb (omega arith) (paired_at (take (7 * n) rows) b) in
+    let z₁ : edges_in once n ≡ set es a (retired first) =
+    ap (λ t. edges_in t n) (e₁ ∙ ap (with_row rows a) (ep ∙ ap retired ex)) ∙ rows_stored rows n a (retired first) ha (omega arith) (paired_at (take (7 * n) rows) a) in
+    let z₂ : edges_in twice n ≡ set (edges_in once n) b (retired second) =
+    ap (λ t. edges_in t n) (e₂ ∙ ap (with_row once b) (eq ∙ ap retired ey)) ∙ rows_stored once n b (retired second) hb (omega arith) (paired_at (take (7 * n) rows) b) in
     let z₃ : edges_in thrice (n + 1) ≡ edges_in twice n ++ (joined_edge v first second ∷ []) =
     ap (λ t. edges_in t (n + 1)) (e₃ ∙ ap (with_row twice n) (en ∙ (λ i. joined_edge v (ex i) (ey i))))
     ∙ rows_pushed twice n (joined_edge v first second) (omega arith) (paired_at (take (7 * n) rows) a) in
@@ -85,9 +88,9 @@ lows_length lows highs p a = go (eqb (get_or lows p 0) a)
     go false = refl
 
 -- the tables after both far ends, as they are stored
-pub ends_joined : (lows highs lows₁ highs₁ lows₂ highs₂ : List ℕ) (p q p' q' a b n : ℕ) → p' ≡ p → q' ≡ q → lows₁ ≡ lows_after lows highs p' a → highs₁ ≡ set highs p' n
+pub ends_joined : (lows highs : List ℕ) {lows₁ highs₁ lows₂ highs₂ : List ℕ} {p q p' q' : ℕ} (a b n : ℕ) → p' ≡ p → q' ≡ q → lows₁ ≡ lows_after lows highs p' a → highs₁ ≡ set highs p' n
     → lows₂ ≡ lows_after lows₁ highs₁ q' b → highs₂ ≡ set highs₁ q' n → (lows₂ ≡ lows_joined p q a b n lows highs) × (highs₂ ≡ highs_joined p q n highs)
-ends_joined lows highs lows₁ highs₁ lows₂ highs₂ p q p' q' a b n ep eq l₁ h₁ l₂ h₂ =
+ends_joined lows highs {lows₁} {highs₁} {p = p} a b n ep eq l₁ h₁ l₂ h₂ =
     let l : lows₁ ≡ lows_after lows highs p a = l₁ ∙ ap (λ k. lows_after lows highs k a) ep in
     let h : highs₁ ≡ set highs p n = h₁ ∙ ap (λ k. set highs k n) ep in
     (l₂ ∙ (λ i. lows_after (l i) (h i) (eq i) b), h₂ ∙ (λ i. set (h i) (eq i) n))
@@ -198,7 +201,9 @@ module _ (names : List ℕ) (nodup : Nodup names) (fans : (x : ℕ) → x ∈ na
       highs_size = omega (arith, length-set ends v 0, k.highs_size);
       counts = λ u b.
           ⊎_elim
-          (λ w. ap (λ i. get_or (set ends v 0) i 0) w.0 ∙ get_or-set_same ends v 0 0 (omega (arith, length-set ends v 0, w.0)) ∙ sym (corner_none m (omega (arith, fans v at))) ∙ ap (λ i. length (ends_at t.edges i)) (sym w.0))
+          (λ w.
+          ap (λ i. get_or (set ends v 0) i 0) w.0 ∙ get_or-set_same ends v 0 0 (omega (arith, length-set ends v 0, w.0))
+          ∙ sym (corner_none m (omega (arith, fans v at))) ∙ ap (λ i. length (ends_at t.edges i)) (sym w.0))
           (λ w. get_or-set_other ends v u 0 0 w.0 ∙ k.counts u (omega (arith, length-set ends v 0)) ∙ sym (ends_elsewhere m u (omega (arith, length-set ends v 0, k.size)) w.0))
           (equal_or_not u v);
       pairs = λ u b two.
@@ -223,7 +228,8 @@ module _ (names : List ℕ) (nodup : Nodup names) (fans : (x : ℕ) → x ∈ na
 
   -- a join
   pub changed_join : (n : ℕ) → length es ≡ n → (a b : ℕ) → ends_at es v ≡ a ∷ b ∷ [] → a < b
-      → Changed names es (join_edges v a b es) v lows highs (lows_joined (far_end v (edge_data_at es a)) (far_end v (edge_data_at es b)) a b n lows highs) (highs_joined (far_end v (edge_data_at es a)) (far_end v (edge_data_at es b)) n highs)
+      → Changed names es (join_edges v a b es) v lows highs (lows_joined (far_end v (edge_data_at es a)) (far_end v (edge_data_at es b)) a b n lows highs)
+      (highs_joined (far_end v (edge_data_at es a)) (far_end v (edge_data_at es b)) n highs)
   unfolding join_at
   changed_join n en a b e lower =
       let p : ℕ = far_end v (edge_data_at es a) in

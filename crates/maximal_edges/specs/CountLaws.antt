@@ -1,11 +1,10 @@
 -- The tables of ends made end by end: how many stand at each fan, and the first and the last of them.
-use Rattle.std.specs.Prelude.{ℕ, suc, ◌+◌, ◌*◌, ◌<◌, ◌≤◌, ◌≡◌, refl, List, [], ◌∷◌, ◌++◌, Bool, true, false, ◌&&◌, cond, length, get_or, set, take, replicate, eqb}
+use Rattle.std.specs.Prelude.{ℕ, suc, ◌+◌, ◌*◌, ◌<◌, ◌≤◌, ◌≡◌, refl, List, [], ◌∷◌, ◌++◌, Bool, true, false, ◌&&◌, cond, length, get_or, set, take, eqb}
 use Rattle.std.proofs.Math.Decide.{dec_lt}
-use Rattle.std.proofs.Common.{add-one, arith, sym, ap, subst, ◌∙◌, ⊎_elim, append-nil, append_assoc, length-set, length-take, get_or-set_same, get_or-set_other, take-suc, take_all, length-take-le, ne_eqb}
-use Rattle.std.proofs.lemmas.List.{length-replicate}
+use Rattle.std.proofs.Common.{add-one, arith, sym, ap, subst, ◌∙◌, ⊎_elim, append-nil, append_assoc, length-set, length-take, get_or-set_same, get_or-set_other}
+use Rattle.std.proofs.Common.{take-suc, take_all, length-take-le, ne_eqb}
 use Rattle.std.proofs.Math.ListN.{get_or-eq_default}
 use Rattle.lists.specs.Lists.{sum_of}
-use Rattle.lists.specs.Constants.{get_or_constant}
 use Rattle.lists.specs.Tables.{get_or_snoc_last, length_snoc}
 use Rattle.lists.specs.Tests.{equal_or_not}
 use Rattle.lists.specs.Sums.{sum_nil, sum_cons}
@@ -60,8 +59,8 @@ pub record Listed (ends lows highs : List ℕ) (so_far : ℕ → List ℕ) : Typ
   pub first : (v : ℕ) → v < length ends → 1 ≤ length (so_far v) → get_or lows v 0 ≡ get_or (so_far v) 0 0
   pub last : (v n : ℕ) → v < length ends → length (so_far v) ≡ suc n → get_or highs v 0 ≡ get_or (so_far v) n 0
 
-listed_as : (ends lows highs : List ℕ) (f g : ℕ → List ℕ) → ((v : ℕ) → f v ≡ g v) → Listed ends lows highs f → Listed ends lows highs g
-listed_as ends lows highs f g same k = record {
+listed_as : {ends lows highs : List ℕ} (f g : ℕ → List ℕ) → ((v : ℕ) → f v ≡ g v) → Listed ends lows highs f → Listed ends lows highs g
+listed_as f g same k = record {
   size = k.size;
   lows_size = k.lows_size;
   highs_size = k.highs_size;
@@ -70,17 +69,13 @@ listed_as ends lows highs f g same k = record {
   last = λ v n h q. k.last v n h (ap length (same v) ∙ q) ∙ ap (λ l. get_or l n 0) (same v);
 }
 
--- tables of zeros
-pub blank : (n : ℕ) → n ≤ 2048 → Blank (replicate n 0) (replicate n 0) (replicate n 0)
-blank n h = record { size = omega (arith, length-replicate {A = ℕ} n 0); lows_size = refl; highs_size = refl; none = λ v. get_or_constant {A = ℕ} n 0 v }
-
 -- the ends of the edges below e
 abbrev pub Counted : List EdgeData → List ℕ → List ℕ → List ℕ → ℕ → Type 0
 Counted es ends lows highs e = Listed ends lows highs (λ v. ends_at (take e es) v)
 
-pub counted_none : (es : List EdgeData) (ends lows highs : List ℕ) → Blank ends lows highs → Counted es ends lows highs 0
+pub counted_none : (es : List EdgeData) {ends lows highs : List ℕ} → Blank ends lows highs → Counted es ends lows highs 0
 unfolding ends_from
-counted_none es ends lows highs b = record {
+counted_none es b = record {
   size = b.size;
   lows_size = b.lows_size;
   highs_size = b.highs_size;
@@ -93,7 +88,8 @@ counted_none es ends lows highs b = record {
 abbrev pub with_end : ℕ → ℕ → ℕ → List ℕ → List ℕ
 with_end p e v l = cond (eqb p v) (l ++ (e ∷ [])) l
 
-module _ (ends lows highs : List ℕ) (p e : ℕ) (f : ℕ → List ℕ) (k : Listed ends lows highs f) (ends' lows' highs' : List ℕ) (m : EndCounted p e ends lows highs ends' lows' highs') where
+module _ {ends lows highs : List ℕ} {p e : ℕ} (f : ℕ → List ℕ) (k : Listed ends lows highs f)
+    {ends' lows' highs' : List ℕ} (m : EndCounted p e ends lows highs ends' lows' highs') where
   lows_same : length lows' ≡ length lows
   lows_same = ap length m.lowest ∙ go (eqb (get_or ends p 0) 0)
     where
@@ -125,7 +121,8 @@ module _ (ends lows highs : List ℕ) (p e : ℕ) (f : ℕ → List ℕ) (k : Li
     first_there : get_or lows' p 0 ≡ get_or (f p ++ (e ∷ [])) 0 0
     first_there = ap (λ l. get_or l p 0) m.lowest ∙ go (f p) (k.counts p inside) (λ q. k.first p inside q)
       where
-        go : (l : List ℕ) → get_or ends p 0 ≡ length l → (1 ≤ length l → get_or lows p 0 ≡ get_or l 0 0) → get_or (cond (eqb (get_or ends p 0) 0) (set lows p e) lows) p 0 ≡ get_or (l ++ (e ∷ [])) 0 0
+        go : (l : List ℕ) → get_or ends p 0 ≡ length l → (1 ≤ length l → get_or lows p 0 ≡ get_or l 0 0)
+            → get_or (cond (eqb (get_or ends p 0) 0) (set lows p e) lows) p 0 ≡ get_or (l ++ (e ∷ [])) 0 0
         go [] c q = ap (λ t. get_or (cond (eqb t 0) (set lows p e) lows) p 0) c ∙ get_or-set_same lows p e 0 (omega (arith, k.lows_size))
         go (x ∷ l) c q = ap (λ t. get_or (cond t (set lows p e) lows) p 0) (ne_eqb (get_or ends p 0) 0 (λ z. omega arith)) ∙ q (omega arith)
 
@@ -140,7 +137,10 @@ module _ (ends lows highs : List ℕ) (p e : ℕ) (f : ℕ → List ℕ) (k : Li
     size = omega (arith, ends_same, k.size);
     lows_size = omega (arith, ends_same, lows_same, k.lows_size);
     highs_size = omega (arith, ends_same, ap length m.highest, length-set highs p e, k.highs_size);
-    counts = λ v h. at v h (λ l. get_or ends' v 0 ≡ length l) (λ w. subst (λ i. get_or ends' i 0 ≡ length (f i ++ (e ∷ []))) (sym w) (count_there (omega (arith, ends_same)))) (λ w. (elsewhere v w).0 ∙ k.counts v (omega (arith, ends_same)));
+    counts = λ v h.
+        at v h (λ l. get_or ends' v 0 ≡ length l)
+        (λ w. subst (λ i. get_or ends' i 0 ≡ length (f i ++ (e ∷ []))) (sym w) (count_there (omega (arith, ends_same))))
+        (λ w. (elsewhere v w).0 ∙ k.counts v (omega (arith, ends_same)));
     first = λ v h.
         at v h (λ l. 1 ≤ length l → get_or lows' v 0 ≡ get_or l 0 0)
         (λ w q. subst (λ i. get_or lows' i 0 ≡ get_or (f i ++ (e ∷ [])) 0 0) (sym w) (first_there (omega (arith, ends_same))))
@@ -158,16 +158,10 @@ module _ (ends lows highs : List ℕ) (p e : ℕ) (f : ℕ → List ℕ) (k : Li
           (λ w. subst P (sym (ap (λ t. cond t (f v ++ (e ∷ [])) (f v)) w.1)) (there (λ q. w.0 (sym q))))
           (equal_or_not p v)
 
--- the three stores, by the count that was read
-pub end_by_lem : (v e : ℕ) (ends lows highs ends' lows' highs' : List ℕ) (n : ℕ) → n ≡ get_or ends v 0 → ends' ≡ set ends v (n + 1) → lows' ≡ cond (eqb n 0) (set lows v e) lows → highs' ≡ set highs v e
-    → EndCounted v e ends lows highs ends' lows' highs'
-end_by_lem v e ends lows highs ends' lows' highs' n en ee el eh =
-    record { count = ee ∙ ap (λ m. set ends v (m + 1)) en; lowest = el ∙ ap (λ m. cond (eqb m 0) (set lows v e) lows) en; highest = eh }
-
 -- HOW MANY
 
-count_few : (ends lows highs : List ℕ) (p n : ℕ) (f : ℕ → List ℕ) → Listed ends lows highs f → length (f p) ≤ n → get_or ends p 0 ≤ n
-count_few ends lows highs p n f k h =
+count_few : {ends lows highs : List ℕ} (p n : ℕ) (f : ℕ → List ℕ) → Listed ends lows highs f → length (f p) ≤ n → get_or ends p 0 ≤ n
+count_few {ends} p n f k h =
     elim (dec_lt p (length ends)) [
       | yes b ↦ omega (arith, k.counts p b)
       | no b ↦ omega (arith, get_or-eq_default ends 0 {n = p} (omega arith))
@@ -177,13 +171,14 @@ few_before : (es : List EdgeData) (e v : ℕ) → e ≤ 2048 → length (ends_at
 few_before es e v h = omega (arith, ends_sum 0 (take e es) v, sum_two (take e es) v, length-take e es)
 
 -- a count is small
-pub count_small : (es : List EdgeData) (ends lows highs : List ℕ) (e p : ℕ) → Counted es ends lows highs e → e ≤ 2048 → get_or ends p 0 < 4294967295
-count_small es ends lows highs e p k h = omega (arith, count_few ends lows highs p 4096 (λ v. ends_at (take e es) v) k (few_before es e p h))
+pub count_small : (es : List EdgeData) {ends lows highs : List ℕ} (e p : ℕ) → Counted es ends lows highs e → e ≤ 2048 → get_or ends p 0 < 4294967295
+count_small es e p k h = omega (arith, count_few p 4096 (λ v. ends_at (take e es) v) k (few_before es e p h))
 
 -- and after an edge's start too
-pub half_small : (es : List EdgeData) (ends lows highs ends' lows' highs' : List ℕ) (e p q : ℕ) → Counted es ends lows highs e → e ≤ 2048 → EndCounted p e ends lows highs ends' lows' highs' → get_or ends' q 0 < 4294967295
-half_small es ends lows highs ends' lows' highs' e p q k h m =
-    omega (arith, count_few ends' lows' highs' q 4097 (λ v. with_end p e v (ends_at (take e es) v)) (count_more ends lows highs p e (λ v. ends_at (take e es) v) k ends' lows' highs' m) (go (eqb p q)))
+pub half_small : (es : List EdgeData) {ends lows highs ends' lows' highs' : List ℕ} {e p : ℕ} (q : ℕ) → Counted es ends lows highs e → e ≤ 2048
+    → EndCounted p e ends lows highs ends' lows' highs' → get_or ends' q 0 < 4294967295
+half_small es {e = e} {p} q k h m =
+    omega (arith, count_few q 4097 (λ v. with_end p e v (ends_at (take e es) v)) (count_more (λ v. ends_at (take e es) v) k m) (go (eqb p q)))
   where
     go : (t : Bool) → length (cond t (ends_at (take e es) q ++ (e ∷ [])) (ends_at (take e es) q)) ≤ 4097
     go true = omega (arith, length_snoc (ends_at (take e es) q) e, few_before es e q h)
@@ -201,20 +196,20 @@ module _ (es : List EdgeData) (e : ℕ) (h : e < length es) where
       ∙ ends_snoc 0 e (take e es) d v (omega (arith, length-take-le e es (omega arith)))
 
   -- an edge that is not active
-  pub counted_idle : (ends lows highs : List ℕ) → Counted es ends lows highs e → d.active ≡ false → Counted es ends lows highs (e + 1)
-  counted_idle ends lows highs k idle =
-      listed_as ends lows highs (λ v. ends_at (take e es) v) (λ v. ends_at (take (e + 1) es) v)
+  pub counted_idle : {ends lows highs : List ℕ} → Counted es ends lows highs e → d.active ≡ false → Counted es ends lows highs (e + 1)
+  counted_idle k idle =
+      listed_as (λ v. ends_at (take e es) v) (λ v. ends_at (take (e + 1) es) v)
       (λ v. sym (one_more v ∙ ap (λ t. ends_at (take e es) v ++ one_if (t && eqb d.start v) e (one_if (t && eqb d.end v) e [])) idle ∙ append-nil (ends_at (take e es) v)))
       k
 
   -- an active edge, its start and then its end
-  pub counted_active : (ends lows highs ends' lows' highs' ends'' lows'' highs'' : List ℕ) (p q : ℕ) → Counted es ends lows highs e → d.active ≡ true → p ≡ d.start → q ≡ d.end
+  pub counted_active : {ends lows highs ends' lows' highs' ends'' lows'' highs'' : List ℕ} {p q : ℕ} → Counted es ends lows highs e → d.active ≡ true → p ≡ d.start → q ≡ d.end
       → EndCounted p e ends lows highs ends' lows' highs' → EndCounted q e ends' lows' highs' ends'' lows'' highs'' → Counted es ends'' lows'' highs'' (e + 1)
-  counted_active ends lows highs ends' lows' highs' ends'' lows'' highs'' p q k active ep eq m₁ m₂ =
+  counted_active {p = p} {q} k active ep eq m₁ m₂ =
       let f : ℕ → List ℕ = λ v. ends_at (take e es) v in
-      let one = count_more ends lows highs p e f k ends' lows' highs' m₁ in
-      let two = count_more ends' lows' highs' q e (λ v. with_end p e v (f v)) one ends'' lows'' highs'' m₂ in
-      listed_as ends'' lows'' highs'' (λ v. with_end q e v (with_end p e v (f v))) (λ v. ends_at (take (e + 1) es) v)
+      let one = count_more f k m₁ in
+      let two = count_more (λ v. with_end p e v (f v)) one m₂ in
+      listed_as (λ v. with_end q e v (with_end p e v (f v))) (λ v. ends_at (take (e + 1) es) v)
       (λ v. sym (one_more v ∙ (λ i. f v ++ one_if (active i && eqb (sym ep i) v) e (one_if (active i && eqb (sym eq i) v) e [])) ∙ both (f v) (eqb p v) (eqb q v)))
       two
     where
@@ -225,9 +220,9 @@ module _ (es : List EdgeData) (e : ℕ) (h : e < length es) where
       both l false false = append-nil l
 
 -- all edges
-pub counted_all : (es : List EdgeData) (ends lows highs : List ℕ) (e : ℕ) → Counted es ends lows highs e → e ≡ length es → Tabled es ends lows highs
-counted_all es ends lows highs e k q =
-    let r = listed_as ends lows highs (λ v. ends_at (take e es) v) (λ v. ends_at es v) (λ v. ap (λ l. ends_at l v) (take_all e es (omega arith))) k in
+pub counted_all : (es : List EdgeData) {ends lows highs : List ℕ} (e : ℕ) → Counted es ends lows highs e → e ≡ length es → Tabled es ends lows highs
+counted_all es e k q =
+    let r = listed_as (λ v. ends_at (take e es) v) (λ v. ends_at es v) (λ v. ap (λ l. ends_at l v) (take_all e es (omega arith))) k in
     record {
       size = r.size;
       lows_size = r.lows_size;

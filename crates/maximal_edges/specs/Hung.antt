@@ -1,8 +1,7 @@
 -- The loops in linked tables while edges are joined: sound, and with room for the items of every edge still to come.
-use Rattle.std.specs.Prelude.{ℕ, suc, ◌+◌, ◌*◌, ◌/◌, ◌<◌, ◌≤◌, ◌≡◌, List, [], ◌∷◌, map, length, set, replicate}
+use Rattle.std.specs.Prelude.{ℕ, suc, ◌+◌, ◌*◌, ◌/◌, ◌<◌, ◌≤◌, ◌≡◌, List, [], ◌∷◌, map, length, set}
 use Rattle.std.proofs.Common.{arith, sym, ap, subst, ◌∙◌, length-set, length-append}
 use Rattle.std.proofs.lemmas.Simd.{map-map}
-use Rattle.std.proofs.lemmas.List.{length-replicate}
 use Rattle.lists.specs.Lists.{below}
 use Rattle.lists.specs.Runs.{below_in}
 use Rattle.lists.specs.Members.{map_same}
@@ -14,15 +13,15 @@ use Rattle.theorems.proofs.Ends.{one_edge, two_edges}
 use Rattle.theorems.proofs.RingLoops.{ring_keeps}
 use Rattle.theorems.specs.JoinLoops.{joined_items}
 use Rattle.theorems.proofs.LoopRuns.{join_keeps}
-use Rattle.links.specs.Tables.{Links, links_of, loop_of, Linked}
+use Rattle.links.specs.Tables.{Links, loop_of, Linked}
 use Rattle.links.specs.JoinLinks.{loops_of, Joined, Joinable}
-use Rattle.links.specs.Link.{Linkable, LinkedLoops}
-use Rattle.links.specs.Spread.{laid_loop, laid_loops, sound_linkable}
-use Rattle.links.specs.Lay.{laid_out, laid_by, laid_same}
+use Rattle.links.specs.Link.{LinkedLoops}
+use Rattle.links.specs.Spread.{laid_loop, laid_loops}
+use Rattle.links.specs.Lay.{laid_by}
 use Rattle.maximal_edges.specs.declared.Change.{Change}
 use Rattle.maximal_edges.specs.declared.Change.TheVariants.{Ring, Join}
 use Rattle.maximal_edges.specs.Joined.{edges_in, Real, JoinedAt}
-use Rattle.maximal_edges.specs.ChangeLaws.{count_edges, active_few, active_ring, active_join}
+use Rattle.maximal_edges.specs.ChangeLaws.{active_few, active_ring, active_join}
 
 -- the loops that are laid out are sound, and there are so many edges, items and loops that tables of size s hold them
 pub record SoundIn (rows : List ℕ) (count : ℕ) (items stretches : List ℕ) (s : ℕ) : Type 0 where
@@ -56,7 +55,8 @@ pub record Hung (es : List EdgeData) (t : Links) : Type 0 where
 pub hung_start : (es : List EdgeData) (items : List ℕ) (t : Links) → LinkedLoops items t → LoopsSound es (laid_loops items t.stretches) → 4 * length es ≤ length t.spots → Hung es t
 hung_start es items t l sound room = record {
   linked = l.linked;
-  sound = subst (LoopsSound es) (map_same (laid_loop items t.stretches) (loop_of t) (below (length t.stretches / 2)) (λ k m. let b = below_in (length t.stretches / 2) k m in ap (map item_in) (sym (l.same k (omega arith))))) sound;
+  sound = subst (LoopsSound es) (map_same (laid_loop items t.stretches) (loop_of t) (below (length t.stretches / 2))
+      (λ k m. let b = below_in (length t.stretches / 2) k m in ap (map item_in) (sym (l.same k (omega arith))))) sound;
   room = omega (arith, active_few es);
 }
 
@@ -103,44 +103,19 @@ module _ (es : List EdgeData) (v a b : ℕ) (t : Links) (e : ends_at es v ≡ a 
 
 -- WHAT A SWEEP FINDS
 
-module _ (names : List ℕ) (es : List EdgeData) (t : Links) (h : Hung es t) (r : Change) (real : Real es names r) where
+module _ (names : List ℕ) {es : List EdgeData} {t : Links} (h : Hung es t) {k : Change} (real : Real es names k) where
   -- the loops after a ring
-  pub hung_ringed : (v a : ℕ) → r ≡ Ring v a → (es' : List EdgeData) → es' ≡ set es a (ring_of (edge_data_at es a)) → Hung es' t
-  hung_ringed v a e es' edges = subst (λ l. Hung l t) (sym edges) (hung_ring es v a t (subst (Real es names) e real).1 h)
+  pub hung_ringed : {v a : ℕ} → k ≡ Ring v a → {es' : List EdgeData} → es' ≡ set es a (ring_of (edge_data_at es a)) → Hung es' t
+  hung_ringed {v} {a} e edges = subst (λ l. Hung l t) (sym edges) (hung_ring es v a t (subst (Real es names) e real).1 h)
 
   -- two edges that it joins can be joined
-  pub may_join_lem : (v a b : ℕ) → r ≡ Join v a b → (n : ℕ) → n ≡ length es → n < 2048 → Joinable es v a b n t
-  may_join_lem v a b e n en few = let q : Real es names (Join v a b) = subst (Real es names) e real in hung_joinable es v a b t q.1 q.2 h n en (omega arith)
+  pub may_join_lem : {v a b : ℕ} → k ≡ Join v a b → (n : ℕ) → n ≡ length es → n < 2048 → Joinable es v a b n t
+  may_join_lem {v} {a} {b} e n en few =
+      let q : Real es names (Join v a b) = subst (Real es names) e real in
+      hung_joinable es v a b t q.1 q.2 h n en (omega arith)
 
   -- the loops after a join
-  pub hung_joined : (v a b : ℕ) → r ≡ Join v a b → (t' : Links) (es' : List EdgeData) → Joined es v a b t t' → es' ≡ join_edges v a b es → Hung es' t'
-  hung_joined v a b e t' es' j edges = let q : Real es names (Join v a b) = subst (Real es names) e real in subst (λ l. Hung l t') (sym edges) (hung_join es v a b t q.1 q.2 h t' j)
-
--- THE TABLES
-
--- tables of zeros of that size
-pub blank_fit : (rows : List ℕ) (count : ℕ) (items stretches : List ℕ) (s : ℕ) → s ≤ 2048 → SoundIn rows count items stretches s
-    → LinksFit rows count items stretches (replicate s 0) (replicate s 0) (replicate s 0) (replicate s 0) (replicate (2 * s) 0)
-blank_fit rows count items stretches s h k = record {
-  sound = k.sound;
-  codes_fit = omega (arith, k.items_few, length-replicate {A = ℕ} s 0);
-  nexts_fit = omega (arith, k.items_few, length-replicate {A = ℕ} s 0);
-  owners_fit = omega (arith, k.items_few, length-replicate {A = ℕ} s 0);
-  heads_fit = omega (arith, k.stretches_few, length-replicate {A = ℕ} s 0);
-  spots_fit = omega (arith, k.edges_few, length-replicate {A = ℕ} (2 * s) 0);
-  short = omega (arith, k.stretches_few);
-}
-
-module _ (rows : List ℕ) (count : ℕ) (items stretches codes nexts heads owners spots : List ℕ) (fits : 7 * count ≤ length rows) (laid : Laid stretches items)
-    (k : LinksFit rows count items stretches codes nexts heads owners spots) where
-  pub can_link : Linkable items stretches codes nexts owners spots
-  can_link =
-      sound_linkable (edges_in rows count) items stretches laid k.sound codes nexts owners spots k.codes_fit k.nexts_fit k.owners_fit (omega (arith, k.spots_fit, count_edges rows count fits))
-
-  -- once they are linked, the loops laid out by the tables are those that were linked
-  pub linked_start : (codes' nexts' heads' owners' spots' : List ℕ) → length spots' ≡ length spots → LinkedLoops items (links_of codes' nexts' heads' owners' spots' stretches)
-      → Hung (edges_in rows count) (links_of codes' nexts' heads' owners' spots' stretches) × (laid_out codes' nexts' heads' stretches items ≡ items)
-  linked_start codes' nexts' heads' owners' spots' size l = (
-    hung_start (edges_in rows count) items (links_of codes' nexts' heads' owners' spots' stretches) l k.sound (omega (arith, size, k.spots_fit, count_edges rows count fits)),
-    laid_same (links_of codes' nexts' heads' owners' spots' stretches) items laid l.same,
-  )
+  pub hung_joined : {v a b : ℕ} → k ≡ Join v a b → {t' : Links} {es' : List EdgeData} → Joined es v a b t t' → es' ≡ join_edges v a b es → Hung es' t'
+  hung_joined {v} {a} {b} e {t'} j edges =
+      let q : Real es names (Join v a b) = subst (Real es names) e real in
+      subst (λ l. Hung l t') (sym edges) (hung_join es v a b t q.1 q.2 h t' j)

@@ -1,13 +1,13 @@
 -- What a change leaves still, and where the next sweep begins: a corner whose two edges stay the same is tried again in vain.
 use Prim.Native.Nat.{ℕ, ◌+◌, ◌<◌, ◌≤◌}
 use Rattle.std.proofs.Math.Decide.{dec_lt, ℕ_discrete}
-use Rattle.std.proofs.Common.{arith, sym, ◌∙◌, get_or-set_same, lt-ltb, le-ltb}
-use Rattle.std.specs.Prelude.{◌≡◌, ◌⊎◌, List, [], ◌∷◌, cond, length, get_or, set, eqb, ltb}
+use Rattle.std.proofs.Common.{arith, sym, ◌∙◌, get_or-set_same}
+use Rattle.std.specs.Prelude.{◌≡◌, List, [], ◌∷◌, cond, length, get_or, set, eqb}
 use Rattle.std.proofs.Math.Path.{refl, ap}
 use Rattle.std.proofs.Math.Logic.{inl, inr, ⊎_elim}
 use Rattle.std.proofs.Math.Seq.{get_or-set_other}
 use Rattle.lists.specs.Lists.{◌∈◌, Nodup, index_of}
-use Rattle.lists.specs.Tests.{equal_or_not, cond_true, cond_false}
+use Rattle.lists.specs.Tests.{equal_or_not}
 use Rattle.lists.specs.Members.{index_of_at}
 use Rattle.lists.specs.Membership.{get_or_in}
 use Rattle.rules.specs.declared.EdgeData.{EdgeData}
@@ -18,7 +18,8 @@ use Rattle.theorems.specs.Ends.{one_at, ends_one}
 use Rattle.theorems.proofs.Ends.{one_at_same, one_at_other, two_edges, one_edge}
 use Rattle.theorems.specs.Changes.{Made}
 use Rattle.theorems.proofs.Corners.{corner_none, ends_elsewhere, ring_ends}
-use Rattle.maximal_edges.specs.Joined.{RankedTo, Ranked, Still, StillBut, next_after, Found, lower_of, higher_of}
+use Rattle.maximal_edges.specs.declared.Resume.{Resume}
+use Rattle.maximal_edges.specs.Joined.{RankedTo, Ranked, Still, StillBut, next_after, after_ring, after_join, Found}
 use Rattle.maximal_edges.specs.PairLaws.{pair_each, pair_of, pair_inside, ring_elsewhere, other_edge, first_gone, second_gone, new_there, join_elsewhere}
 use Rattle.maximal_edges.specs.SweepLaws.{idle_still}
 use Rattle.maximal_edges.specs.ChangeLaws.{bare}
@@ -26,7 +27,8 @@ use Rattle.maximal_edges.specs.ChangeLaws.{bare}
 -- ONE FAN
 
 -- with the same ends as before, of edges that are the same, it stays still
-kept : (answers : List Answer) (starts : List ℕ) (es es' : List EdgeData) (u : ℕ) → length (ends_at es' u) ≡ length (ends_at es u) → ((x : ℕ) → ends_one u (edge_data_at es' x) ≡ ends_one u (edge_data_at es x))
+kept : (answers : List Answer) (starts : List ℕ) (es es' : List EdgeData) (u : ℕ) → length (ends_at es' u) ≡ length (ends_at es u)
+    → ((x : ℕ) → ends_one u (edge_data_at es' x) ≡ ends_one u (edge_data_at es x))
     → ((x : ℕ) → 1 ≤ ends_one u (edge_data_at es' x) → edge_data_at es' x ≡ edge_data_at es x) → Still answers starts es u → Still answers starts es' u
 kept answers starts es es' u count ends edges still a b e =
     let each = pair_each es' u a b e in
@@ -81,45 +83,10 @@ module _ (answers : List Answer) (starts : List ℕ) (es : List EdgeData) (v : �
 
 -- POSITIONS
 
--- two numbers in order
-order : (a b : ℕ) → ((a < b) × (lower_of a b ≡ a) × (higher_of a b ≡ b)) ⊎ ((b ≤ a) × (lower_of a b ≡ b) × (higher_of a b ≡ a))
-order a b =
-    elim (dec_lt a b) [
-      | yes h ↦ inl (h, cond_true (ltb a b) a b (lt-ltb a b h), cond_true (ltb a b) b a (lt-ltb a b h))
-      | no h ↦ inr (omega arith, cond_false (ltb a b) a b (le-ltb a b (omega arith)), cond_false (ltb a b) b a (le-ltb a b (omega arith)))
-    ]
-
-lower_most : (t x : ℕ) → lower_of t x ≤ t
-lower_most t x = ⊎_elim (λ w. omega (arith, w.1)) (λ w. omega (arith, w.0, w.1)) (order t x)
-
-lower_both : (t x y : ℕ) → x ≤ y → lower_of t x ≤ lower_of t y
-lower_both t x y h =
-    ⊎_elim
-    (λ w. ⊎_elim (λ u. omega (arith, w.1, u.1)) (λ u. omega (arith, w.0, w.1, u.0, u.1)) (order t y))
-    (λ w. ⊎_elim (λ u. omega (arith, w.0, w.1, u.1)) (λ u. omega (arith, w.1, u.1)) (order t y))
-    (order t x)
-
-lower_inside : (t x : ℕ) → x < t → lower_of t x ≡ x
-lower_inside t x h = ⊎_elim (λ w. absurd (omega (arith, w.0))) (λ w. w.1) (order t x)
-
--- of two positions before `top` each is the lower one or the higher one
-first_hit : (top p q k : ℕ) → k < top → p ≡ k → (k ≡ lower_of top (lower_of p q) → ⊥) → (k ≡ lower_of top (higher_of p q) → ⊥) → ⊥
-first_hit top p q k h e nl nh =
-    ⊎_elim
-    (λ w. nl (sym (ap (lower_of top) (w.1 ∙ e) ∙ lower_inside top k h)))
-    (λ w. nh (sym (ap (lower_of top) (w.2 ∙ e) ∙ lower_inside top k h)))
-    (order p q)
-
-second_hit : (top p q k : ℕ) → k < top → q ≡ k → (k ≡ lower_of top (lower_of p q) → ⊥) → (k ≡ lower_of top (higher_of p q) → ⊥) → ⊥
-second_hit top p q k h e nl nh =
-    ⊎_elim
-    (λ w. nh (sym (ap (lower_of top) (w.2 ∙ e) ∙ lower_inside top k h)))
-    (λ w. nl (sym (ap (lower_of top) (w.1 ∙ e) ∙ lower_inside top k h)))
-    (order p q)
-
 -- one position more is noted
-pub ranked_more : (names ranks ranks' : List ℕ) (i v : ℕ) → Nodup names → i < length names → v ≡ get_or names i 0 → v < length ranks → ranks' ≡ set ranks v i → RankedTo names ranks i → RankedTo names ranks' (i + 1)
-ranked_more names ranks ranks' i v nodup h ev inside er known k b =
+pub ranked_more : (names ranks : List ℕ) {ranks' : List ℕ} {i v : ℕ} → Nodup names → i < length names → v ≡ get_or names i 0 → v < length ranks → ranks' ≡ set ranks v i
+    → RankedTo names ranks i → RankedTo names ranks' (i + 1)
+ranked_more names ranks {i = i} {v} nodup h ev inside er known k b =
     elim (ℕ_discrete k i) [
       | yes e ↦ (λ j. get_or (er j) ((ap (λ x. get_or names x 0) e ∙ sym ev) j) 0) ∙ get_or-set_same ranks v i 0 inside ∙ sym e
       | no ne ↦
@@ -131,10 +98,13 @@ ranked_more names ranks ranks' i v nodup h ev inside er known k b =
 
 -- AFTER A CHANGE
 
-module _ (answers : List Answer) (starts names : List ℕ) (fans : (x : ℕ) → x ∈ names → x < 2048) (es : List EdgeData) (high top v : ℕ) (at : v ∈ names) (found : Found answers starts names es high top v) (ranks : List ℕ)
-    (ranked : Ranked names ranks) (t : ℕ) (et : t ≡ next_after high top (get_or ranks v 0)) where
-  next : t ≡ next_after high top found.at
-  next = et ∙ ap (next_after high top) (ap (λ x. get_or ranks x 0) (sym found.here) ∙ ranked found.at found.inside)
+module _ (answers : List Answer) (starts names : List ℕ) (fans : (x : ℕ) → x ∈ names → x < 2048) (es : List EdgeData) (from : Resume) (v : ℕ) (at : v ∈ names)
+    (found : Found answers starts names es from v) (ranks : List ℕ) (ranked : Ranked names ranks) where
+  abbrev t : ℕ
+  t = next_after from (get_or ranks v 0)
+
+  next : t ≡ next_after from found.at
+  next = ap (next_after from) (ap (λ x. get_or ranks x 0) (sym found.here) ∙ ranked found.at found.inside)
 
   still : (k : ℕ) → k < t → k < length names → (get_or names k 0 ≡ v → ⊥) → Still answers starts es (get_or names k 0)
   still k h inside apart = found.before k (omega (arith, next)) inside (λ e. apart (ap (λ j. get_or names j 0) e ∙ found.here))
@@ -143,7 +113,7 @@ module _ (answers : List Answer) (starts names : List ℕ) (fans : (x : ℕ) →
   fan k inside = let r = fans (get_or names k 0) (get_or_in names k 0 inside) in omega arith
 
   -- a ring: every corner before the next one is still
-  pub but_ring : (a : ℕ) → ends_at es v ≡ a ∷ a ∷ [] → StillBut answers starts names (set es a (ring_of (edge_data_at es a))) t t t
+  pub but_ring : (a : ℕ) → ends_at es v ≡ a ∷ a ∷ [] → StillBut answers starts names (set es a (ring_of (edge_data_at es a))) (after_ring from (get_or ranks v 0))
   but_ring a e = record {
     low_high = omega arith;
     high_top = omega arith;
@@ -152,22 +122,22 @@ module _ (answers : List Answer) (starts names : List ℕ) (fans : (x : ℕ) →
 
   -- a join: but the far ends
   pub but_join : (a b p q : ℕ) → ends_at es v ≡ a ∷ b ∷ [] → a < b → p ≡ get_or ranks (far_end v (edge_data_at es a)) 0 → q ≡ get_or ranks (far_end v (edge_data_at es b)) 0
-      → StillBut answers starts names (join_edges v a b es) (lower_of t (lower_of p q)) (lower_of t (higher_of p q)) t
+      → StillBut answers starts names (join_edges v a b es) (after_join from (get_or ranks v 0) p q)
   but_join a b p q e lower ep eq = record {
-    low_high = lower_both t (lower_of p q) (higher_of p q) (⊎_elim (λ w. omega (arith, w.0, w.1, w.2)) (λ w. omega (arith, w.0, w.1, w.2)) (order p q));
-    high_top = lower_most t (higher_of p q);
+    low_high = omega arith;
+    high_top = omega arith;
     others = λ k h inside nl nh.
         still_join answers starts es v (let r = fans v at in omega arith) (get_or names k 0) (fan k inside) a b e lower
-        (λ z. first_hit t p q k h (ep ∙ ap (λ x. get_or ranks x 0) (sym z) ∙ ranked k inside) nl nh)
-        (λ z. second_hit t p q k h (eq ∙ ap (λ x. get_or ranks x 0) (sym z) ∙ ranked k inside) nl nh)
+        (λ z. let here : p ≡ k = ep ∙ ap (λ x. get_or ranks x 0) (sym z) ∙ ranked k inside in omega arith)
+        (λ z. let here : q ≡ k = eq ∙ ap (λ x. get_or ranks x 0) (sym z) ∙ ranked k inside in omega arith)
         (still k h inside);
   }
 
 -- the ends of the new edge
-pub new_start : (new x y : EdgeData) (v : ℕ) → new ≡ joined_edge v x y → new.start ≡ far_end v x
+pub new_start : {new : EdgeData} (x y : EdgeData) (v : ℕ) → new ≡ joined_edge v x y → new.start ≡ far_end v x
 unfolding joined_edge
-new_start new x y v e = ap (λ (d : EdgeData). d.start) e
+new_start x y v e = ap (λ (d : EdgeData). d.start) e
 
-pub new_end : (new x y : EdgeData) (v : ℕ) → new ≡ joined_edge v x y → new.end ≡ far_end v y
+pub new_end : {new : EdgeData} (x y : EdgeData) (v : ℕ) → new ≡ joined_edge v x y → new.end ≡ far_end v y
 unfolding joined_edge
-new_end new x y v e = ap (λ (d : EdgeData). d.end) e
+new_end x y v e = ap (λ (d : EdgeData). d.end) e

@@ -2,36 +2,32 @@
 
 #![tactic(auto)]
 
-ghost use Rattle.std.specs.Prelude.{◌≡◌, ℕ, ◌+◌, ◌*◌, ◌<◌, ◌≤◌, ◌^◌, List, [], ◌∷◌, ◌++◌, true, cond, length, get_or, set, eqb};
-ghost use Rattle.lists.specs.Lists.{◌∈◌, Nodup, same};
+ghost use Rattle.std.specs.Prelude.{◌≡◌, ℕ, ◌+◌, ◌*◌, ◌<◌, ◌≤◌, ◌^◌, List, true, cond, length, get_or, set, eqb, Ok, IfOk, EachIndex};
+ghost use Rattle.lists.specs.Lists.{◌∈◌, Nodup};
 ghost use Rattle.rules.specs.Sense.{reverse};
-ghost use Rattle.rules.specs.Questions.{ask_yes};
-ghost use Rattle.rules.specs.Join.{edge_data_at, not_singular, may_join, joined_edge, retired as retired_edge, ring_of, maximal_edges};
+ghost use Rattle.rules.specs.Outcome.{◌>>=◌ as ◌and_then◌};
+ghost use Rattle.rules.specs.Join.{edge_data_at, singular, not_singular, may_join, joined_edge, retired as retired_edge, ring_of, maximal_edges};
 ghost use Rattle.job.specs.Lists.{answers_in};
 ghost use Rattle.answers.specs.Index.{Indexed};
-ghost use Rattle.ask.specs.Told.{told_of};
 ghost use Rattle.edges.specs.Table.{rows_in, Laid};
 ghost use Rattle.links.specs.Tables.{links_of};
 ghost use Rattle.links.specs.JoinLinks.{Joinable};
 ghost use Rattle.links.specs.Lay.{laid_out};
-ghost use Rattle.theorems.specs.Ends.{one_at, ends_one};
-ghost use Rattle.maximal_edges.specs.Joined.{edges_in, state_in, joining_of, Fitting, Ran, Blank, Tabled, EndCounted, lows_after, may_change, StillBut, next_after, Ranked, lower_of, higher_of, is_still, TriedAt, Swept, done_with};
+ghost use Rattle.theorems.specs.Ends.{ends_one};
+ghost use Rattle.maximal_edges.specs.Joined.{edges_in, state_in, Fitting, Ran, Blank, Tabled, EndCounted, lows_after};
+ghost use Rattle.maximal_edges.specs.Joined.{may_change, change_at, try_corner, StillBut, next_after, after_ring, after_join, Ranked, Swept};
 ghost use Rattle.maximal_edges.specs.Hung.{SoundIn, LinksFit, JoinedIn, Hung};
 ghost use Rattle.maximal_edges.specs.CountLaws.{Counted};
-ghost use Rattle.maximal_edges.specs.SweepLaws.{change_at};
 
-use ask::Told;
 use edges::{edge_active, edge_at, edge_end, edge_start, put_edge};
 use fields::{get, put};
-use rules::{Counts, EdgeData, Sense};
+use rules::{Counts, EdgeData, Refusal, Sense};
 
-// What a sweep finds: no change; the corner and the edge of a ring; the corner and the two edges of a join; or a refusal.
+// A change at the corner that its first number names: an edge becomes a ring, or two edges become one.
 #[derive(Clone, Copy)]
 pub enum Change {
-    Unchanged,
     Ring(usize, usize),
     Join(usize, usize, usize),
-    Refused(usize, usize),
 }
 
 // How many edges there are, and how many joins and rings made them so.
@@ -42,30 +38,15 @@ pub struct Joins {
     pub rings: usize,
 }
 
-#[derive(Clone, Copy)]
-pub enum Joining {
-    Done(Joins),
-    Refused(usize, usize),
-}
-
 // ENDS
 
-// 1 where two numbers are equal.
-fn one_at(a: usize, x: usize) -> usize
-    ensures { (result ≡ one_at a x) × (result ≤ 1) }
-{
-    if a == x {
-        return 1;
-    }
-    0
-}
-
 // The active ends of edge e at corner v: 0, 1 or 2.
+#[tactic(auto, unfolding(theorems::specs::Ends::ends_one))]
 fn ends_of(rows: &[u32], e: usize, v: usize) -> usize
     ensures { (result ≡ ends_one v (edge_data_at (rows_in rows.now) e)) × (result ≤ 2) }
 {
     if edge_active(rows, e) {
-        return one_at(edge_start(rows, e), v) + one_at(edge_end(rows, e), v);
+        return usize::from(edge_start(rows, e) == v) + usize::from(edge_end(rows, e) == v);
     }
     0
 }
@@ -107,74 +88,71 @@ fn count_ends(rows: &[u32], ends: &mut [u32], lows: &mut [u32], highs: &mut [u32
     requires { (length rows.now ≤ 14336) × Blank ends.old lows.old highs.old }
     ensures { Tabled (rows_in rows.now) ends.new lows.new highs.new }
 {
-    let n = rows.len() / 7;
-    let mut e: usize = 0;
-    while e < n {
+    for e in 0..rows.len() / 7 {
         count_edge(rows, ends, lows, highs, e);
-        e += 1;
     }
 }
 
 // QUESTIONS AT A CORNER
 
-// The two faces beside one edge are those beside the other.
-fn same_pair(x: [u32; 2], y: [u32; 2]) -> bool
-    ensures { result ≡ same x y }
-{
-    if x[0] != y[0] {
-        return false;
-    }
-    x[1] == y[1]
-}
-
-// A number as wide as a place.
-fn wide(v: u32) -> usize
-    ensures { (result ≡ v) × (result < 4294967296) }
-{
-    v as usize
-}
-
-// Kind 11 for a curve between two faces, at a point.
-fn singular(job: &[u8], index: &[u32], c: Counts, curve: u32, faces: [u32; 2], point: usize) -> Told
+// Kind 11 for an edge, at a point.
+fn singular(
+    job: &[u8],
+    index: &[u32],
+    c: Counts,
+    e: EdgeData,
+    point: usize,
+) -> Result<bool, Refusal>
     requires { Indexed job.now index.now c × (point < 4294967296) }
-    ensures { told_of result ≡ ask_yes (answers_in job.now index.now c) 11 (curve ∷ (faces ++ (point ∷ []))) }
+    ensures { result ≡ singular (answers_in job.now index.now c) e point }
 {
-    let low = wide(faces[0]);
-    let high = wide(faces[1]);
-    ask::ask_singular(job, index, c, wide(curve), low, high, point)
+    ask::ask_singular(
+        job,
+        index,
+        c,
+        e.curve as usize,
+        e.faces[0] as usize,
+        e.faces[1] as usize,
+        point,
+    )
 }
 
 // An edge is not singular at a point.
-fn not_singular(job: &[u8], index: &[u32], c: Counts, e: EdgeData, point: usize) -> Told
+fn not_singular(
+    job: &[u8],
+    index: &[u32],
+    c: Counts,
+    e: EdgeData,
+    point: usize,
+) -> Result<bool, Refusal>
     requires { Indexed job.now index.now c × (point < 4294967296) }
-    ensures { told_of result ≡ not_singular (answers_in job.now index.now c) e point }
+    ensures { result ≡ not_singular (answers_in job.now index.now c) e point }
 {
-    let faces = e.faces;
-    let t = singular(job, index, c, e.curve, faces, point);
-    match t {
-        Told::Yes => Told::No,
-        Told::No => Told::Yes,
-        Told::Refused(n, p) => Told::Refused(n, p),
-    }
+    let yes = singular(job, index, c, e, point)?;
+    Ok(!yes)
 }
 
 // Two edges need equal face pairs, then same curve, then not singular for the first.
-fn may_join(job: &[u8], index: &[u32], c: Counts, a: EdgeData, b: EdgeData, point: usize) -> Told
+#[tactic(auto, using(crate::specs::SweepLaws::pointwise_same), unfolding(rules::specs::Join::may_join))]
+fn may_join(
+    job: &[u8],
+    index: &[u32],
+    c: Counts,
+    a: EdgeData,
+    b: EdgeData,
+    point: usize,
+) -> Result<bool, Refusal>
     requires { Indexed job.now index.now c × (point < 4294967296) }
-    ensures { told_of result ≡ may_join (answers_in job.now index.now c) a b point }
+    ensures { result ≡ may_join (answers_in job.now index.now c) a b point }
 {
-    let x = a.faces;
-    let y = b.faces;
-    if same_pair(x, y) {
-        let t = ask::ask_same(job, index, c, 10, a.curve as usize, b.curve as usize);
-        match t {
-            Told::Refused(n, p) => Told::Refused(n, p),
-            Told::No => Told::No,
-            Told::Yes => not_singular(job, index, c, a, point),
-        }
-    } else {
-        Told::No
+    if a.faces != b.faces {
+        return Ok(false);
     }
+    let same_curve = ask::ask_same(job, index, c, 10, a.curve as usize, b.curve as usize)?;
+    if !same_curve {
+        return Ok(false);
+    }
+    not_singular(job, index, c, a, point)
 }
 
 // The ring of edge a at corner v, or the join of edges a and b.
@@ -196,9 +174,9 @@ fn may_change(
     a: usize,
     b: usize,
     point: usize,
-) -> Told
+) -> Result<bool, Refusal>
     requires { Indexed job.now index.now c × (point < 4294967296) }
-    ensures { told_of result ≡ may_change (answers_in job.now index.now c) (rows_in rows.now) a b point }
+    ensures { result ≡ may_change (answers_in job.now index.now c) (rows_in rows.now) a b point }
 {
     if a == b {
         return not_singular(job, index, c, edge_at(rows, a), point);
@@ -216,49 +194,66 @@ fn try_corner(
     v: usize,
     a: usize,
     b: usize,
-) -> Change
+) -> Result<Option<Change>, Refusal>
     requires { Indexed job.now index.now c }
-    ensures { TriedAt (answers_in job.now index.now c) starts.now (rows_in rows.now) v a b result }
+    ensures { result ≡ try_corner (answers_in job.now index.now c) starts.now (rows_in rows.now) v a b }
 {
-    let t = may_change(job, index, c, rows, a, b, get(starts, v));
-    match t {
-        Told::Refused(n, p) => Change::Refused(n, p),
-        Told::No => Change::Unchanged,
-        Told::Yes => change_at(v, a, b),
-    }
+    let yes = may_change(job, index, c, rows, a, b, get(starts, v))?;
+    Ok(yes.then_some(change_at(v, a, b)))
 }
 
 // SWEEPS
 
-// Nothing has changed.
-fn stays(change: Change) -> bool
-    ensures { result ≡ is_still change }
-{
-    match change {
-        Change::Unchanged => true,
-        Change::Ring(v, a) => false,
-        Change::Join(v, a, b) => false,
-        Change::Refused(n, p) => false,
-    }
+// Where a sweep begins: the corners before `top` are still, but for the ones at `low` and `high`.
+#[derive(Clone, Copy, Default)]
+struct Resume {
+    low: usize,
+    high: usize,
+    top: usize,
 }
 
 // Where a sweep goes on after position i: at `high` and at `top`, while they are to come, then one by one.
-fn next_after(i: usize, high: usize, top: usize) -> usize
+fn next_after(from: Resume, i: usize) -> usize
     requires { i + 1 < 2 ^ 64 }
-    ensures { result ≡ next_after high top i }
+    ensures { result ≡ next_after from i }
 {
-    if i < high {
-        return high;
+    if i < from.high {
+        return from.high;
     }
-    if i < top {
-        return top;
+    if i < from.top {
+        return from.top;
     }
     i + 1
 }
 
-// One sweep over the corners, which stops at its first change. Those before `top` are still but for the ones at `low` and
-// `high`, so that it begins at `low`. The edges of a corner are its lower one, then its higher one, until two ends are seen:
-// one edge may have both.
+// After a ring at fan v every corner before the next one is still.
+fn after_ring(from: Resume, ranks: &[u32], v: usize) -> Resume
+    ensures { result ≡ after_ring from (get_or ranks.now v 0) }
+{
+    let top = next_after(from, get(ranks, v));
+    Resume {
+        low: top,
+        high: top,
+        top,
+    }
+}
+
+// After a join at fan v so is every one but the far ends of the joined edges, which the new edge e has.
+fn after_join(from: Resume, ranks: &[u32], v: usize, e: EdgeData) -> Resume
+    ensures { result ≡ after_join from (get_or ranks.now v 0) (get_or ranks.now e.start 0) (get_or ranks.now e.end 0) }
+{
+    let top = next_after(from, get(ranks, v));
+    let p = get(ranks, e.start as usize);
+    let q = get(ranks, e.end as usize);
+    Resume {
+        low: top.min(p.min(q)),
+        high: top.min(p.max(q)),
+        top,
+    }
+}
+
+// One sweep over the corners, which stops at its first change; it passes over those that are known to be still. The edges
+// of a corner are its lower one, then its higher one, until two ends are seen: one edge may have both.
 fn sweep(
     job: &[u8],
     index: &[u32],
@@ -269,37 +264,36 @@ fn sweep(
     ends: &[u32],
     lows: &[u32],
     highs: &[u32],
-    low: usize,
-    high: usize,
-    top: usize,
-) -> Change
-    requires { Indexed job.now index.now c × Tabled (rows_in rows.now) ends.now lows.now highs.now × ((v : ℕ) → v ∈ names.now → v < length ends.now) × StillBut (answers_in job.now index.now c) starts.now names.now (rows_in rows.now) low high top }
-    ensures { Swept (answers_in job.now index.now c) starts.now names.now (rows_in rows.now) high top result }
+    from: Resume,
+) -> Result<Option<Change>, Refusal>
+    requires indexed { Indexed job.now index.now c }
+    requires tabled { Tabled (rows_in rows.now) ends.now lows.now highs.now }
+    requires fans { (v : ℕ) → v ∈ names.now → v < length ends.now }
+    requires known { StillBut (answers_in job.now index.now c) starts.now names.now (rows_in rows.now) from }
+    ensures { Swept (answers_in job.now index.now c) starts.now names.now (rows_in rows.now) from result }
 {
-    let mut change = Change::Unchanged;
-    let mut i = low;
+    let mut change = None;
+    let mut i = from.low;
     'corners: while i < names.len() {
         let v = get(names, i);
-        i = next_after(i, high, top);
+        i = next_after(from, i);
         if get(ends, v) == 2 {
             let a = get(lows, v);
-            let mut e = a;
             let mut seen: usize = 0;
-            'edges: while seen < 2 {
+            'edges: for e in [a, get(highs, v)] {
                 seen += ends_of(rows, e, v);
                 if seen != 2 {
-                    e = get(highs, v);
                     continue 'edges;
                 }
-                change = try_corner(job, index, c, starts, rows, v, a, e);
-                if stays(change) {
+                change = try_corner(job, index, c, starts, rows, v, a, e)?;
+                if change.is_none() {
                     continue 'corners;
                 }
                 break 'corners;
             }
         }
     }
-    change
+    Ok(change)
 }
 
 // Each fan's position among the names.
@@ -307,31 +301,9 @@ fn rank(names: &[u32], ranks: &mut [u32])
     requires { Nodup names.now × (length ranks.old ≤ 2048) × ((v : ℕ) → v ∈ names.now → v < length ranks.old) }
     ensures { Ranked names.now ranks.new }
 {
-    let mut i: usize = 0;
-    while i < names.len() {
-        put(ranks, get(names, i), i);
-        i += 1;
+    for (i, v) in names.iter().enumerate() {
+        put(ranks, *v as usize, i);
     }
-}
-
-// The lower of two numbers.
-fn lower(a: usize, b: usize) -> usize
-    ensures { result ≡ lower_of a b }
-{
-    if a < b {
-        return a;
-    }
-    b
-}
-
-// The higher of two numbers.
-fn higher(a: usize, b: usize) -> usize
-    ensures { result ≡ higher_of a b }
-{
-    if a < b {
-        return b;
-    }
-    a
 }
 
 // THE TWO CHANGES
@@ -353,25 +325,20 @@ fn joined_sense(sense: Sense, end: u32, v: usize) -> Sense
     if end as usize == v {
         return sense;
     }
-    job::reverse(sense)
+    sense.reverse()
 }
 
 // The edge that two edges meeting at corner v become.
+#[tactic(auto, unfolding(rules::specs::Join::joined_edge))]
 fn joined_edge(v: usize, a: EdgeData, b: EdgeData) -> EdgeData
     ensures { result ≡ joined_edge v a b }
 {
-    let faces = a.faces;
-    let old = a.sense;
-    let sense = joined_sense(old, a.end, v);
-    let start = far_end(a.start, a.end, v);
-    let end = far_end(b.start, b.end, v);
     EdgeData {
-        curve: a.curve,
-        sense,
-        start,
-        end,
-        faces,
+        sense: joined_sense(a.sense, a.end, v),
+        start: far_end(a.start, a.end, v),
+        end: far_end(b.start, b.end, v),
         active: true,
+        ..a
     }
 }
 
@@ -379,31 +346,17 @@ fn joined_edge(v: usize, a: EdgeData, b: EdgeData) -> EdgeData
 fn retired(e: EdgeData) -> EdgeData
     ensures { result ≡ retired_edge e }
 {
-    let sense = e.sense;
-    let faces = e.faces;
-    EdgeData {
-        curve: e.curve,
-        sense,
-        start: e.start,
-        end: e.end,
-        faces,
-        active: false,
-    }
+    EdgeData { active: false, ..e }
 }
 
 // An edge turned into a ring.
 fn ring_of(e: EdgeData) -> EdgeData
     ensures { result ≡ ring_of e }
 {
-    let sense = e.sense;
-    let faces = e.faces;
     EdgeData {
-        curve: e.curve,
-        sense,
-        start: 4294967295,
-        end: 4294967295,
-        faces,
-        active: e.active,
+        start: u32::MAX,
+        end: u32::MAX,
+        ..e
     }
 }
 
@@ -453,8 +406,13 @@ fn join_at(
     a: usize,
     b: usize,
 ) -> EdgeData
-    requires { (7 * n + 7 ≤ length rows.old) × (n < 2048) × (a < b) × (b < n) × Joinable (edges_in rows.old n) v a b n (links_of list.old nexts.old heads.old owners.now spots.old stretches.old) }
-    ensures { JoinedIn n v a b rows.old (links_of list.old nexts.old heads.old owners.now spots.old stretches.old) ends.old lows.old highs.old rows.new (links_of list.new nexts.new heads.new owners.now spots.new stretches.new) ends.new lows.new highs.new result }
+    requires room { 7 * n + 7 ≤ length rows.old }
+    requires few { n < 2048 }
+    requires lower { a < b }
+    requires inside { b < n }
+    requires joinable { Joinable (edges_in rows.old n) v a b n (links_of list.old nexts.old heads.old owners.now spots.old stretches.old) }
+    ensures { JoinedIn n v a b rows.old (links_of list.old nexts.old heads.old owners.now spots.old stretches.old) ends.old lows.old highs.old
+        rows.new (links_of list.new nexts.new heads.new owners.now spots.new stretches.new) ends.new lows.new highs.new result }
 {
     let x = edge_at(&rows[..7 * n], a);
     let y = edge_at(&rows[..7 * n], b);
@@ -467,20 +425,9 @@ fn join_at(
     let e = joined_edge(v, x, y);
     put_edge(rows, n, e);
     put(ends, v, 0);
-    replace_end(lows, highs, wide(e.start), a, n);
-    replace_end(lows, highs, wide(e.end), b, n);
+    replace_end(lows, highs, e.start as usize, a, n);
+    replace_end(lows, highs, e.end as usize, b, n);
     e
-}
-
-// The answer of a run that is not refused.
-fn done(edges: usize, joins: usize, rings: usize) -> Joining
-    ensures { result ≡ done_with edges joins rings }
-{
-    Joining::Done(Joins {
-        edges,
-        joins,
-        rings,
-    })
 }
 
 // After a change the sweep begins afresh, up to a sweep without change. What was tried in vain before is tried again only at
@@ -504,51 +451,56 @@ fn join_all(
     spots: &mut [u32],
     items: &mut [u32],
     stretches: &mut [u32],
-) -> Joining
-    requires { Indexed job.now index.now c × (14 * count ≤ length rows.old) × (count ≤ 1024) × Laid stretches.old items.old × Tabled (edges_in rows.old count) ends.old lows.old highs.old × Nodup names.now × ((v : ℕ) → v ∈ names.now → v < length ends.old) × Ranked names.now ranks.now × Hung (edges_in rows.old count) (links_of list.old nexts.old heads.old owners.now spots.old stretches.old) × (laid_out list.old nexts.old heads.old stretches.old items.old ≡ items.old) }
+) -> Result<Joins, Refusal>
+    requires indexed { Indexed job.now index.now c }
+    requires room { 14 * count ≤ length rows.old }
+    requires count_few { count ≤ 1024 }
+    requires laid { Laid stretches.old items.old }
+    requires tabled { Tabled (edges_in rows.old count) ends.old lows.old highs.old }
+    requires nodup { Nodup names.now }
+    requires fans { (v : ℕ) → v ∈ names.now → v < length ends.old }
+    requires ranked { Ranked names.now ranks.now }
+    requires hung { Hung (edges_in rows.old count) (links_of list.old nexts.old heads.old owners.now spots.old stretches.old) }
+    requires linked { laid_out list.old nexts.old heads.old stretches.old items.old ≡ items.old }
     ensures { Ran (answers_in job.now index.now c) starts.now names.now rows.old count items.old stretches.old rows.new items.new stretches.new result }
 {
-    let mut n = count;
-    let mut joins: usize = 0;
-    let mut rings: usize = 0;
-    let mut low: usize = 0;
-    let mut high: usize = 0;
-    let mut top: usize = 0;
-    'sweeps: loop {
-        let part = &rows[..7 * n];
-        let change = sweep(
-            job, index, c, starts, names, part, ends, lows, highs, low, high, top,
-        );
+    let mut made = Joins {
+        edges: count,
+        joins: 0,
+        rings: 0,
+    };
+    let mut from = Resume::default();
+    'sweeps: while let Some(change) = sweep(
+        job,
+        index,
+        c,
+        starts,
+        names,
+        &rows[..7 * made.edges],
+        ends,
+        lows,
+        highs,
+        from,
+    )? {
         match change {
-            Change::Unchanged => {
-                links::lay_loops(list, nexts, heads, stretches, items);
-                return done(n, joins, rings);
-            }
-            Change::Refused(number, place) => return Joining::Refused(number, place),
             Change::Ring(v, a) => {
-                ring_at(rows, n, ends, v, a);
-                top = next_after(get(ranks, v), high, top);
-                low = top;
-                high = top;
-                rings += 1;
-                continue 'sweeps;
+                ring_at(rows, made.edges, ends, v, a);
+                from = after_ring(from, ranks, v);
+                made.rings += 1;
             }
             Change::Join(v, a, b) => {
                 let e = join_at(
-                    rows, n, list, nexts, heads, owners, spots, stretches, ends, lows, highs, v, a,
-                    b,
+                    rows, made.edges, list, nexts, heads, owners, spots, stretches, ends, lows,
+                    highs, v, a, b,
                 );
-                top = next_after(get(ranks, v), high, top);
-                let p = get(ranks, wide(e.start));
-                let q = get(ranks, wide(e.end));
-                low = lower(top, lower(p, q));
-                high = lower(top, higher(p, q));
-                n += 1;
-                joins += 1;
-                continue 'sweeps;
+                from = after_join(from, ranks, v, e);
+                made.edges += 1;
+                made.joins += 1;
             }
         }
     }
+    links::lay_loops(list, nexts, heads, stretches, items);
+    Ok(made)
 }
 
 // The same, with tables for the fans that are still blank.
@@ -571,8 +523,16 @@ fn join_with(
     spots: &mut [u32],
     items: &mut [u32],
     stretches: &mut [u32],
-) -> Joining
-    requires { Indexed job.now index.now c × (14 * count ≤ length rows.old) × (count ≤ 1024) × Laid stretches.old items.old × Nodup names.now × ((v : ℕ) → v ∈ names.now → v < length ends.old) × Blank ends.old lows.old highs.old × (length ranks.old ≡ length ends.old) × LinksFit rows.old count items.old stretches.old list.old nexts.old heads.old owners.old spots.old }
+) -> Result<Joins, Refusal>
+    requires indexed { Indexed job.now index.now c }
+    requires room { 14 * count ≤ length rows.old }
+    requires count_few { count ≤ 1024 }
+    requires laid { Laid stretches.old items.old }
+    requires nodup { Nodup names.now }
+    requires fans { (v : ℕ) → v ∈ names.now → v < length ends.old }
+    requires blank { Blank ends.old lows.old highs.old }
+    requires ranks_size { length ranks.old ≡ length ends.old }
+    requires links_fit { LinksFit rows.old count items.old stretches.old list.old nexts.old heads.old owners.old spots.old }
     ensures { Ran (answers_in job.now index.now c) starts.now names.now rows.old count items.old stretches.old rows.new items.new stretches.new result }
 {
     count_ends(&rows[..7 * count], ends, lows, highs);
@@ -584,8 +544,8 @@ fn join_with(
     )
 }
 
-// The same for small parts, with tables that cost little to clear.
-fn join_small(
+// The same, with tables of their own for so many fans, and twice as many spots.
+fn join_in<const N: usize, const M: usize>(
     job: &[u8],
     index: &[u32],
     c: Counts,
@@ -595,19 +555,27 @@ fn join_small(
     count: usize,
     items: &mut [u32],
     stretches: &mut [u32],
-) -> Joining
-    requires { Indexed job.now index.now c × (14 * count ≤ length rows.old) × (count ≤ 1024) × Laid stretches.old items.old × Nodup names.now × ((v : ℕ) → v ∈ names.now → v < 64) × SoundIn rows.old count items.old stretches.old 64 }
+) -> Result<Joins, Refusal>
+    requires indexed { Indexed job.now index.now c }
+    requires room { 14 * count ≤ length rows.old }
+    requires count_few { count ≤ 1024 }
+    requires laid { Laid stretches.old items.old }
+    requires nodup { Nodup names.now }
+    requires fans { (v : ℕ) → v ∈ names.now → v < N }
+    requires sound { SoundIn rows.old count items.old stretches.old N }
+    requires small { N ≤ 2048 }
+    requires twice { M ≡ 2 * N }
     ensures { Ran (answers_in job.now index.now c) starts.now names.now rows.old count items.old stretches.old rows.new items.new stretches.new result }
 {
-    let mut ranks = [0u32; 64];
-    let mut ends = [0u32; 64];
-    let mut lows = [0u32; 64];
-    let mut highs = [0u32; 64];
-    let mut list = [0u32; 64];
-    let mut nexts = [0u32; 64];
-    let mut heads = [0u32; 64];
-    let mut owners = [0u32; 64];
-    let mut spots = [0u32; 128];
+    let mut ranks = [0u32; N];
+    let mut ends = [0u32; N];
+    let mut lows = [0u32; N];
+    let mut highs = [0u32; N];
+    let mut list = [0u32; N];
+    let mut nexts = [0u32; N];
+    let mut heads = [0u32; N];
+    let mut owners = [0u32; N];
+    let mut spots = [0u32; M];
     join_with(
         job,
         index,
@@ -628,82 +596,13 @@ fn join_small(
         items,
         stretches,
     )
-}
-
-// The same for any part.
-fn join_large(
-    job: &[u8],
-    index: &[u32],
-    c: Counts,
-    starts: &[u32],
-    names: &[u32],
-    rows: &mut [u32],
-    count: usize,
-    items: &mut [u32],
-    stretches: &mut [u32],
-) -> Joining
-    requires { Indexed job.now index.now c × (14 * count ≤ length rows.old) × (count ≤ 1024) × Laid stretches.old items.old × Nodup names.now × ((v : ℕ) → v ∈ names.now → v < 2048) × SoundIn rows.old count items.old stretches.old 2048 }
-    ensures { Ran (answers_in job.now index.now c) starts.now names.now rows.old count items.old stretches.old rows.new items.new stretches.new result }
-{
-    let mut ranks = [0u32; 2048];
-    let mut ends = [0u32; 2048];
-    let mut lows = [0u32; 2048];
-    let mut highs = [0u32; 2048];
-    let mut list = [0u32; 2048];
-    let mut nexts = [0u32; 2048];
-    let mut heads = [0u32; 2048];
-    let mut owners = [0u32; 2048];
-    let mut spots = [0u32; 4096];
-    join_with(
-        job,
-        index,
-        c,
-        starts,
-        names,
-        &mut ranks,
-        &mut ends,
-        &mut lows,
-        &mut highs,
-        rows,
-        count,
-        &mut list,
-        &mut nexts,
-        &mut heads,
-        &mut owners,
-        &mut spots,
-        items,
-        stretches,
-    )
-}
-
-// All names are below n.
-fn all_below(names: &[u32], n: usize) -> bool
-    ensures { result ≡ true → (v : ℕ) → v ∈ names.now → v < n }
-{
-    let mut i: usize = 0;
-    while i < names.len() {
-        if get(names, i) >= n {
-            return false;
-        }
-        i += 1;
-    }
-    true
 }
 
 // Fans, edges, items and loops fit the small tables.
 fn is_small(names: &[u32], count: usize, items: usize, stretches: usize) -> bool
-    ensures { result ≡ true → ((v : ℕ) → v ∈ names.now → v < 64) × (2 * count ≤ 64) × (items ≤ 64) × (stretches ≤ 128) }
+    ensures { result ≡ true → EachIndex names.now (λ k. get_or names.now k 0 < 64) × (2 * count ≤ 64) × (items ≤ 64) × (stretches ≤ 128) }
 {
-    if count > 32 {
-        return false;
-    }
-    if items > 64 {
-        return false;
-    }
-    if stretches > 128 {
-        return false;
-    }
-    all_below(names, 64)
+    count <= 32 && items <= 64 && stretches <= 128 && names.iter().all(|v| *v < 64)
 }
 
 // The edges joined: corners with exactly two active edge ends are taken away until no sweep changes anything.
@@ -717,12 +616,21 @@ pub fn maximal_edges(
     count: usize,
     items: &mut [u32],
     stretches: &mut [u32],
-) -> Joining
-    requires { Indexed job.now index.now c × (14 * count ≤ length rows.old) × (count ≤ 1024) × Laid stretches.old items.old × Nodup names.now × ((v : ℕ) → v ∈ names.now → v < 2048) × SoundIn rows.old count items.old stretches.old 2048 }
-    ensures { ((faces : List ℕ) → 2 * length faces ≤ length stretches.old → joining_of rows.new items.new stretches.new faces result ≡ maximal_edges (answers_in job.now index.now c) starts.now names.now (length names.now) (state_in rows.old count items.old stretches.old faces 0 0)) × Fitting names.now rows.new items.new stretches.new result }
+) -> Result<Joins, Refusal>
+    requires indexed { Indexed job.now index.now c }
+    requires room { 14 * count ≤ length rows.old }
+    requires count_few { count ≤ 1024 }
+    requires laid { Laid stretches.old items.old }
+    requires nodup { Nodup names.now }
+    requires fans { (v : ℕ) → v ∈ names.now → v < 2048 }
+    requires sound { SoundIn rows.old count items.old stretches.old 2048 }
+    ensures run { (faces : List ℕ) → 2 * length faces ≤ length stretches.old
+        → (result and_then λ k. Ok (state_in rows.new k.edges items.new stretches.new faces k.joins k.rings))
+        ≡ maximal_edges (answers_in job.now index.now c) starts.now names.now (length names.now) (state_in rows.old count items.old stretches.old faces 0 0) }
+    ensures fitting { IfOk result (λ k. Fitting names.now rows.new items.new stretches.new k) }
 {
     if is_small(names, count, items.len(), stretches.len()) {
-        return join_small(job, index, c, starts, names, rows, count, items, stretches);
+        return join_in::<64, 128>(job, index, c, starts, names, rows, count, items, stretches);
     }
-    join_large(job, index, c, starts, names, rows, count, items, stretches)
+    join_in::<2048, 4096>(job, index, c, starts, names, rows, count, items, stretches)
 }

@@ -1,9 +1,9 @@
 -- Chains of the members of groups: each number leads to the next of its group.
-use Rattle.std.specs.Prelude.{◌≡◌, refl, List, ◌∷◌, map, ℕ, suc, ◌+◌, ◌-◌, ◌≤◌, ◌<◌, eqb, length, get_or, set, drop}
-use Rattle.std.proofs.Common.{add-one, zero-le, arith, sym, ap, subst, ◌∙◌, ⊎_elim, eqb-true, eq-eqb, ne_eqb}
+use Rattle.std.specs.Prelude.{◌≡◌, refl, List, ◌∷◌, map, ℕ, suc, ◌+◌, ◌-◌, ◌≤◌, ◌<◌, eqb, length, get_or, set, drop, replicate}
+use Rattle.std.proofs.Common.{add-one, arith, sym, ap, subst, ◌∙◌, ⊎_elim, eqb-true, eq-eqb, ne_eqb}
 use Rattle.std.proofs.Math.ListN.{length-set}
 use Rattle.std.proofs.Math.Seq.{drop-cons, drop-length, get_or-set_same, get_or-set_other}
-use Rattle.std.proofs.lemmas.List.{get_or-drop, length-drop}
+use Rattle.std.proofs.lemmas.List.{get_or-drop, length-drop, get_or-replicate, length-replicate}
 use mathlib.Core.Bool.{true≢false}
 use Rattle.lists.specs.Members.{position_le, position_hit, position_before}
 use Rattle.lists.specs.Lists.{below, index_of, position}
@@ -58,31 +58,21 @@ index_miss : (l x : ℕ) (g : List ℕ) → (l ≡ x → ⊥) → index_of l (x 
 unfolding position
 index_miss l x g h = rw (ne_eqb l x h) refl
 
--- one label more has no number yet
-pub none_step : (t u : List ℕ) (i n : ℕ) → ((k : ℕ) → k < i → k < length t → get_or t k 0 ≡ n) → u ≡ set t i n → (k : ℕ) → k < i + 1 → k < length u → get_or u k 0 ≡ n
-none_step t u i n before e k h room =
-    let same : length u ≡ length t = ap length e ∙ length-set t i n in
-    ap (λ x. get_or x k 0) e ∙ ⊎_elim
-    (λ q. ap (λ m. get_or (set t i n) m 0) q.0 ∙ get_or-set_same t i n 0 (let z = q.0 in omega (arith, same, room)))
-    (λ q. get_or-set_other t i k n 0 q.0 ∙ before k (let z = q.0 in omega (arith, h)) (omega (arith, same, room)))
-    (equal_or_not k i)
-
--- past the last number none is chained
-pub chaining_start : (g first next : List ℕ) (n : ℕ) → n ≡ length g → length g ≤ length first → length next ≡ length g → ((l : ℕ) → l < n → l < length first → get_or first l 0 ≡ n)
-    → Chaining g first next n
+-- past the last number none is chained: that many stands for no number
+pub chaining_start : (g next : List ℕ) → length g ≤ 256 → length next ≡ length g → Chaining g (replicate 256 (length g)) next (length g)
 unfolding position
-chaining_start g first next n e r s none = record {
-  room = r;
+chaining_start g next r s = record {
+  room = omega (arith, r, length-replicate {A = ℕ} 256 (length g));
   size = s;
   firsts = λ l h.
-      let all : index_of l (drop n g) ≡ 0 = ap (λ k. index_of l (drop k g)) e ∙ ap (index_of l) (drop-length g) in
-      omega (arith, none l (omega (arith, h, e)) (omega (arith, h, r)), all);
-  nexts = λ k low h. absurd (omega (arith, low, h, e));
+      let none : index_of l (drop (length g) g) ≡ 0 = ap (index_of l) (drop-length g) in
+      omega (arith, get_or-replicate 256 l (length g) 0 (omega arith), none);
+  nexts = λ k low h. absurd (omega arith);
 }
 
 -- number i goes before them
-pub chaining_step : (g first next first' next' : List ℕ) (i label later : ℕ) → Lowest g → i < length g → Chaining g first next (i + 1) → label ≡ label_of g i → later ≡ get_or first label 0
-    → next' ≡ set next i later → first' ≡ set first label i → Chaining g first' next' i
+pub chaining_step : (g first next first' next' : List ℕ) (i label later : ℕ) → Lowest g → i < length g → Chaining g first next (i + 1) → label ≡ label_of g i
+    → later ≡ get_or first label 0 → next' ≡ set next i later → first' ≡ set first label i → Chaining g first' next' i
 unfolding next_member
 chaining_step g first next first' next' i label later L h D el er en ef =
     let C : Chaining g first next (suc i) = subst (Chaining g first next) (add-one i) D in
@@ -98,7 +88,8 @@ chaining_step g first next first' next' i label later L h D el er en ef =
           ap (λ t. get_or t l 0) ef ∙ ap (λ k. get_or (set first label i) k 0) same.0 ∙ get_or-set_same first label i 0 (omega (arith, own, C.room)) in
           omega (arith, here, got))
           (λ other.
-          let away : index_of l (drop i g) ≡ suc (index_of l (drop (suc i) g)) = ap (index_of l) (drop-cons g i 0 h) ∙ index_miss l (label_of g i) (drop (suc i) g) (λ e. other.0 (e ∙ sym el)) in
+          let away : index_of l (drop i g) ≡ suc (index_of l (drop (suc i) g)) =
+          ap (index_of l) (drop-cons g i 0 h) ∙ index_miss l (label_of g i) (drop (suc i) g) (λ e. other.0 (e ∙ sym el)) in
           let got : get_or first' l 0 ≡ get_or first l 0 = ap (λ t. get_or t l 0) ef ∙ get_or-set_other first label l i 0 other.0 in
           omega (arith, away, got, C.firsts l few))
           (equal_or_not l label);
@@ -112,5 +103,5 @@ chaining_step g first next first' next' i label later L h D el er en ef =
     }
 
 -- all are chained
-pub chaining_end : (g first next : List ℕ) → Chaining g first next 0 → next ≡ map (next_member g) (below (length g))
-chaining_end g first next C = table_is (next_member g) next (length g) 0 C.size (λ i h. C.nexts i zero-le h)
+pub chaining_end : (g first next : List ℕ) (i : ℕ) → Chaining g first next i → i ≤ 0 → next ≡ map (next_member g) (below (length g))
+chaining_end g first next i C all = table_is (next_member g) next (length g) 0 C.size (λ k h. C.nexts k (omega (arith, all)) h)

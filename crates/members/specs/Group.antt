@@ -27,6 +27,22 @@ leading_at groups members f m own h e =
     let r = lowest_members_in groups m (subst (λ l. m ∈ l) own (subst (λ x. x ∈ members) (sym e) (get_or_in members f 0 h))) in
     record { inside = r.0; own = r.1 }
 
+-- the numbers of group m below i are counted; i is one of the group, or past the last
+pub record Going (groups : List ℕ) (m n i : ℕ) : Type 0 where
+  pub within : i ≤ length groups
+  pub own : i < length groups → label_of groups i ≡ m
+  pub counted : n ≡ length (keep (λ k. eqb (label_of groups k) m) (below i))
+
+-- no more than the numbers
+pub going_few : (groups : List ℕ) (m n i : ℕ) → Going groups m n i → n ≤ i
+going_few groups m n i G = omega (arith, G.counted, keep_below_le (λ k. eqb (label_of groups k) m) i)
+
+-- past the last number all are counted
+pub going_end : (groups : List ℕ) (m n i : ℕ) → Going groups m n i → length groups ≤ i → n ≡ length (members_of groups m)
+going_end groups m n i G past =
+    let all : i ≡ length groups = omega (arith, G.within) in
+    G.counted ∙ ap (λ k. length (keep (λ k. eqb (label_of groups k) m) (below k))) all
+
 module _ (groups next : List ℕ) (m : ℕ) (C : Chained groups next) (L : Leading groups m) where
   -- what stands in the chain at i
   pub chain_at : (i j : ℕ) → i < length groups → j ≡ get_or next i 0 → j ≡ next_member groups i
@@ -51,9 +67,6 @@ module _ (groups next : List ℕ) (m : ℕ) (C : Chained groups next) (L : Leadi
   abbrev pub of_group : ℕ → Bool
   of_group k = eqb (label_of groups k) m
 
-  pub size_start : 0 ≡ length (keep of_group (below m))
-  size_start = sym (ap length (keep_nothing of_group (below m) (λ k i. ne_eqb (label_of groups k) m (none_before k (below_in m k i)))))
-
   skipped : (i d : ℕ) → ((k : ℕ) → i ≤ k → k < i + d → of_group k ≡ false) → keep of_group (below (i + d)) ≡ keep of_group (below i)
   skipped i zero none = let z : i + zero ≡ i = omega arith in ap (λ n. keep of_group (below n)) z
   skipped i (suc d) none =
@@ -61,19 +74,29 @@ module _ (groups next : List ℕ) (m : ℕ) (C : Chained groups next) (L : Leadi
       ap (λ n. keep of_group (below n)) z ∙ keep_below_no of_group (i + d) (none (i + d) (omega arith) (omega arith))
       ∙ skipped i d (λ k low high. none k low (omega (arith, high)))
 
-  pub size_step : (n i j : ℕ) → n ≡ length (keep of_group (below i)) → label_of groups i ≡ m → j ≡ next_member groups i → i < j → n + 1 ≡ length (keep of_group (below j))
-  size_step n i j e own q h =
-      let z : (i + 1) + (j - (i + 1)) ≡ j = omega (arith, h) in
+  -- from the lowest number of the group
+  pub going_start : Going groups m 0 m
+  going_start = record {
+    within = omega (arith, L.inside);
+    own = λ h. L.own;
+    counted = sym (ap length (keep_nothing of_group (below m) (λ k i. ne_eqb (label_of groups k) m (none_before k (below_in m k i)))));
+  }
+
+  -- to the next of it
+  pub going_on : (n i j : ℕ) → Going groups m n i → i < length groups → j ≡ get_or next i 0 → (i < j) × Going groups m (n + 1) j
+  going_on n i j G h e =
+      let own : label_of groups i ≡ m = G.own h in
+      let leads : j ≡ next_member groups i = chain_at i j h e in
+      let to = group_next i j h own leads in
+      let z : (i + 1) + (j - (i + 1)) ≡ j = omega (arith, to.0) in
       let one : keep of_group (below (i + 1)) ≡ keep of_group (below i) ++ (i ∷ []) = keep_below_yes of_group i (eq-eqb (label_of groups i) m own) in
       let rest : keep of_group (below j) ≡ keep of_group (below (i + 1)) =
       ap (λ k. keep of_group (below k)) (sym z)
-      ∙ skipped (i + 1) (j - (i + 1)) (λ k low high. ne_eqb (label_of groups k) m (none_between i j k own q (omega (arith, low)) (omega (arith, high, z)))) in
-      omega (arith, e, ap length rest, ap length one, length-append (keep of_group (below i)) (i ∷ []))
-
-  -- no more than the numbers
-  pub size_few : (n i : ℕ) → n ≡ length (keep of_group (below i)) → n ≤ i
-  size_few n i e = omega (arith, e, keep_below_le of_group i)
-
-  -- past the last number all are counted
-  pub size_end : (n i : ℕ) → n ≡ length (keep of_group (below i)) → i ≡ length groups → n ≡ length (members_of groups m)
-  size_end n i e all = e ∙ ap (λ k. length (keep of_group (below k))) all
+      ∙ skipped (i + 1) (j - (i + 1)) (λ k low high. ne_eqb (label_of groups k) m (none_between i j k own leads (omega (arith, low)) (omega (arith, high, z)))) in (
+        to.0,
+        record {
+          within = to.1;
+          own = to.2;
+          counted = omega (arith, G.counted, ap length rest, ap length one, length-append (keep of_group (below i)) (i ∷ []));
+        },
+      )

@@ -10,18 +10,6 @@ ghost use Rattle.members.specs.Group.{Chained, Leading};
 
 use fields::{get, put};
 
-// The first of n labels have no number yet: n stands for none.
-fn none_yet(first: &mut [u32], n: usize)
-    requires { n ≤ 256 }
-    ensures { (l : ℕ) → l < n → l < length first.old → get_or first.new l 0 ≡ n }
-{
-    let mut l: usize = 0;
-    while l < n {
-        put(first, l, n);
-        l += 1;
-    }
-}
-
 // Number i before those that are chained: it leads to the first with its label, and is the first from here on.
 fn chain_one(groups: &[u32], first: &mut [u32], next: &mut [u32], i: usize)
     requires { (i < length groups.now) × (length groups.now ≤ 256) × Lowest groups.now }
@@ -38,11 +26,9 @@ pub fn chain(groups: &[u32], next: &mut [u32])
     requires { (length groups.now ≤ 256) × (length next.old ≡ length groups.now) × Lowest groups.now }
     ensures { next.new ≡ map (next_member groups.now) (below (length groups.now)) }
 {
-    let mut first = [0u32; 256];
-    let mut i = groups.len();
-    none_yet(&mut first, i);
-    while 0 < i {
-        i -= 1;
+    // How many numbers there are stands for none of them.
+    let mut first = [groups.len() as u32; 256];
+    for i in (0..groups.len()).rev() {
         chain_one(groups, &mut first, next, i);
     }
 }

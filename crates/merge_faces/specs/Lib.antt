@@ -1,3 +1,4 @@
+pub mod Flags
 pub mod Merging
 pub mod MergingLaws
 pub mod Removing

@@ -1,11 +1,11 @@
--- What merging answers, as outcomes of the definitions.
+-- What one step of merging answers, as outcomes of the definitions.
 use Rattle.std.specs.Prelude.{ℕ, ◌+◌, ◌≤◌, ◌≡◌, cond}
 use mathlib.Core.List.{List, foldl}
 use Rattle.lists.specs.Lists.{below}
 use Rattle.rules.specs.declared.Face.{Face}
 use Rattle.rules.specs.declared.Use.{Use}
 use Rattle.rules.specs.declared.SurfaceAnswer.{SurfaceAnswer}
-use Rattle.rules.specs.Outcome.{Outcome, ok, refuse, ◌>>=◌}
+use Rattle.rules.specs.Outcome.{Outcome, Ok, Err, ◌>>=◌}
 use Rattle.rules.specs.Sense.{same_sense}
 use Rattle.rules.specs.Job.{face_at}
 use Rattle.rules.specs.Read.{stored_sense}
@@ -13,26 +13,19 @@ use Rattle.rules.specs.Groups.{Grouping, join_groups}
 use Rattle.rules.specs.Rules.{full_table}
 use Rattle.rules.specs.Merge.{joins_faces, boundary_step}
 use Rattle.groups.specs.Parents.{Ordered, Stands}
-use Rattle.merge_faces.specs.declared.Merging.{Merging}
-use Rattle.merge_faces.specs.declared.Merging.TheVariants.{Done, Refused}
 
 -- parents after the faces of the first n twin pairs joined
 pub record JoinedPairs (us : List Use) (ts : List ℕ) (n : ℕ) (before after : List ℕ) : Type 0 where
   pub ordered : Ordered after
   pub stands : (g : List ℕ) → Stands before g → Stands after (foldl (boundary_step us ts) g (below n))
 
--- the labels and the number of joins, or the refusal
-abbrev pub merged_of : Merging → List ℕ → Outcome Grouping
-merged_of (Done k) labels = ok (record { groups = labels; joins = k })
-merged_of (Refused n p) labels = refuse n p
-
 -- an outcome that was reached from s by at most one join: its groups as a table of parents, or the refusal
-abbrev pub MergedTo : Merging → List ℕ → Grouping → Outcome Grouping → Type 0
-MergedTo (Done k) parents s o = (g : List ℕ) × (o ≡ ok (record { groups = g; joins = s.joins + k })) × Stands parents g × (k ≤ 1)
-MergedTo (Refused n p) parents s o = o ≡ refuse n p
+abbrev pub MergedTo : Outcome ℕ → List ℕ → Grouping → Outcome Grouping → Type 0
+MergedTo (Ok k) parents s o = (g : List ℕ) × (o ≡ Ok (record { groups = g; joins = s.joins + k })) × Stands parents g × (k ≤ 1)
+MergedTo (Err refusal) parents s o = o ≡ Err refusal
 
 -- the groups after the surface answer v about faces a and b
 unfoldable pub answered_step : List Face → ℕ → ℕ → SurfaceAnswer → Grouping → Outcome Grouping
 answered_step fs a b v g =
     joins_faces full_table (same_sense (stored_sense (face_at fs a)) (stored_sense (face_at fs b))) v >>= λ yes.
-    ok (cond yes (join_groups g a b) g)
+    Ok (cond yes (join_groups g a b) g)

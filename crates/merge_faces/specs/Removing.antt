@@ -1,8 +1,9 @@
 -- The table of removed uses, one use more at a time.
-use Rattle.std.specs.Prelude.{ℕ, ◌+◌, ◌≤◌, ◌<◌, ◌≡◌, Bool, true, cond, List, [], ◌∷◌, ◌++◌, length, get_or, set, take, eqb}
+use Rattle.std.specs.Prelude.{ℕ, ◌+◌, ◌≤◌, ◌<◌, ◌≡◌, Bool, List, [], ◌∷◌, ◌++◌, length, get_or, set, take, eqb}
 use Rattle.std.proofs.Common.{add-one, arith, ◌∙◌, length-set, length-append, take-suc-set, take_all, length-take-le}
-use Rattle.std.proofs.Math.Path.{refl, ap}
+use Rattle.std.proofs.Math.Path.{refl, sym, ap}
 use Rattle.std.proofs.Math.Bool.{false}
+use Rattle.std.specs.Int.{from_bool}
 use Rattle.lists.specs.Lists.{keep}
 use Rattle.lists.specs.Members.{keep_append, keep_length}
 use Rattle.lists.specs.KeepCounts.{keep_none, keep_cons}
@@ -12,17 +13,11 @@ use Rattle.rules.specs.Groups.{label_of}
 use Rattle.rules.specs.Read.{face_of_use}
 use Rattle.rules.specs.Pair.{twin_of}
 use Rattle.rules.specs.Merge.{removes, removed_uses}
+use Rattle.merge_faces.specs.Flags.{one_or_none}
 
 -- how many flags are set
 abbrev pub set_flags : List Bool → ℕ
 set_flags l = length (keep (λ flag. flag) l)
-
--- one more where a test holds
-pub counted_yes : (n : ℕ) (here : Bool) → here ≡ true → n + 1 ≡ n + cond here 1 0
-counted_yes n here e = rw e
-
-pub counted_no : (n : ℕ) (here : Bool) → here ≡ false → n ≡ n + cond here 1 0
-counted_no n here e = rw e (omega arith)
 
 -- after h uses, of which so many are gone
 pub record Removing (us : List Use) (ts g : List ℕ) (removed : List Bool) (gone h : ℕ) : Type 0 where
@@ -40,13 +35,14 @@ module _ (us : List Use) (ts g : List ℕ) where
   unfolding keep
   removing_start removed e = record { size = e; within = omega arith; flags = λ j h. absurd (omega arith); count = refl }
 
+  -- the count stays small
   pub removing_few : (removed : List Bool) (gone h : ℕ) → Removing us ts g removed gone h → gone ≤ h
   removing_few removed gone h r =
       omega (arith, r.count, keep_length (λ flag. flag) (take h removed), length-take-le h removed (omega (arith, r.size, r.within)))
 
-  pub removing_step : (removed after : List Bool) (gone h more : ℕ) (here : Bool) → Removing us ts g removed gone h → h < length removed → here ≡ removes us ts g h
-      → after ≡ set removed h here → more ≡ gone + cond here 1 0 → Removing us ts g after more (h + 1)
-  removing_step removed after gone h more here r lt ey e em =
+  pub removing_step : (removed after : List Bool) (gone h k more : ℕ) (here : Bool) → Removing us ts g removed gone h → h < length removed → here ≡ removes us ts g h
+      → after ≡ set removed h here → k ≡ from_bool here → more ≡ gone + k → Removing us ts g after more (h + 1)
+  removing_step removed after gone h k more here r lt ey e ek em =
       let taken : take (h + 1) after ≡ take h removed ++ (here ∷ []) = ap (λ l. take (h + 1) l) e ∙ ap (λ k. take k (set removed h here)) (add-one h) ∙ take-suc-set removed h here lt in
       record {
         size = ap length e ∙ length-set removed h here ∙ r.size;
@@ -56,6 +52,7 @@ module _ (us : List Use) (ts g : List ℕ) where
             ∙ omega (
               arith,
               r.count,
+              ek ∙ sym (one_or_none here),
               ap set_flags taken,
               ap length (keep_append (λ flag. flag) (take h removed) (here ∷ [])),
               length-append (keep (λ flag. flag) (take h removed)) (keep (λ flag. flag) (here ∷ [])),

@@ -2,9 +2,9 @@
 
 #![tactic(auto)]
 
-ghost use Rattle.std.specs.Prelude.{◌≡◌, cond, not, ◌+◌, ◌≤◌, ◌<◌, ◌^◌, length, take};
+ghost use Rattle.std.specs.Prelude.{◌≡◌, ◌+◌, ◌≤◌, ◌<◌, length, take};
 ghost use Rattle.lists.specs.Lists.{keep};
-ghost use Rattle.rules.specs.Outcome.{ok};
+ghost use Rattle.rules.specs.Outcome.{◌>>=◌ as ◌and_then◌};
 ghost use Rattle.rules.specs.Read.{face_of_use};
 ghost use Rattle.rules.specs.Groups.{Grouping, lowest_members, group_numbers, Lowest};
 ghost use Rattle.rules.specs.Rules.{full_table};
@@ -13,22 +13,13 @@ ghost use Rattle.job.specs.Lists.{faces_in, answers_in};
 ghost use Rattle.uses.specs.Table.{uses_in};
 ghost use Rattle.groups.specs.Parents.{Ordered, Stands};
 ghost use Rattle.answers.specs.Index.{Indexed};
-ghost use Rattle.ask.specs.Told.{told_of};
-ghost use Rattle.merge_faces.specs.Merging.{merged_of, MergedTo, answered_step, JoinedPairs};
+ghost use Rattle.merge_faces.specs.Merging.{MergedTo, answered_step, JoinedPairs};
 ghost use Rattle.merge_faces.specs.Numbering.{Numbering};
 
-use ask::{Surface, Told};
-use fields::{get, put, put_flag};
+use fields::{get, put};
 use groups::{Groups, join, join_in};
-use rules::{Counts, SurfaceAnswer};
+use rules::{Counts, Fault, Refusal, SurfaceAnswer};
 use uses::use_face;
-
-// The groups are made, by so many joins of separate groups; or merging ends with a refusal.
-#[derive(Clone, Copy)]
-pub enum Merging {
-    Done(usize),
-    Refused(usize, usize),
-}
 
 // BOUNDARIES
 
@@ -56,12 +47,10 @@ pub fn join_pairs(g: Groups, uses: &[u32], twins: &[u32], n: usize) -> Groups
     ensures { JoinedPairs (uses_in uses.now) twins.now n g.parents result.parents }
 {
     let mut groups = g;
-    let mut h: usize = 0;
-    while h < n {
+    for h in 0..n {
         let s = sides(uses, twins, h);
         // boundaries count no joins
         let _separate = join(&mut groups, s.face, s.other);
-        h += 1;
     }
     groups
 }
@@ -78,39 +67,22 @@ pub fn boundaries(uses: &[u32], twins: &[u32], labels: &mut [u32])
 
 // MERGED GROUPS
 
-// Whether a surface answer joins: agreeing where stored senses are equal, opposed where they differ; 22 where normals
-// vanish, 21 where it is undecided.
-fn joins_faces(v: SurfaceAnswer, equal: bool) -> Told
-    ensures { told_of result ≡ joins_faces full_table equal v }
+// Whether a surface answer joins: agreeing where stored senses are equal, opposed where they differ; refused where
+// normals vanish and where it is undecided. The place of a refusal is the question's kind, 8.
+#[tactic(auto, unfolding(rules::specs::Merge::joins_faces))]
+fn joins_faces(v: SurfaceAnswer, equal: bool) -> Result<bool, Refusal>
+    ensures { result ≡ joins_faces full_table equal v }
 {
     match v {
-        SurfaceAnswer::Different => Told::No,
-        SurfaceAnswer::Agreeing => yes_if(equal),
-        SurfaceAnswer::Opposed => no_if(equal),
-        SurfaceAnswer::Vanishing => Told::Refused(22, 8),
-        SurfaceAnswer::Undecided => Told::Refused(21, 8),
+        SurfaceAnswer::Different => Ok(false),
+        SurfaceAnswer::Agreeing => Ok(equal),
+        SurfaceAnswer::Opposed => Ok(!equal),
+        SurfaceAnswer::Vanishing => Err(Fault::NormalsVanish.at(8)),
+        SurfaceAnswer::Undecided => Err(Fault::AnswerUndecided.at(8)),
     }
 }
 
-fn yes_if(test: bool) -> Told
-    ensures { told_of result ≡ ok test }
-{
-    if test {
-        return Told::Yes;
-    }
-    Told::No
-}
-
-fn no_if(test: bool) -> Told
-    ensures { told_of result ≡ ok (not test) }
-{
-    if test {
-        return Told::No;
-    }
-    Told::Yes
-}
-
-// The groups after the surface answer v about faces a and b, and whether it joined separate ones: 1 or 0.
+// The groups after the surface answer v about faces a and b. Gives how many joins of separate groups it made, 1 or 0.
 fn join_by(
     job: &[u8],
     index: &[u32],
@@ -119,22 +91,17 @@ fn join_by(
     a: usize,
     b: usize,
     v: SurfaceAnswer,
-) -> Merging
+) -> Result<usize, Refusal>
     requires { (c.faces ≤ 256) × Ordered labels.old }
     ensures { (g : Grouping) → Stands labels.old g.groups → MergedTo result labels.new g (answered_step (faces_in job.now index.now c) a b v g) }
 {
     let sense = job::stored_sense(job, index, c, a);
     let other = job::stored_sense(job, index, c, b);
-    let equal = job::same_sense(sense, other);
-    let j = joins_faces(v, equal);
-    match j {
-        Told::Refused(n, p) => Merging::Refused(n, p),
-        Told::No => Merging::Done(0),
-        Told::Yes => {
-            let separate = join_in(labels, a, b);
-            Merging::Done(counted(0, separate))
-        }
+    let equal = sense == other;
+    if joins_faces(v, equal)? {
+        return Ok(usize::from(join_in(labels, a, b)));
     }
+    Ok(0)
 }
 
 // The surface question of use h, unless it is the higher of its pair or both are on one selected face.
@@ -146,21 +113,22 @@ fn merge_use(
     twins: &[u32],
     labels: &mut [u32],
     h: usize,
-) -> Merging
+) -> Result<usize, Refusal>
     requires { Indexed job.now index.now c × (c.faces ≤ 256) × (h < 4294967296) × Ordered labels.old }
-    ensures { (g : Grouping) → Stands labels.old g.groups → MergedTo result labels.new g (merge_step full_table (answers_in job.now index.now c) (faces_in job.now index.now c) (uses_in uses.now) twins.now h g) }
+    ensures { (g : Grouping) → Stands labels.old g.groups
+        → MergedTo result labels.new g (merge_step full_table (answers_in job.now index.now c) (faces_in job.now index.now c) (uses_in uses.now) twins.now h g) }
 {
     let t = get(twins, h);
     if t <= h {
-        return Merging::Done(0);
+        return Ok(0);
     }
     let a = use_face(uses, h);
     let b = use_face(uses, t);
     if a == b {
-        return Merging::Done(0);
+        return Ok(0);
     }
-    let Surface::Says(v) = ask::ask_surface(job, index, c, h) else {
-        return Merging::Refused(20, 8);
+    let Some(v) = ask::ask_surface(job, index, c, h) else {
+        return Err(Fault::Unanswered.at(8));
     };
     join_by(job, index, c, labels, a, b, v)
 }
@@ -173,28 +141,18 @@ pub fn merge_faces(
     uses: &[u32],
     twins: &[u32],
     labels: &mut [u32],
-) -> Merging
+) -> Result<usize, Refusal>
     requires { Indexed job.now index.now c × (c.faces ≤ 256) × (length labels.old ≡ c.faces) × (length (uses_in uses.now) ≤ 2048) }
-    ensures { merged_of result labels.new ≡ merged_groups full_table (answers_in job.now index.now c) (faces_in job.now index.now c) (uses_in uses.now) twins.now }
+    ensures { (result and_then λ joins. Ok (record { groups = labels.new; joins = joins }))
+        ≡ merged_groups full_table (answers_in job.now index.now c) (faces_in job.now index.now c) (uses_in uses.now) twins.now }
 {
     groups::alone(labels);
-    let n = uses::count(uses);
-    let mut joins: usize = 0;
-    let mut h: usize = 0;
-    while h < n {
-        let r = merge_use(job, index, c, uses, twins, labels, h);
-        match r {
-            Merging::Refused(n, p) => {
-                return Merging::Refused(n, p);
-            }
-            Merging::Done(k) => {
-                joins += k;
-            }
-        }
-        h += 1;
+    let mut joins = 0;
+    for h in 0..uses::count(uses) {
+        joins += merge_use(job, index, c, uses, twins, labels, h)?;
     }
     groups::settle(labels);
-    Merging::Done(joins)
+    Ok(joins)
 }
 
 // REMOVED USES
@@ -206,21 +164,7 @@ fn is_removed(uses: &[u32], twins: &[u32], groups: &[u32], h: usize) -> bool
     let t = get(twins, h);
     let a = get(groups, use_face(uses, h));
     let b = get(groups, use_face(uses, t));
-    if a != b {
-        return false;
-    }
-    true
-}
-
-// One more where a test holds.
-fn counted(n: usize, yes: bool) -> usize
-    requires { n < 2 ^ 63 }
-    ensures { result ≡ n + cond yes 1 0 }
-{
-    if yes {
-        return n + 1;
-    }
-    n
+    a == b
 }
 
 // Each use: whether it is removed. Gives how many are.
@@ -228,13 +172,10 @@ pub fn remove(uses: &[u32], twins: &[u32], groups: &[u32], removed: &mut [bool])
     requires { length removed.old ≡ length (uses_in uses.now) }
     ensures { (removed.new ≡ removed_uses (uses_in uses.now) twins.now groups.now) × (result ≡ length (keep (λ gone. gone) removed.new)) }
 {
-    let mut gone: usize = 0;
-    let mut h: usize = 0;
-    while h < removed.len() {
-        let yes = is_removed(uses, twins, groups, h);
-        put_flag(removed, h, yes);
-        gone = counted(gone, yes);
-        h += 1;
+    let mut gone = 0;
+    for (h, flag) in removed.iter_mut().enumerate() {
+        *flag = is_removed(uses, twins, groups, h);
+        gone += usize::from(*flag);
     }
     gone
 }
@@ -268,11 +209,9 @@ pub fn number(groups: &[u32], members: &mut [u32], numbers: &mut [u32]) -> usize
     requires { Lowest groups.now × (length members.old ≡ length groups.now) × (length numbers.old ≡ length groups.now) × (length groups.now ≤ 256) }
     ensures { (take result members.new ≡ lowest_members groups.now) × (result ≡ length (lowest_members groups.now)) × (numbers.new ≡ group_numbers groups.now) }
 {
-    let mut count: usize = 0;
-    let mut f: usize = 0;
-    while f < groups.len() {
+    let mut count = 0;
+    for f in 0..groups.len() {
         count = number_face(groups, members, numbers, count, f);
-        f += 1;
     }
     count
 }

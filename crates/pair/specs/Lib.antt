@@ -1,4 +1,3 @@
-pub mod Twins
 pub mod OrderLaws
 pub mod PairLaws
 pub mod EdgeLaws

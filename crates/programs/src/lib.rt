@@ -1,4 +1,4 @@
-// What the programs share: reading an input to its end, an operation by its number, the lines of a stage, and the words of
+// What the programs share: reading an input to its end, a stage by name, its lines, and the words of
 // a command line.
 
 #![tactic(auto)]
@@ -8,7 +8,7 @@ ghost use Rattle.rules.specs.Sew.{Ends};
 ghost use Rattle.rules.specs.Operation.{operation};
 ghost use Rattle.lines.specs.StageListed.{StagedInto, StageLists};
 
-use rules::Ending;
+use rules::{Refusal, Stage};
 use std::env::FillError;
 use std::io::{Read, Write};
 use std::rt::{Env, Files};
@@ -37,39 +37,43 @@ pub fn read_to_end<R: Read>(input: &mut R, buffer: &mut [u8]) -> io::Result<usiz
     Ok(done)
 }
 
-// The stages by their numbers from 1 to 11, and sewing by any other.
-pub fn operate(number: usize, job: &[u8], out: &mut [u8]) -> Ending
-    ensures { Ends (operation number job.now (length out.old)) out.old out.new result }
+// The stage that is asked for; sewing where none is.
+pub fn operate(stage: Option<Stage>, job: &[u8], out: &mut [u8]) -> Result<usize, Refusal>
+    ensures { Ends (operation stage job.now (length out.old)) out.old out.new result }
 {
-    match number {
-        1 => sewing::read_stage(job, out),
-        2 => sewing::pair_stage(job, out),
-        3 => sewing::merge_stage(job, out),
-        4 => sewing::vertex_loop_stage(job, out),
-        5 => sewing::walk_stage(job, out),
-        6 => sewing::loop_stage(job, out),
-        7 => sewing::fan_stage(job, out),
-        8 => sewing::edge_stage(job, out),
-        9 => sewing::joining_stage(job, out),
-        10 => sewing::shell_stage(job, out),
-        11 => sewing::lump_stage(job, out),
-        _ => sewing::sew(job, out),
+    let Some(stage) = stage else {
+        return sewing::sew(job, out);
+    };
+    match stage {
+        Stage::Read => sewing::read_stage(job, out),
+        Stage::Pair => sewing::pair_stage(job, out),
+        Stage::Merge => sewing::merge_stage(job, out),
+        Stage::VertexLoops => sewing::vertex_loop_stage(job, out),
+        Stage::Walk => sewing::walk_stage(job, out),
+        Stage::Loops => sewing::loop_stage(job, out),
+        Stage::Fans => sewing::fan_stage(job, out),
+        Stage::Edges => sewing::edge_stage(job, out),
+        Stage::Joining => sewing::joining_stage(job, out),
+        Stage::Shells => sewing::shell_stage(job, out),
+        Stage::Lumps => sewing::lump_stage(job, out),
     }
 }
 
-// Runs the stage with a number from 1 to 11 into an output of 131,072 bytes and puts its lines on a page. Gives the length
-// of the text, which is at most 360,448; what the page has no room for is not stored. For any other number it does nothing.
-pub fn list_stage(stage: usize, job: &[u8], out: &mut [u8; 131072], page: &mut [u8]) -> usize
+// Runs a stage into an output of 131,072 bytes and puts its lines on a page. Gives the length of the text, which is at
+// most 360,448; what the page has no room for is not stored. Where there is no stage it does nothing.
+pub fn list_stage(
+    stage: Option<Stage>,
+    job: &[u8],
+    out: &mut [u8; 131072],
+    page: &mut [u8],
+) -> usize
     ensures { StagedInto stage job.now out.old out.new × StageLists stage job.now page.old page.new result }
 {
-    if stage == 0 {
+    let Some(named) = stage else {
         return 0;
-    }
-    if 11 < stage {
-        return 0;
-    }
-    let ending = operate(stage, job, out);
-    lines::put_stage(page, stage, out, ending)
+    };
+    let ending = operate(Some(named), job, out);
+    lines::put_stage(page, named, out, ending)
 }
 
 // WORDS OF THE COMMAND LINE

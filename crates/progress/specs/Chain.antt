@@ -1,10 +1,11 @@
--- What is to do after each stage, where the stage with a number was asked for: its fields if it is this one, else what
--- follows. Numbers: 2 pair, 3 merge, 4 vertex-loops, 5 walk, 6 loops, 7 fans, 8 edges, 9 joining, 10 shells, 11 lumps,
--- 12 the body. Each is one of the stages of `rules` (StageLaws). The stage `read`, 1, hands nothing on.
-use Rattle.std.specs.Prelude.{ℕ, cond, length, eqb}
+-- What is to do after each stage, where a stage is asked for, or none for the body: its fields if it is this one, else
+-- what follows. Each is one of the stages of `rules` (StageLaws). The stage `read` hands nothing on.
+use Rattle.std.specs.Prelude.{ℕ, cond, length, eqb, Option, None}
 use mathlib.Core.List.{List, flat_map}
 use Rattle.lists.specs.Lists.{below, keep}
 use Rattle.rules.specs.declared.Use.{Use}
+use Rattle.rules.specs.declared.Stage.{Stage}
+use Rattle.rules.specs.Operation.{is_asked}
 use Rattle.rules.specs.Outcome.{Outcome, ◌>>=◌}
 use Rattle.rules.specs.Frame.{framed_all}
 use Rattle.rules.specs.Job.{Job}
@@ -22,74 +23,76 @@ use Rattle.rules.specs.Shells.{Shell, Nested, nested, lumps}
 use Rattle.rules.specs.Body.{empty_body, body_records}
 use Rattle.rules.specs.Sew.{Walked, walks_of, Fanned, fans_of, Joined, unjoined, shells_of, lumps_clear, body_of, fitting}
 use Rattle.rules.specs.Stage.{group_fields, kept_fields, kept_uses, walk_fields, loop_fields, fan_fields, joining_fields, shell_fields, lump_fields, stage_bytes}
+use Rattle.rules.specs.declared.Fault.TheVariants.{PairsInBoundary, FansInBoundary}
+use Rattle.rules.specs.declared.Stage.TheVariants.{Pair, Merge, VertexLoops, Walk, Loops, Fans, Edges, Joining as JoiningStage, Shells, Lumps}
 
 -- FROM THE WALKS TO THE BODY
 
 unfoldable pub after_lumps : Job → Joined → List Nested → ℕ → Outcome (List ℕ)
 after_lumps j x ns room = lumps_clear j x.fan ns >>= λ _. fitting room (framed_all (body_records (body_of j x ns)))
 
-unfoldable pub after_nesting : ℕ → Job → Joined → ℕ → List Nested → Outcome (List ℕ)
+unfoldable pub after_nesting : Option Stage → Job → Joined → ℕ → List Nested → Outcome (List ℕ)
 after_nesting stage j x room ns =
     let later = after_lumps j x ns room in
-    cond (eqb stage 11) (stage_bytes room (lump_fields 0 (lumps ns))) later
+    cond (is_asked Lumps stage) (stage_bytes room (lump_fields 0 (lumps ns))) later
 
-unfoldable pub after_shells : ℕ → Job → Joined → ℕ → List Shell → Outcome (List ℕ)
+unfoldable pub after_shells : Option Stage → Job → Joined → ℕ → List Shell → Outcome (List ℕ)
 after_shells stage j x room ss =
     let later = nested j.answers ss >>= after_nesting stage j x room in
-    cond (eqb stage 10) (stage_bytes room (flat_map shell_fields ss)) later
+    cond (is_asked Shells stage) (stage_bytes room (flat_map shell_fields ss)) later
 
-unfoldable pub after_joining : ℕ → Job → ℕ → Joined → Outcome (List ℕ)
+unfoldable pub after_joining : Option Stage → Job → ℕ → Joined → Outcome (List ℕ)
 after_joining stage j room x =
     let later = shells_of j x.fan.walk >>= after_shells stage j x room in
-    cond (eqb stage 9) (stage_bytes room (joining_fields x.joining)) later
+    cond (is_asked JoiningStage stage) (stage_bytes room (joining_fields x.joining)) later
 
-unfoldable pub after_edges : ℕ → Job → ℕ → Joined → Outcome (List ℕ)
+unfoldable pub after_edges : Option Stage → Job → ℕ → Joined → Outcome (List ℕ)
 after_edges stage j room x =
     let f = x.fan in
     let later = maximal_edges j.answers f.starts f.names (length f.names) x.joining >>= λ s. after_joining stage j room (record { fan = f; joining = s }) in
-    cond (eqb stage 8) (stage_bytes room (joining_fields x.joining)) later
+    cond (is_asked Edges stage) (stage_bytes room (joining_fields x.joining)) later
 
-unfoldable pub after_fans : ℕ → Job → ℕ → Fanned → Outcome (List ℕ)
+unfoldable pub after_fans : Option Stage → Job → ℕ → Fanned → Outcome (List ℕ)
 after_fans stage j room f =
     let w = f.walk in
-    let later = points_clear 31 w.uses f.starts w.merge.boundaries f.names >>= λ _. after_edges stage j room (record { fan = f; joining = unjoined j f }) in
-    cond (eqb stage 7) (stage_bytes room (flat_map (fan_fields f) (keep (kept_with_ends j.edges w.uses w.merge.removed) (below (length w.uses))))) later
+    let later = points_clear FansInBoundary w.uses f.starts w.merge.boundaries f.names >>= λ _. after_edges stage j room (record { fan = f; joining = unjoined j f }) in
+    cond (is_asked Fans stage) (stage_bytes room (flat_map (fan_fields f) (keep (kept_with_ends j.edges w.uses w.merge.removed) (below (length w.uses))))) later
 
-unfoldable pub after_loops : ℕ → Job → ℕ → Walked → Outcome (List ℕ)
-after_loops stage j room w = edges_clear 30 w.uses w.twins w.merge.boundaries (length j.edges) >>= λ _. after_fans stage j room (fans_of j w)
+unfoldable pub after_loops : Option Stage → Job → ℕ → Walked → Outcome (List ℕ)
+after_loops stage j room w = edges_clear PairsInBoundary w.uses w.twins w.merge.boundaries (length j.edges) >>= λ _. after_fans stage j room (fans_of j w)
 
 -- FROM THE JOB TO THE WALKS
 
-unfoldable pub after_walks : ℕ → Job → ℕ → Walked → Outcome (List ℕ)
+unfoldable pub after_walks : Option Stage → Job → ℕ → Walked → Outcome (List ℕ)
 after_walks stage j room w =
     let later = after_loops stage j room w in
-    let loops = cond (eqb stage 6) (stage_bytes room (flat_map (loop_fields w) (loops_of w.circuits))) later in
-    cond (eqb stage 5) (stage_bytes room (flat_map (walk_fields w) (kept_uses w.merge.removed))) loops
+    let loops = cond (is_asked Loops stage) (stage_bytes room (flat_map (loop_fields w) (loops_of w.circuits))) later in
+    cond (is_asked Walk stage) (stage_bytes room (flat_map (walk_fields w) (kept_uses w.merge.removed))) loops
 
-unfoldable pub after_keeping : ℕ → Job → ℕ → Walked → Outcome (List ℕ)
+unfoldable pub after_keeping : Option Stage → Job → ℕ → Walked → Outcome (List ℕ)
 after_keeping stage j room w =
     let later = after_walks stage j room w in
-    cond (eqb stage 4) (stage_bytes room (flat_map kept_fields w.vertex_loops)) later
+    cond (is_asked VertexLoops stage) (stage_bytes room (flat_map kept_fields w.vertex_loops)) later
 
-unfoldable pub after_merging : ℕ → Job → List Use → List ℕ → ℕ → Merged → Outcome (List ℕ)
+unfoldable pub after_merging : Option Stage → Job → List Use → List ℕ → ℕ → Merged → Outcome (List ℕ)
 after_merging stage j us ts room m =
     let later = vertex_loops j.answers j.points (merged_faces m) j.loops >>= λ ks. after_keeping stage j room (walks_of us ts m ks) in
-    cond (eqb stage 3) (stage_bytes room (flat_map (group_fields m) (below (length j.faces)))) later
+    cond (is_asked Merge stage) (stage_bytes room (flat_map (group_fields m) (below (length j.faces)))) later
 
-unfoldable pub after_pairing : ℕ → Job → List Use → ℕ → List ℕ → Outcome (List ℕ)
+unfoldable pub after_pairing : Option Stage → Job → List Use → ℕ → List ℕ → Outcome (List ℕ)
 after_pairing stage j us room ts =
     let later = merge_faces full_table j.answers j.faces us ts >>= after_merging stage j us ts room in
-    cond (eqb stage 2) (stage_bytes room ts) later
+    cond (is_asked Pair stage) (stage_bytes room ts) later
 
-unfoldable pub after_reading : ℕ → Job → ℕ → List Use → Outcome (List ℕ)
+unfoldable pub after_reading : Option Stage → Job → ℕ → List Use → Outcome (List ℕ)
 after_reading stage j room us = pair j.answers us (length j.edges) >>= after_pairing stage j us room
 
--- the stage with a number, from a job's bytes on
-unfoldable pub staged : ℕ → List ℕ → ℕ → Outcome (List ℕ)
+-- the stage that is asked for, from a job's bytes on
+unfoldable pub staged : Option Stage → List ℕ → ℕ → Outcome (List ℕ)
 staged stage job room = loaded job >>= λ j. after_reading stage j room (uses_of j)
 
 -- sewing: the body; one that selects no face is Empty
 unfoldable pub sewn_by : List ℕ → ℕ → Outcome (List ℕ)
 sewn_by job room = loaded job >>= λ j.
-    let full = after_reading 12 j room (uses_of j) in
+    let full = after_reading None j room (uses_of j) in
     cond (eqb (length j.faces) 0) (fitting room (framed_all (body_records empty_body))) full

@@ -1,22 +1,24 @@
--- Endings: of one outcome as of another, of a refusal; a stage that was asked for or not.
-use Rattle.std.specs.Prelude.{ℕ, ◌≡◌, refl, List, cond, eqb}
-use Rattle.std.proofs.Common.{sym, ap, subst, eq-eqb, ne_eqb}
-use Rattle.rules.specs.declared.Ending.{Ending}
-use Rattle.rules.specs.declared.Ending.TheVariants.{Refused as Stopped}
-use Rattle.rules.specs.Outcome.{Outcome, refuse}
+-- Endings: of one outcome as of another, of a refusal; a stage that is asked for or not.
+use Rattle.std.specs.Prelude.{ℕ, ◌≡◌, refl, List, true, false, cond, Option}
+use Rattle.std.proofs.Common.{sym, subst}
+use Rattle.lists.specs.Tests.{cond_true, cond_false}
+use Rattle.rules.specs.declared.Refusal.{Refusal}
+use Rattle.rules.specs.declared.Stage.{Stage}
+use Rattle.rules.specs.Outcome.{Outcome, Err}
+use Rattle.rules.specs.Operation.{is_asked}
 use Rattle.rules.specs.Sew.{Ends}
 
 -- the ending of one outcome is that of another
-pub ends_as : (o o' : Outcome (List ℕ)) (before after : List ℕ) (r : Ending) → o ≡ o' → Ends o' before after r → Ends o before after r
+pub ends_as : (o o' : Outcome (List ℕ)) (before after : List ℕ) (r : Outcome ℕ) → o ≡ o' → Ends o' before after r → Ends o before after r
 ends_as o o' before after r e s = subst (λ x. Ends x before after r) (sym e) s
 
 -- a refusal leaves the output
-pub ends_refused : (o : Outcome (List ℕ)) (out : List ℕ) (n p : ℕ) → o ≡ refuse n p → Ends o out out (Stopped n p)
-ends_refused o out n p e = ends_as o (refuse n p) out out (Stopped n p) e (refl, refl)
+pub ends_refused : (o : Outcome (List ℕ)) (out : List ℕ) (refusal : Refusal) (e : Outcome ℕ) → o ≡ Err refusal → e ≡ Err refusal → Ends o out out e
+ends_refused o out refusal e q h = ends_as o (Err refusal) out out e q (h, refl)
 
--- a stage that was asked for, and one that was not
-pub asked : {A : Type 0} (stage k : ℕ) (x y : A) → stage ≡ k → cond (eqb stage k) x y ≡ x
-asked stage k x y e = ap (λ b. cond b x y) (eq-eqb stage k e)
+-- a stage that is asked for, and one that is not
+pub asked : {A : Type 0} (s : Stage) (stage : Option Stage) (x y : A) → is_asked s stage ≡ true → cond (is_asked s stage) x y ≡ x
+asked s stage x y e = cond_true (is_asked s stage) x y e
 
-pub unasked : {A : Type 0} (stage k : ℕ) (x y : A) → (stage ≡ k → ⊥) → cond (eqb stage k) x y ≡ y
-unasked stage k x y n = ap (λ b. cond b x y) (ne_eqb stage k n)
+pub unasked : {A : Type 0} (s : Stage) (stage : Option Stage) (x y : A) → is_asked s stage ≡ false → cond (is_asked s stage) x y ≡ y
+unasked s stage x y e = cond_false (is_asked s stage) x y e

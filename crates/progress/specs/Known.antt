@@ -3,7 +3,7 @@ use Rattle.std.specs.Prelude.{ℕ, ◌≤◌, ◌≡◌, List, Bool, length, tak
 use Rattle.lists.specs.Lists.{keep, sum_of}
 use Rattle.rules.specs.declared.Counts.{Counts}
 use Rattle.rules.specs.declared.Use.{Use}
-use Rattle.rules.specs.Outcome.{ok}
+use Rattle.rules.specs.Outcome.{Ok}
 use Rattle.rules.specs.Load.{loading}
 use Rattle.rules.specs.Read.{uses_of}
 use Rattle.rules.specs.Groups.{Grouping, lowest_members, group_numbers}
@@ -22,13 +22,13 @@ use Rattle.progress.specs.declared.Figures.{Figures}
 -- the job is loaded
 pub record Opened (bytes ix : List ℕ) (c : Counts) : Type 0 where
   pub indexed : Indexed bytes ix c
-  pub loads : loading bytes ≡ ok (record { counts = c; job = job_in bytes ix c })
+  pub loads : loading bytes ≡ Ok (record { counts = c; job = job_in bytes ix c })
 
 -- its uses are read and paired
 pub record Paired (bytes ix : List ℕ) (c : Counts) (us : List Use) (ts : List ℕ) : Type 0 where
   pub opened : Opened bytes ix c
   pub uses : us ≡ uses_of (job_in bytes ix c)
-  pub pairs : pair (answers_in bytes ix c) us c.edges ≡ ok ts
+  pub pairs : pair (answers_in bytes ix c) us c.edges ≡ Ok ts
 
 -- the labels of the boundaries and of the merged groups
 abbrev pub boundaries_in : Counts → Faces → List ℕ
@@ -52,7 +52,7 @@ members_in m = take m.merged m.members
 pub record Grouped (bytes ix : List ℕ) (c : Counts) (us : List Use) (ts : List ℕ) (m : Faces) : Type 0 where
   pub paired : Paired bytes ix c us ts
   pub bounds : boundaries_in c m ≡ boundaries us ts c.faces
-  pub merges : merged_groups full_table (answers_in bytes ix c) (faces_in bytes ix c) us ts ≡ ok (grouping_in c m)
+  pub merges : merged_groups full_table (answers_in bytes ix c) (faces_in bytes ix c) us ts ≡ Ok (grouping_in c m)
   pub numbered : numbers_in c m ≡ group_numbers (groups_in c m)
   pub lowest : members_in m ≡ lowest_members (groups_in c m)
   pub boundaries_size : length m.boundaries ≡ 256
@@ -73,7 +73,7 @@ walked_in c m us ts rm k kept = walks_of us ts (merged_in c m rm) (kept_in k kep
 pub record Settled (bytes ix : List ℕ) (c : Counts) (us : List Use) (ts : List ℕ) (m : Faces) (rm : List Bool) (ss kept : List ℕ) (g : Figures) : Type 0 where
   pub grouped : Grouped bytes ix c us ts m
   pub removed : rm ≡ removed_uses us ts (groups_in c m)
-  pub vertices : vertex_loops (answers_in bytes ix c) (points_in bytes c) (numbers_in c m) (loops_in bytes ix c) ≡ ok (kept_in g.kept kept)
+  pub vertices : vertex_loops (answers_in bytes ix c) (points_in bytes c) (numbers_in c m) (loops_in bytes ix c) ≡ Ok (kept_in g.kept kept)
   pub few : g.kept ≤ c.loops
   pub follows : ss ≡ successors us ts rm
   pub gone : g.removed ≡ length (keep (λ gone. gone) rm)

@@ -4,7 +4,7 @@ use Rattle.std.proofs.Common.{arith, subst, ◌∙◌}
 use Rattle.std.proofs.Math.Path.{sym, ap}
 use Rattle.rules.specs.declared.Counts.{Counts}
 use Rattle.rules.specs.declared.Use.{Use}
-use Rattle.rules.specs.Outcome.{ok}
+use Rattle.rules.specs.Outcome.{Ok}
 use Rattle.rules.proofs.OutcomeLaws.{bind_on}
 use Rattle.rules.specs.Load.{loaded}
 use Rattle.rules.specs.Read.{face_of_use}
@@ -41,8 +41,8 @@ module _ (bytes ix : List ℕ) (c : Counts) (O : Opened bytes ix c) where
   pub opened_limited : Limited c
   opened_limited = (loading_counted bytes (record { counts = c; job = job_in bytes ix c }) O.loads).1
 
-  pub opened_loaded : loaded bytes ≡ ok (job_in bytes ix c)
-  opened_loaded = bind_on (λ s. ok s.job) O.loads
+  pub opened_loaded : loaded bytes ≡ Ok (job_in bytes ix c)
+  opened_loaded = bind_on (λ s. Ok s.job) O.loads
 
   opened_sound : Sound (job_in bytes ix c)
   opened_sound = loaded_sound bytes (job_in bytes ix c) opened_loaded
@@ -79,12 +79,12 @@ module _ (bytes ix : List ℕ) (c : Counts) (us : List Use) (ts : List ℕ) (P :
   boundaries_are_lowest = boundaries_lowest us ts c.faces face_below paired_twins.below
 
   -- the groups that merging gives
-  pub groups_are_lowest : (g : Grouping) → merged_groups full_table (answers_in bytes ix c) (faces_in bytes ix c) us ts ≡ ok g → Lowest g.groups
+  pub groups_are_lowest : (g : Grouping) → merged_groups full_table (answers_in bytes ix c) (faces_in bytes ix c) us ts ≡ Ok g → Lowest g.groups
   groups_are_lowest g e =
       merged_lowest full_table (answers_in bytes ix c) (faces_in bytes ix c) us ts g e
       (λ h b. omega (arith, face_below h b, opened_faces bytes ix c P.opened)) paired_twins.below
 
-  pub groups_length : (g : Grouping) → merged_groups full_table (answers_in bytes ix c) (faces_in bytes ix c) us ts ≡ ok g → length g.groups ≡ c.faces
+  pub groups_length : (g : Grouping) → merged_groups full_table (answers_in bytes ix c) (faces_in bytes ix c) us ts ≡ Ok g → length g.groups ≡ c.faces
   groups_length g e = merged_length full_table (answers_in bytes ix c) (faces_in bytes ix c) us ts g e ∙ sym (opened_faces bytes ix c P.opened)
 
 -- MERGED
@@ -97,11 +97,11 @@ module _ (bytes ix : List ℕ) (c : Counts) (us : List Use) (ts : List ℕ) (m :
   bounded_lowest = subst Lowest (sym G.bounds) (boundaries_are_lowest bytes ix c us ts G.paired)
 
   -- with the uses removed, this is merging
-  pub grouped_merges : (rm : List Bool) → rm ≡ removed_uses us ts (groups_in c m) → merge_faces full_table (answers_in bytes ix c) (faces_in bytes ix c) us ts ≡ ok (merged_in c m rm)
+  pub grouped_merges : (rm : List Bool) → rm ≡ removed_uses us ts (groups_in c m) → merge_faces full_table (answers_in bytes ix c) (faces_in bytes ix c) us ts ≡ Ok (merged_in c m rm)
   unfolding merge_faces
   grouped_merges rm e =
       bind_on _ G.merges
-      ∙ (λ i. ok (record { boundaries = (ap (boundaries us ts) (sym (opened_faces bytes ix c G.paired.opened)) ∙ sym G.bounds) i; groups = groups_in c m; joins = m.joins; removed = sym e i }))
+      ∙ (λ i. Ok (record { boundaries = (ap (boundaries us ts) (sym (opened_faces bytes ix c G.paired.opened)) ∙ sym G.bounds) i; groups = groups_in c m; joins = m.joins; removed = sym e i }))
 
 -- SETTLED
 
@@ -116,7 +116,7 @@ module _ (bytes ix : List ℕ) (c : Counts) (us : List Use) (ts : List ℕ) (m :
   }
 
   -- the walks of the definitions
-  pub settled_is : walked ordinary (job_in bytes ix c) ≡ ok (walked_in c m us ts rm g.kept kept)
+  pub settled_is : walked ordinary (job_in bytes ix c) ≡ Ok (walked_in c m us ts rm g.kept kept)
   settled_is = settled_walked full_table (job_in bytes ix c) (walked_in c m us ts rm g.kept kept) settled_rules
 
   -- what they give to the stages after them

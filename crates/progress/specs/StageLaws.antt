@@ -1,11 +1,11 @@
 -- Each stage of the chain is that of `rules`, and the last is sewing.
-use Rattle.std.specs.Prelude.{ℕ, ◌≡◌, Bool, true, false, length, eqb}
+use Rattle.std.specs.Prelude.{ℕ, ◌≡◌, Bool, true, false, length, eqb, Option, Some, None}
 use Rattle.std.proofs.Math.Path.{refl, sym, ap}
 use Rattle.std.proofs.Common.{◌∙◌}
 use mathlib.Core.List.{List, flat_map}
 use Rattle.std.proofs.Math.Bool.{cond}
 use Rattle.lists.specs.Lists.{below, keep}
-use Rattle.rules.specs.Outcome.{Outcome, ok, ◌>>=◌}
+use Rattle.rules.specs.Outcome.{Outcome, Ok, ◌>>=◌}
 use Rattle.rules.proofs.OutcomeLaws.{bind_then, bind_same}
 use Rattle.rules.specs.Frame.{framed_all}
 use Rattle.rules.specs.Job.{Job}
@@ -24,194 +24,198 @@ use Rattle.rules.specs.Body.{Body, empty_body, body_records}
 use Rattle.rules.specs.Sew.{Walked, walks_of, walked, Fanned, fans_of, fanned, Joined, unjoined, edged, through_joining, shells_of, lumps_clear, body_of, solid, rebuild, fitting, sewn}
 use Rattle.rules.specs.Stage.{pair_stage, merge_stage, vertex_loop_stage, walk_stage, loop_stage, fan_stage, edge_stage, joining_stage, shell_stage, lump_stage, group_fields, kept_fields, kept_uses, walk_fields, loop_fields, fan_fields, joining_fields, shell_fields, lump_fields, stage_bytes}
 use Rattle.progress.specs.Chain.{after_lumps, after_nesting, after_shells, after_joining, after_edges, after_fans, after_loops, after_walks, after_keeping, after_merging, after_pairing, after_reading, staged, sewn_by}
+use Rattle.rules.specs.declared.Fault.TheVariants.{PairsInBoundary, FansInBoundary}
+use Rattle.rules.specs.Operation.{stage_number, is_asked}
+use Rattle.rules.specs.declared.Stage.{Stage}
+use Rattle.rules.specs.declared.Stage.TheVariants.{Pair, Merge, VertexLoops, Walk, Loops, Fans, Edges, Joining as JoiningStage, Shells, Lumps}
 
 -- THE STAGES UP TO A POINT, AND WHAT IS TO DO AFTER THEM
 
-module _ (j : Job) (stage room : ℕ) where
-  through_walks : eqb stage 2 ≡ false → eqb stage 3 ≡ false → after_reading stage j room (uses_of j) ≡ (walked ordinary j >>= after_keeping stage j room)
+module _ (j : Job) (stage : Option Stage) (room : ℕ) where
+  through_walks : is_asked Pair stage ≡ false → is_asked Merge stage ≡ false → after_reading stage j room (uses_of j) ≡ (walked ordinary j >>= after_keeping stage j room)
   unfolding walked after_reading after_pairing after_merging
   through_walks b d =
       bind_then (pair j.answers (uses_of j) (length j.edges))
-      (λ ts. merge_faces full_table j.answers j.faces (uses_of j) ts >>= λ m. vertex_loops j.answers j.points (merged_faces m) j.loops >>= λ ks. ok (walks_of (uses_of j) ts m ks))
+      (λ ts. merge_faces full_table j.answers j.faces (uses_of j) ts >>= λ m. vertex_loops j.answers j.points (merged_faces m) j.loops >>= λ ks. Ok (walks_of (uses_of j) ts m ks))
       (after_keeping stage j room)
       (after_pairing stage j (uses_of j) room)
       (λ ts. rw b (bind_then (merge_faces full_table j.answers j.faces (uses_of j) ts)
-      (λ m. vertex_loops j.answers j.points (merged_faces m) j.loops >>= λ ks. ok (walks_of (uses_of j) ts m ks))
+      (λ m. vertex_loops j.answers j.points (merged_faces m) j.loops >>= λ ks. Ok (walks_of (uses_of j) ts m ks))
       (after_keeping stage j room)
       (after_merging stage j (uses_of j) ts room)
       (λ m. rw d (bind_then (vertex_loops j.answers j.points (merged_faces m) j.loops)
-      (λ ks. ok (walks_of (uses_of j) ts m ks))
+      (λ ks. Ok (walks_of (uses_of j) ts m ks))
       (after_keeping stage j room)
       (λ ks. after_keeping stage j room (walks_of (uses_of j) ts m ks))
       (λ ks. refl)))))
 
-  through_fans : eqb stage 4 ≡ false → eqb stage 5 ≡ false → eqb stage 6 ≡ false → (walked ordinary j >>= after_keeping stage j room) ≡ (fanned ordinary j >>= after_fans stage j room)
+  through_fans : is_asked VertexLoops stage ≡ false → is_asked Walk stage ≡ false → is_asked Loops stage ≡ false → (walked ordinary j >>= after_keeping stage j room) ≡ (fanned ordinary j >>= after_fans stage j room)
   unfolding fanned after_keeping after_walks after_loops
   through_fans a b d =
       bind_then (walked ordinary j)
-      (λ w. edges_clear 30 w.uses w.twins w.merge.boundaries (length j.edges) >>= λ _. ok (fans_of j w))
+      (λ w. edges_clear PairsInBoundary w.uses w.twins w.merge.boundaries (length j.edges) >>= λ _. Ok (fans_of j w))
       (after_fans stage j room)
       (after_keeping stage j room)
-      (λ w. rw (a, b, d) (bind_then (edges_clear 30 w.uses w.twins w.merge.boundaries (length j.edges))
-      (λ _. ok (fans_of j w))
+      (λ w. rw (a, b, d) (bind_then (edges_clear PairsInBoundary w.uses w.twins w.merge.boundaries (length j.edges))
+      (λ _. Ok (fans_of j w))
       (after_fans stage j room)
       (λ _. after_fans stage j room (fans_of j w))
       (λ _. refl)))
 
-  through_edges : eqb stage 7 ≡ false → (fanned ordinary j >>= after_fans stage j room) ≡ (edged ordinary j >>= after_edges stage j room)
+  through_edges : is_asked Fans stage ≡ false → (fanned ordinary j >>= after_fans stage j room) ≡ (edged ordinary j >>= after_edges stage j room)
   unfolding edged after_fans
   through_edges a =
       bind_then (fanned ordinary j)
-      (λ f. points_clear 31 f.walk.uses f.starts f.walk.merge.boundaries f.names >>= λ _. ok (record { fan = f; joining = unjoined j f }))
+      (λ f. points_clear FansInBoundary f.walk.uses f.starts f.walk.merge.boundaries f.names >>= λ _. Ok (record { fan = f; joining = unjoined j f }))
       (after_edges stage j room)
       (after_fans stage j room)
-      (λ f. rw a (bind_then (points_clear 31 f.walk.uses f.starts f.walk.merge.boundaries f.names)
-      (λ _. ok (record { fan = f; joining = unjoined j f }))
+      (λ f. rw a (bind_then (points_clear FansInBoundary f.walk.uses f.starts f.walk.merge.boundaries f.names)
+      (λ _. Ok (record { fan = f; joining = unjoined j f }))
       (after_edges stage j room)
       (λ _. after_edges stage j room (record { fan = f; joining = unjoined j f }))
       (λ _. refl)))
 
-  through_join : eqb stage 8 ≡ false → (edged ordinary j >>= after_edges stage j room) ≡ (through_joining ordinary j >>= after_joining stage j room)
+  through_join : is_asked Edges stage ≡ false → (edged ordinary j >>= after_edges stage j room) ≡ (through_joining ordinary j >>= after_joining stage j room)
   unfolding through_joining after_edges
   through_join a =
       bind_then (edged ordinary j)
-      (λ x. maximal_edges j.answers x.fan.starts x.fan.names (length x.fan.names) x.joining >>= λ s. ok (record { fan = x.fan; joining = s }))
+      (λ x. maximal_edges j.answers x.fan.starts x.fan.names (length x.fan.names) x.joining >>= λ s. Ok (record { fan = x.fan; joining = s }))
       (after_joining stage j room)
       (after_edges stage j room)
       (λ x. rw a (bind_then (maximal_edges j.answers x.fan.starts x.fan.names (length x.fan.names) x.joining)
-      (λ s. ok (record { fan = x.fan; joining = s }))
+      (λ s. Ok (record { fan = x.fan; joining = s }))
       (after_joining stage j room)
       (λ s. after_joining stage j room (record { fan = x.fan; joining = s }))
       (λ s. refl)))
 
 -- SINGLE STAGES
 
-abbrev by_job : ℕ → ℕ → Job → Outcome (List ℕ)
+abbrev by_job : Option Stage → ℕ → Job → Outcome (List ℕ)
 by_job stage room j = after_reading stage j room (uses_of j)
 
-pub stage_pair : (job : List ℕ) (room : ℕ) → staged 2 job room ≡ pair_stage job room
-unfolding staged pair_stage after_reading after_pairing
+pub stage_pair : (job : List ℕ) (room : ℕ) → staged (Some Pair) job room ≡ pair_stage job room
+unfolding staged pair_stage after_reading after_pairing is_asked stage_number
 stage_pair job room =
-    bind_same (loaded job) (by_job 2 room) (λ j. pair j.answers (uses_of j) (length j.edges) >>= stage_bytes room)
-    (λ j. bind_same (pair j.answers (uses_of j) (length j.edges)) (after_pairing 2 j (uses_of j) room) (stage_bytes room) (λ ts. refl))
+    bind_same (loaded job) (by_job (Some Pair) room) (λ j. pair j.answers (uses_of j) (length j.edges) >>= stage_bytes room)
+    (λ j. bind_same (pair j.answers (uses_of j) (length j.edges)) (after_pairing (Some Pair) j (uses_of j) room) (stage_bytes room) (λ ts. refl))
 
-pub stage_merge : (job : List ℕ) (room : ℕ) → staged 3 job room ≡ merge_stage ordinary job room
-unfolding staged merge_stage after_reading after_pairing after_merging
+pub stage_merge : (job : List ℕ) (room : ℕ) → staged (Some Merge) job room ≡ merge_stage ordinary job room
+unfolding staged merge_stage after_reading after_pairing after_merging is_asked stage_number
 stage_merge job room =
-    bind_same (loaded job) (by_job 3 room)
+    bind_same (loaded job) (by_job (Some Merge) room)
     (λ j. pair j.answers (uses_of j) (length j.edges) >>= λ ts. merge_faces full_table j.answers j.faces (uses_of j) ts >>= fields j)
-    (λ j. bind_same (pair j.answers (uses_of j) (length j.edges)) (after_pairing 3 j (uses_of j) room) (λ ts. merge_faces full_table j.answers j.faces (uses_of j) ts >>= fields j)
-    (λ ts. bind_same (merge_faces full_table j.answers j.faces (uses_of j) ts) (after_merging 3 j (uses_of j) ts room) (fields j) (λ m. refl)))
+    (λ j. bind_same (pair j.answers (uses_of j) (length j.edges)) (after_pairing (Some Merge) j (uses_of j) room) (λ ts. merge_faces full_table j.answers j.faces (uses_of j) ts >>= fields j)
+    (λ ts. bind_same (merge_faces full_table j.answers j.faces (uses_of j) ts) (after_merging (Some Merge) j (uses_of j) ts room) (fields j) (λ m. refl)))
   where
     fields : Job → Merged → Outcome (List ℕ)
     fields j m = stage_bytes room (flat_map (group_fields m) (below (length j.faces)))
 
 module _ (job : List ℕ) (room : ℕ) where
   -- a stage after the walks
-  from_walks : (stage : ℕ) (fields : Walked → Outcome (List ℕ)) → eqb stage 2 ≡ false → eqb stage 3 ≡ false → ((j : Job) (w : Walked) → after_keeping stage j room w ≡ fields w)
+  from_walks : (stage : Option Stage) (fields : Walked → Outcome (List ℕ)) → is_asked Pair stage ≡ false → is_asked Merge stage ≡ false → ((j : Job) (w : Walked) → after_keeping stage j room w ≡ fields w)
       → staged stage job room ≡ (loaded job >>= λ j. walked ordinary j >>= fields)
   unfolding staged
   from_walks stage fields b d e =
       bind_same (loaded job) (by_job stage room) (λ j. walked ordinary j >>= fields)
       (λ j. through_walks j stage room b d ∙ bind_same (walked ordinary j) (after_keeping stage j room) fields (e j))
 
-  pub stage_vertex_loops : staged 4 job room ≡ vertex_loop_stage ordinary job room
-  unfolding vertex_loop_stage after_keeping
-  stage_vertex_loops = from_walks 4 (λ w. stage_bytes room (flat_map kept_fields w.vertex_loops)) refl refl (λ j w. refl)
+  pub stage_vertex_loops : staged (Some VertexLoops) job room ≡ vertex_loop_stage ordinary job room
+  unfolding vertex_loop_stage after_keeping is_asked stage_number
+  stage_vertex_loops = from_walks (Some VertexLoops) (λ w. stage_bytes room (flat_map kept_fields w.vertex_loops)) refl refl (λ j w. refl)
 
-  pub stage_walk : staged 5 job room ≡ walk_stage ordinary job room
-  unfolding walk_stage after_keeping after_walks
-  stage_walk = from_walks 5 (λ w. stage_bytes room (flat_map (walk_fields w) (kept_uses w.merge.removed))) refl refl (λ j w. refl)
+  pub stage_walk : staged (Some Walk) job room ≡ walk_stage ordinary job room
+  unfolding walk_stage after_keeping after_walks is_asked stage_number
+  stage_walk = from_walks (Some Walk) (λ w. stage_bytes room (flat_map (walk_fields w) (kept_uses w.merge.removed))) refl refl (λ j w. refl)
 
-  pub stage_loops : staged 6 job room ≡ loop_stage ordinary job room
-  unfolding loop_stage after_keeping after_walks
-  stage_loops = from_walks 6 (λ w. stage_bytes room (flat_map (loop_fields w) (loops_of w.circuits))) refl refl (λ j w. refl)
+  pub stage_loops : staged (Some Loops) job room ≡ loop_stage ordinary job room
+  unfolding loop_stage after_keeping after_walks is_asked stage_number
+  stage_loops = from_walks (Some Loops) (λ w. stage_bytes room (flat_map (loop_fields w) (loops_of w.circuits))) refl refl (λ j w. refl)
 
   -- the fields of the fans of a job
   abbrev fans_out : Job → Fanned → Outcome (List ℕ)
   fans_out j f = stage_bytes room (flat_map (fan_fields f) (keep (kept_with_ends j.edges f.walk.uses f.walk.merge.removed) (below (length f.walk.uses))))
 
-  pub stage_fans : staged 7 job room ≡ fan_stage ordinary job room
-  unfolding staged fan_stage after_fans
+  pub stage_fans : staged (Some Fans) job room ≡ fan_stage ordinary job room
+  unfolding staged fan_stage after_fans is_asked stage_number
   stage_fans =
-      bind_same (loaded job) (by_job 7 room) (λ j. fanned ordinary j >>= fans_out j)
-      (λ j. through_walks j 7 room refl refl ∙ through_fans j 7 room refl refl refl ∙ bind_same (fanned ordinary j) (after_fans 7 j room) (fans_out j) (λ f. refl))
+      bind_same (loaded job) (by_job (Some Fans) room) (λ j. fanned ordinary j >>= fans_out j)
+      (λ j. through_walks j (Some Fans) room refl refl ∙ through_fans j (Some Fans) room refl refl refl ∙ bind_same (fanned ordinary j) (after_fans (Some Fans) j room) (fans_out j) (λ f. refl))
 
-  pub stage_edges : staged 8 job room ≡ edge_stage ordinary job room
-  unfolding staged edge_stage after_edges
+  pub stage_edges : staged (Some Edges) job room ≡ edge_stage ordinary job room
+  unfolding staged edge_stage after_edges is_asked stage_number
   stage_edges =
-      bind_same (loaded job) (by_job 8 room) (λ j. edged ordinary j >>= λ x. stage_bytes room (joining_fields x.joining))
-      (λ j. through_walks j 8 room refl refl ∙ through_fans j 8 room refl refl refl ∙ through_edges j 8 room refl
-      ∙ bind_same (edged ordinary j) (after_edges 8 j room) (λ x. stage_bytes room (joining_fields x.joining)) (λ x. refl))
+      bind_same (loaded job) (by_job (Some Edges) room) (λ j. edged ordinary j >>= λ x. stage_bytes room (joining_fields x.joining))
+      (λ j. through_walks j (Some Edges) room refl refl ∙ through_fans j (Some Edges) room refl refl refl ∙ through_edges j (Some Edges) room refl
+      ∙ bind_same (edged ordinary j) (after_edges (Some Edges) j room) (λ x. stage_bytes room (joining_fields x.joining)) (λ x. refl))
 
   -- a stage after joining
-  from_joining : (stage : ℕ) (fields : Job → Joined → Outcome (List ℕ)) → eqb stage 2 ≡ false → eqb stage 3 ≡ false → eqb stage 4 ≡ false → eqb stage 5 ≡ false → eqb stage 6 ≡ false
-      → eqb stage 7 ≡ false → eqb stage 8 ≡ false → ((j : Job) (x : Joined) → after_joining stage j room x ≡ fields j x) → (j : Job) → by_job stage room j ≡ (through_joining ordinary j >>= fields j)
+  from_joining : (stage : Option Stage) (fields : Job → Joined → Outcome (List ℕ)) → is_asked Pair stage ≡ false → is_asked Merge stage ≡ false → is_asked VertexLoops stage ≡ false → is_asked Walk stage ≡ false → is_asked Loops stage ≡ false
+      → is_asked Fans stage ≡ false → is_asked Edges stage ≡ false → ((j : Job) (x : Joined) → after_joining stage j room x ≡ fields j x) → (j : Job) → by_job stage room j ≡ (through_joining ordinary j >>= fields j)
   from_joining stage fields b d e f g h i same j =
       through_walks j stage room b d ∙ through_fans j stage room e f g ∙ through_edges j stage room h ∙ through_join j stage room i
       ∙ bind_same (through_joining ordinary j) (after_joining stage j room) (fields j) (same j)
 
-  pub stage_joining : staged 9 job room ≡ joining_stage ordinary job room
-  unfolding staged joining_stage after_joining
+  pub stage_joining : staged (Some JoiningStage) job room ≡ joining_stage ordinary job room
+  unfolding staged joining_stage after_joining is_asked stage_number
   stage_joining =
-      bind_same (loaded job) (by_job 9 room) (λ j. through_joining ordinary j >>= λ x. stage_bytes room (joining_fields x.joining))
-      (from_joining 9 (λ j x. stage_bytes room (joining_fields x.joining)) refl refl refl refl refl refl refl (λ j x. refl))
+      bind_same (loaded job) (by_job (Some JoiningStage) room) (λ j. through_joining ordinary j >>= λ x. stage_bytes room (joining_fields x.joining))
+      (from_joining (Some JoiningStage) (λ j x. stage_bytes room (joining_fields x.joining)) refl refl refl refl refl refl refl (λ j x. refl))
 
   abbrev shells_out : Job → Joined → Outcome (List ℕ)
   shells_out j x = shells_of j x.fan.walk >>= λ ss. stage_bytes room (flat_map shell_fields ss)
 
-  pub stage_shells : staged 10 job room ≡ shell_stage ordinary job room
-  unfolding staged shell_stage after_joining after_shells
+  pub stage_shells : staged (Some Shells) job room ≡ shell_stage ordinary job room
+  unfolding staged shell_stage after_joining after_shells is_asked stage_number
   stage_shells =
-      bind_same (loaded job) (by_job 10 room) (λ j. through_joining ordinary j >>= shells_out j)
-      (from_joining 10 shells_out refl refl refl refl refl refl refl
-      (λ j x. bind_same (shells_of j x.fan.walk) (after_shells 10 j x room) (λ ss. stage_bytes room (flat_map shell_fields ss)) (λ ss. refl)))
+      bind_same (loaded job) (by_job (Some Shells) room) (λ j. through_joining ordinary j >>= shells_out j)
+      (from_joining (Some Shells) shells_out refl refl refl refl refl refl refl
+      (λ j x. bind_same (shells_of j x.fan.walk) (after_shells (Some Shells) j x room) (λ ss. stage_bytes room (flat_map shell_fields ss)) (λ ss. refl)))
 
   abbrev nested_out : Job → Joined → (List Nested → Outcome (List ℕ)) → Outcome (List ℕ)
   nested_out j x last = shells_of j x.fan.walk >>= λ ss. nested j.answers ss >>= last
 
-  pub stage_lumps : staged 11 job room ≡ lump_stage ordinary job room
-  unfolding staged lump_stage after_joining after_shells after_nesting
+  pub stage_lumps : staged (Some Lumps) job room ≡ lump_stage ordinary job room
+  unfolding staged lump_stage after_joining after_shells after_nesting is_asked stage_number
   stage_lumps =
-      bind_same (loaded job) (by_job 11 room) (λ j. through_joining ordinary j >>= λ x. nested_out j x (λ ns. stage_bytes room (lump_fields 0 (lumps ns))))
-      (from_joining 11 (λ j x. nested_out j x (λ ns. stage_bytes room (lump_fields 0 (lumps ns)))) refl refl refl refl refl refl refl
-      (λ j x. bind_same (shells_of j x.fan.walk) (after_shells 11 j x room) (λ ss. nested j.answers ss >>= λ ns. stage_bytes room (lump_fields 0 (lumps ns)))
-      (λ ss. bind_same (nested j.answers ss) (after_nesting 11 j x room) (λ ns. stage_bytes room (lump_fields 0 (lumps ns))) (λ ns. refl))))
+      bind_same (loaded job) (by_job (Some Lumps) room) (λ j. through_joining ordinary j >>= λ x. nested_out j x (λ ns. stage_bytes room (lump_fields 0 (lumps ns))))
+      (from_joining (Some Lumps) (λ j x. nested_out j x (λ ns. stage_bytes room (lump_fields 0 (lumps ns)))) refl refl refl refl refl refl refl
+      (λ j x. bind_same (shells_of j x.fan.walk) (after_shells (Some Lumps) j x room) (λ ss. nested j.answers ss >>= λ ns. stage_bytes room (lump_fields 0 (lumps ns)))
+      (λ ss. bind_same (nested j.answers ss) (after_nesting (Some Lumps) j x room) (λ ns. stage_bytes room (lump_fields 0 (lumps ns))) (λ ns. refl))))
 
   -- THE BODY
 
-  solid_fits : (j : Job) → by_job 12 room j ≡ (solid ordinary j >>= λ b. fitting room (framed_all (body_records b)))
-  unfolding solid after_joining after_shells after_nesting after_lumps
+  solid_fits : (j : Job) → by_job None room j ≡ (solid ordinary j >>= λ b. fitting room (framed_all (body_records b)))
+  unfolding solid after_joining after_shells after_nesting after_lumps is_asked stage_number
   solid_fits j =
-      from_joining 12 (λ j x. nested_out j x (λ ns. lumps_clear j x.fan ns >>= λ _. fitting room (framed_all (body_records (body_of j x ns))))) refl refl refl refl refl refl refl (λ j x. refl) j
+      from_joining None (λ j x. nested_out j x (λ ns. lumps_clear j x.fan ns >>= λ _. fitting room (framed_all (body_records (body_of j x ns))))) refl refl refl refl refl refl refl (λ j x. refl) j
       ∙ bind_then (through_joining ordinary j)
-      (λ x. shells_of j x.fan.walk >>= λ ss. nested j.answers ss >>= λ ns. lumps_clear j x.fan ns >>= λ _. ok (body_of j x ns))
+      (λ x. shells_of j x.fan.walk >>= λ ss. nested j.answers ss >>= λ ns. lumps_clear j x.fan ns >>= λ _. Ok (body_of j x ns))
       whole
       (λ x. nested_out j x (λ ns. lumps_clear j x.fan ns >>= λ _. whole (body_of j x ns)))
       (λ x. bind_then (shells_of j x.fan.walk)
-      (λ ss. nested j.answers ss >>= λ ns. lumps_clear j x.fan ns >>= λ _. ok (body_of j x ns))
+      (λ ss. nested j.answers ss >>= λ ns. lumps_clear j x.fan ns >>= λ _. Ok (body_of j x ns))
       whole
       (λ ss. nested j.answers ss >>= λ ns. lumps_clear j x.fan ns >>= λ _. whole (body_of j x ns))
       (λ ss. bind_then (nested j.answers ss)
-      (λ ns. lumps_clear j x.fan ns >>= λ _. ok (body_of j x ns))
+      (λ ns. lumps_clear j x.fan ns >>= λ _. Ok (body_of j x ns))
       whole
       (λ ns. lumps_clear j x.fan ns >>= λ _. whole (body_of j x ns))
-      (λ ns. bind_then (lumps_clear j x.fan ns) (λ _. ok (body_of j x ns)) whole (λ _. whole (body_of j x ns)) (λ _. refl))))
+      (λ ns. bind_then (lumps_clear j x.fan ns) (λ _. Ok (body_of j x ns)) whole (λ _. whole (body_of j x ns)) (λ _. refl))))
     where
       whole : Body → Outcome (List ℕ)
       whole b = fitting room (framed_all (body_records b))
 
   pub stage_body : sewn_by job room ≡ sewn ordinary job room
-  unfolding sewn_by sewn rebuild
+  unfolding sewn_by sewn rebuild is_asked stage_number
   stage_body =
       bind_same (loaded job)
-      (λ j. cond (eqb (length j.faces) 0) (whole empty_body) (by_job 12 room j))
-      (λ j. cond (eqb (length j.faces) 0) (ok empty_body) (solid ordinary j) >>= whole)
+      (λ j. cond (eqb (length j.faces) 0) (whole empty_body) (by_job None room j))
+      (λ j. cond (eqb (length j.faces) 0) (Ok empty_body) (solid ordinary j) >>= whole)
       (λ j. ap (λ o. cond (eqb (length j.faces) 0) (whole empty_body) o) (solid_fits j) ∙ sym (either (eqb (length j.faces) 0) (solid ordinary j)))
     where
       whole : Body → Outcome (List ℕ)
       whole b = fitting room (framed_all (body_records b))
 
-      either : (t : Bool) (o : Outcome Body) → (cond t (ok empty_body) o >>= whole) ≡ cond t (whole empty_body) (o >>= whole)
+      either : (t : Bool) (o : Outcome Body) → (cond t (Ok empty_body) o >>= whole) ≡ cond t (whole empty_body) (o >>= whole)
       either true o = refl
       either false o = refl

@@ -1,7 +1,6 @@
 -- The items of the job's loops are those in its bytes; which item stands at a place of a loop as its face is selected.
 use Rattle.std.specs.Prelude.{ℕ, zero, suc, ◌+◌, ◌*◌, ◌-◌, ◌/◌, ◌<◌, ◌≡◌, refl, Bool, true, false, cond, List, [], ◌∷◌, map, length, get_or, drop, eqb}
-use Rattle.std.proofs.Common.{arith, sym, ap, ◌∙◌, eq-eqb, ne_eqb}
-use Rattle.lists.specs.Tests.{cond_true, cond_false}
+use Rattle.std.proofs.Common.{arith, sym, ap, ◌∙◌}
 use Rattle.lists.specs.Runs.{from_none, length_table, get_or_table}
 use Rattle.lists.specs.Tables.{table_is}
 use Rattle.lists.specs.Cyclic.{next_place}
@@ -125,16 +124,3 @@ use_made bytes face first at n k p edge word next s read sense h a lt b d e f g 
           edge = (ap (λ (x : Item). x.edge) there ∙ sym b) i;
           sense = (ap (λ t. product t s) (ap (λ (x : Item). x.sense) there ∙ ap sense_of (sym d) ∙ sym e) ∙ sym (answers_product read s sense f)) i;
         })
-
--- WHAT THE CODE FINDS
-
-pub count_items : (bytes ix : List ℕ) (l kind size : ℕ) → kind ≡ le16 bytes (loop_byte ix l + 4) → size ≡ le32 bytes (loop_byte ix l) → kind ≡ 5 → size / 8 ≡ item_count bytes ix l
-unfolding item_count
-count_items bytes ix l kind size e q h = ap (λ n. n / 8) q ∙ sym (cond_true (eqb (le16 bytes (loop_byte ix l + 4)) 5) (le32 bytes (loop_byte ix l) / 8) 0 (eq-eqb (le16 bytes (loop_byte ix l + 4)) 5 (sym e ∙ h)))
-
-pub count_none : (bytes ix : List ℕ) (l kind : ℕ) → kind ≡ le16 bytes (loop_byte ix l + 4) → (kind ≡ 5 → ⊥) → 0 ≡ item_count bytes ix l
-unfolding item_count
-count_none bytes ix l kind e h = sym (cond_false (eqb (le16 bytes (loop_byte ix l + 4)) 5) (le32 bytes (loop_byte ix l) / 8) 0 (ne_eqb (le16 bytes (loop_byte ix l + 4)) 5 (λ q. h (e ∙ q))))
-
-pub place_back : (s : Sense) (n i : ℕ) → s ≡ Reversed → n - 1 - i ≡ place_of s n i
-place_back s n i e = let z : n - 1 - i ≡ n - suc i = omega arith in z ∙ sym (ap (λ t. place_of t n i) e)

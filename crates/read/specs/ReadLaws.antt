@@ -1,5 +1,5 @@
 -- Reading one loop more, and one use more of a loop.
-use Rattle.std.specs.Prelude.{ℕ, ◌+◌, ◌*◌, ◌-◌, ◌<◌, ◌≤◌, ◌≡◌, refl, List, [], ◌∷◌, ◌++◌, map, length, get_or, take, ltb}
+use Rattle.std.specs.Prelude.{ℕ, ◌+◌, ◌*◌, ◌-◌, ◌/◌, ◌<◌, ◌≤◌, ◌≡◌, refl, List, [], ◌∷◌, ◌++◌, map, length, get_or, take, ltb}
 use Rattle.std.proofs.Common.{arith, sym, ◌∙◌, ⊎_elim, append_assoc, append-nil, length-append, length-take-le, take_all, get_or-take, get_or-append-add, ext_get_or, ltb-true, ltb-false}
 use Rattle.std.proofs.Math.Path.{ap}
 use Rattle.std.proofs.Math.ListN.{get_or-append}
@@ -15,7 +15,7 @@ use Rattle.rules.specs.Read.{traversed, content_items, loop_items, loop_uses, re
 use Rattle.theorems.proofs.Reading.{traversed_length, loop_length}
 use Rattle.job.specs.Lists.{loop_byte, faces_in, loop_in, loops_in, job_in}
 use Rattle.uses.specs.Table.{uses_in, with_use}
-use Rattle.uses.specs.TableLaws.{length_uses, stored, unstored}
+use Rattle.uses.specs.TableLaws.{length_uses, count_uses, stored, unstored}
 use Rattle.read.specs.Items.{items_in, item_count}
 use Rattle.read.specs.ItemLaws.{length_items, content_is}
 
@@ -25,9 +25,6 @@ use Rattle.read.specs.ItemLaws.{length_items, content_is}
 pub record Seated (t₀ t : List ℕ) (first i : ℕ) (loop : List Use) : Type 0 where
   pub kept : (g : ℕ) → g < first → use_at (uses_in t) g ≡ use_at (uses_in t₀) g
   pub here : (k : ℕ) → k < i → use_at (uses_in t) (first + k) ≡ use_at loop k
-
-pub seated_none : (t : List ℕ) (first : ℕ) (loop : List Use) → Seated t t first 0 loop
-seated_none t first loop = record { kept = λ g h. refl; here = λ k h. absurd (omega arith) }
 
 pub seated_more : (t₀ t t' : List ℕ) (first i : ℕ) (loop : List Use) (u : Use) → Seated t₀ t first i loop → t' ≡ with_use t (first + i) u → u ≡ use_at loop i
     → 4 * (first + i) + 4 ≤ length t → Seated t₀ t' first (i + 1) loop
@@ -80,11 +77,12 @@ length_loop bytes face first at n s = loop_length face first first (traversed s 
 
 -- ALL LOOPS
 
--- the table of uses us has the first h, and the loops from l on have the others
-pub record Reading (bytes ix : List ℕ) (c : Counts) (us : List Use) (h l : ℕ) : Type 0 where
+-- the table t has room for all uses; it has the first h, and the loops from l on have the others
+pub record Reading (bytes ix : List ℕ) (c : Counts) (t : List ℕ) (h l : ℕ) : Type 0 where
   pub within : l ≤ c.loops
-  pub room : h ≤ length us
-  pub left : take h us ++ read (faces_in bytes ix c) h (map (loop_in bytes ix) (from l (c.loops - l))) ≡ uses_of (job_in bytes ix c)
+  pub size : length (uses_in t) ≡ length (uses_of (job_in bytes ix c))
+  pub room : h ≤ length (uses_in t)
+  pub left : take h (uses_in t) ++ read (faces_in bytes ix c) h (map (loop_in bytes ix) (from l (c.loops - l))) ≡ uses_of (job_in bytes ix c)
 
 read_none : (fs : List Face) (h : ℕ) → read fs h [] ≡ []
 unfolding read
@@ -94,15 +92,19 @@ read_first : (fs : List Face) (h : ℕ) (l : Loop) (ls : List Loop) (here : List
 unfolding read
 read_first fs h l ls here e = λ i. e i ++ read fs (h + length (e i)) ls
 
-pub reading_none : (bytes ix : List ℕ) (c : Counts) (us : List Use) → Reading bytes ix c us 0 0
+pub reading_none : (bytes ix : List ℕ) (c : Counts) (t : List ℕ) → length t ≡ 4 * c.uses → c.uses ≡ length (uses_of (job_in bytes ix c)) → Reading bytes ix c t 0 0
 unfolding job_in loops_in
-reading_none bytes ix c us = record {
+reading_none bytes ix c t long all = record {
   within = omega arith;
+  size = count_uses t c.uses long ∙ all;
   room = omega arith;
   left = let e : c.loops - 0 ≡ c.loops = omega arith in ap (λ n. read (faces_in bytes ix c) 0 (map (loop_in bytes ix) (from 0 n))) e;
 }
 
-module _ (bytes ix : List ℕ) (c : Counts) (us : List Use) (h l : ℕ) (r : Reading bytes ix c us h l) where
+module _ (bytes ix : List ℕ) (c : Counts) (t : List ℕ) (h l : ℕ) (r : Reading bytes ix c t h l) where
+  abbrev us : List Use
+  us = uses_in t
+
   -- loop l with its face, the face's selected sense, its items' first byte and their number
   module _ (n f at : ℕ) (s : Sense) (lt : l < c.loops) (en : n ≡ item_count bytes ix l) (ef : f ≡ get_or ix (6400 + l) 0) (es : s ≡ (face_at (faces_in bytes ix c) f).selected)
       (ea : at ≡ loop_byte ix l + 6)
@@ -114,7 +116,7 @@ module _ (bytes ix : List ℕ) (c : Counts) (us : List Use) (h l : ℕ) (r : Rea
       unfolding loop_in
       loop_is =
           let items : content_items (loop_in bytes ix l).content ≡ items_in bytes at n = content_is bytes ix l ∙ (λ i. items_in bytes (sym ea i) (sym en i)) in
-          (λ i. loop_uses (sym ef i) h h (traversed (face_at (faces_in bytes ix c) (sym ef i)).selected (items i))) ∙ ap (λ t. loop_uses f h h (traversed t (items_in bytes at n))) (sym es)
+          (λ i. loop_uses (sym ef i) h h (traversed (face_at (faces_in bytes ix c) (sym ef i)).selected (items i))) ∙ ap (λ x. loop_uses f h h (traversed x (items_in bytes at n))) (sym es)
 
       long : length here ≡ n
       long = length_loop bytes f h at n s
@@ -127,11 +129,12 @@ module _ (bytes ix : List ℕ) (c : Counts) (us : List Use) (h l : ℕ) (r : Rea
           ∙ ap (λ m. take h us ++ m) (read_first (faces_in bytes ix c) h (loop_in bytes ix l) rest here loop_is ∙ ap (λ m. here ++ read (faces_in bytes ix c) (h + m) rest) long))
           ∙ r.left
 
-      pub reading_room : h + n ≤ length (uses_of (job_in bytes ix c))
+      pub reading_room : h + n ≤ length us
       reading_room =
           let rest : List Use = read (faces_in bytes ix c) (h + n) (map (loop_in bytes ix) (from (l + 1) (c.loops - (l + 1)))) in
           omega (
             arith,
+            r.size,
             ap length split,
             length-append (take h us ++ here) rest,
             length-append (take h us) here,
@@ -139,15 +142,19 @@ module _ (bytes ix : List ℕ) (c : Counts) (us : List Use) (h l : ℕ) (r : Rea
             long,
           )
 
-      pub reading_more : (us' : List Use) → length us' ≡ length us → length us ≡ length (uses_of (job_in bytes ix c)) → take (h + n) us' ≡ take h us ++ here → Reading bytes ix c us' (h + n) (l + 1)
-      reading_more us' same all e = record {
-        within = omega arith;
-        room = omega (arith, reading_room);
-        left = ap (λ m. m ++ read (faces_in bytes ix c) (h + n) (map (loop_in bytes ix) (from (l + 1) (c.loops - (l + 1))))) e ∙ split;
-      }
+      pub reading_more : (t' : List ℕ) → length t' ≡ length t → take (h + n) (uses_in t') ≡ take h us ++ here → Reading bytes ix c t' (h + n) (l + 1)
+      reading_more t' same e =
+          let size : length (uses_in t') ≡ length us = length_uses t' ∙ ap (λ m. m / 4) same ∙ sym (length_uses t) in
+          record {
+            within = omega arith;
+            size = size ∙ r.size;
+            room = omega (arith, reading_room);
+            left = ap (λ m. m ++ read (faces_in bytes ix c) (h + n) (map (loop_in bytes ix) (from (l + 1) (c.loops - (l + 1))))) e ∙ split;
+          }
 
-  pub reading_all : c.loops ≤ l → length us ≡ length (uses_of (job_in bytes ix c)) → us ≡ uses_of (job_in bytes ix c)
-  reading_all le all =
+  pub reading_all : c.loops ≤ l → us ≡ uses_of (job_in bytes ix c)
+  reading_all le =
       let fs : List Face = faces_in bytes ix c in
-      let e : take h us ≡ uses_of (job_in bytes ix c) = sym (append-nil (take h us)) ∙ sym (ap (λ ls. take h us ++ read fs h (map (loop_in bytes ix) ls)) (left_none l c.loops le) ∙ ap (λ m. take h us ++ m) (read_none fs h)) ∙ r.left in
-      sym (take_all h us (omega (arith, ap length e, length-take-le h us r.room))) ∙ e
+      let none : read fs h (map (loop_in bytes ix) (from l (c.loops - l))) ≡ [] = ap (λ ls. read fs h (map (loop_in bytes ix) ls)) (left_none l c.loops le) ∙ read_none fs h in
+      let e : take h us ≡ uses_of (job_in bytes ix c) = sym (append-nil (take h us)) ∙ sym (ap (λ m. take h us ++ m) none) ∙ r.left in
+      sym (take_all h us (omega (arith, r.size, ap length e, length-take-le h us r.room))) ∙ e

@@ -13,6 +13,7 @@ use fields::word;
 use rules::{Counts, Sense};
 
 // How many items a loop has; a vertex loop has none.
+#[tactic(auto, unfolding(crate::specs::Items::item_count))]
 fn item_count(job: &[u8], index: &[u32], l: usize) -> usize
     requires { l < 1024 }
     ensures { result ≡ item_count job.now index.now l }
@@ -35,6 +36,7 @@ fn place(selected: Sense, n: usize, i: usize) -> usize
 }
 
 // The use after the one at place i of a loop of n uses, numbered from `first`.
+#[tactic(auto, using(lists::specs::Cyclic::next_wraps, lists::specs::Cyclic::next_on))]
 fn next_of(first: usize, n: usize, i: usize) -> usize
     requires { (i < n) × (first + n ≤ 2048) }
     ensures { (result ≡ first + next_place i n) × (result < 2048) }
@@ -58,14 +60,12 @@ fn read_loop(
     requires { (first + n ≤ length (uses_in uses.old)) × (first + n ≤ 2048) × (at < 4294967302) × (face < 4294967296) }
     ensures { take (first + n) (uses_in uses.new) ≡ take first (uses_in uses.old) ++ loop_uses face first first (traversed selected (items_in job.now at n)) }
 {
-    let mut i = 0;
-    while i < n {
+    for i in 0..n {
         let p = at + 8 * place(selected, n, i);
         let edge = word(job, p);
-        let sense = job::product(job::sense_of(word(job, p + 4)), selected);
+        let sense = Sense::from(word(job, p + 4)) * selected;
         let next = next_of(first, n, i);
         uses::put_use(uses, first + i, edge, face, sense, next);
-        i += 1;
     }
 }
 
@@ -75,14 +75,12 @@ pub fn read(job: &[u8], index: &[u32], c: Counts, uses: &mut [u32])
     ensures { uses_in uses.new ≡ uses_of (job_in job.now index.now c) }
 {
     let mut h = 0;
-    let mut l = 0;
-    while l < c.loops {
+    for l in 0..c.loops {
         let n = item_count(job, index, l);
         let f = job::loop_face(index, l);
         let s = job::face_selected(job, index, c, f);
         let at = job::loop_start(index, l);
         read_loop(uses, h, job, at, n, f, s);
         h += n;
-        l += 1;
     }
 }

@@ -1,18 +1,20 @@
 -- After nesting: the stage `lumps`, the tests by lump, then the body.
 use Prim.Native.Nat.{ℕ, ◌*◌, ◌≤◌}
 use Rattle.std.proofs.Common.{arith, subst, ◌∙◌, inl, inr, length-take, length-take-le}
-use Rattle.std.specs.Prelude.{◌≡◌, true, take}
+use Rattle.std.specs.Prelude.{◌≡◌, true, take, Option, false}
 use Rattle.std.proofs.Math.Path.{sym, ap}
 use mathlib.Core.List.{List}
 use Rattle.std.proofs.Math.ListN.{length}
 use Rattle.lists.specs.Membership.{in_get_or}
 use Rattle.lists.specs.Runs.{length_table}
+use Rattle.rules.specs.declared.Refusal.{Refusal}
 use Rattle.rules.specs.declared.Counts.{Counts}
 use Rattle.rules.specs.declared.Use.{Use}
 use Rattle.rules.specs.declared.EdgeData.{EdgeData}
-use Rattle.rules.specs.declared.Ending.{Ending}
-use Rattle.rules.specs.declared.Ending.TheVariants.{Refused as Stopped}
-use Rattle.rules.specs.Outcome.{refuse, ◌>>=◌}
+use Rattle.rules.specs.declared.Stage.{Stage}
+use Rattle.rules.specs.declared.Stage.TheVariants.{Lumps}
+use Rattle.rules.specs.Operation.{is_asked}
+use Rattle.rules.specs.Outcome.{Outcome, ◌>>=◌, Ok, Err}
 use Rattle.rules.proofs.OutcomeLaws.{bind_on, bind_stop}
 use Rattle.rules.specs.Frame.{framed_all}
 use Rattle.rules.specs.Job.{Job}
@@ -24,9 +26,6 @@ use Rattle.rules.specs.Sew.{Fanned, Joined, lumps_clear, body_of, fitting, Ends}
 use Rattle.rules.specs.Stage.{lump_fields, stage_bytes}
 use Rattle.theorems.specs.Linked.{RingOrFans, EndsAreFans}
 use Rattle.job.specs.Lists.{edge_place, edge_in, edges_in, faces_in, job_in}
-use Rattle.contact.specs.declared.Clear.{Clear}
-use Rattle.contact.specs.declared.Clear.TheVariants.{Done, Refused}
-use Rattle.contact.specs.Clear.{clear_of}
 use Rattle.vertex_loops.specs.Kept.{kept_in}
 use Rattle.edges.specs.Table.{rows_in, face_loops_in}
 use Rattle.maximal_edges.specs.declared.Joins.{Joins}
@@ -44,6 +43,7 @@ use Rattle.rebuild.specs.Sizes.{Sizes, Holds, Tables, Spare}
 use Rattle.rebuild.specs.Homes.{shelled_count, shelled_few}
 use Rattle.rebuild.specs.Lumped.{shell_count, lump_tests}
 use Rattle.progress.specs.Endings.{ends_as, ends_refused, asked, unasked}
+use Rattle.rules.specs.declared.Fault.TheVariants.{FansInLump, PairsInLump}
 
 -- THE SIZES OF A BODY
 
@@ -108,7 +108,7 @@ module _ {bytes ix : List ℕ} {c : Counts} {us : List Use} {m : Faces} {names :
 -- EXITS
 
 module _ (bytes ix : List ℕ) {c : Counts} {us : List Use} {ts : List ℕ} {m : Faces} {kept : List ℕ} {g : Figures} {names starts : List ℕ} {f : Fanned}
-    (H : Holds c us ts m kept g names starts f) (stage : ℕ) (out rows : List ℕ) (k : Joins) (items stretches faces : List ℕ) (n : ℕ) (t : List ℕ) where
+    (H : Holds c us ts m kept g names starts f) (stage : Option Stage) (out rows : List ℕ) (k : Joins) (items stretches faces : List ℕ) (n : ℕ) (t : List ℕ) where
   abbrev j : Job
   j = job_in bytes ix c
 
@@ -119,36 +119,36 @@ module _ (bytes ix : List ℕ) {c : Counts} {us : List Use} {ts : List ℕ} {m :
   abbrev ns : List Nested
   ns = nested_in (boundaries_in c m) (members_in m) n t
 
-  nesting_asked : stage ≡ 11 → after_nesting stage j x (length out) ns ≡ stage_bytes (length out) (lump_fields 0 (lumps ns))
+  nesting_asked : is_asked Lumps stage ≡ true → after_nesting stage j x (length out) ns ≡ stage_bytes (length out) (lump_fields 0 (lumps ns))
   unfolding after_nesting
-  nesting_asked e = asked stage 11 _ _ e
+  nesting_asked e = asked Lumps stage _ _ e
 
-  pub lumps_written : (after : List ℕ) (r : Ending) → stage ≡ 11 → Staged (lump_fields 0 (lumps ns)) out after r → Ends (after_nesting stage j x (length out) ns) out after r
+  pub lumps_written : (after : List ℕ) (r : Outcome ℕ) → is_asked Lumps stage ≡ true → Staged (lump_fields 0 (lumps ns)) out after r → Ends (after_nesting stage j x (length out) ns) out after r
   lumps_written after r e z = ends_as (after_nesting stage j x (length out) ns) (stage_bytes (length out) (lump_fields 0 (lumps ns))) out after r (nesting_asked e) z
 
-  module _ (S : Shelled (boundaries_in c m) (members_in m) n t) (q : Clear) (e : clear_of q ≡ lump_tests c m us ts names starts t) (other : stage ≡ 11 → ⊥) where
+  module _ (S : Shelled (boundaries_in c m) (members_in m) n t) (q : Outcome (Unit {0})) (e : q ≡ lump_tests c m us ts names starts t) (other : is_asked Lumps stage ≡ false) where
     -- the tests as the definition puts them
-    tested : clear_of q ≡ lumps_clear j f ns
+    tested : q ≡ lumps_clear j f ns
     unfolding lumps_clear job_in edges_in
     tested =
         e
         ∙ (λ i.
         let labels : List ℕ = lump_labels (H.boundaries i) (nested_in (boundaries_in c m) (members_in m) (count i) t) in
-        points_clear 32 (H.uses i) (H.starts_are i) labels (H.names_are i) >>= λ _. edges_clear 33 (H.uses i) (H.twins i) labels (sym (length_table (λ e. edge_in bytes (edge_place c e)) c.edges) i))
+        points_clear FansInLump (H.uses i) (H.starts_are i) labels (H.names_are i) >>= λ _. edges_clear PairsInLump (H.uses i) (H.twins i) labels (sym (length_table (λ e. edge_in bytes (edge_place c e)) c.edges) i))
       where
         count : shell_count c m ≡ n
         count = sym (shelled_count (boundaries_in c m) (members_in m) n t S)
 
-    lumps_stop : (number place : ℕ) → q ≡ Refused number place → after_nesting stage j x (length out) ns ≡ refuse number place
+    lumps_stop : (refusal : Refusal) → q ≡ Err refusal → after_nesting stage j x (length out) ns ≡ Err refusal
     unfolding after_nesting after_lumps
-    lumps_stop number place d = unasked stage 11 _ _ other ∙ bind_stop (λ _. fitting (length out) (framed_all (body_records (body_of j x ns)))) (sym tested ∙ ap clear_of d)
+    lumps_stop refusal d = unasked Lumps stage _ _ other ∙ bind_stop (λ _. fitting (length out) (framed_all (body_records (body_of j x ns)))) (sym tested ∙ d)
 
-    pub lumps_refused : (number place : ℕ) → q ≡ Refused number place → Ends (after_nesting stage j x (length out) ns) out out (Stopped number place)
-    lumps_refused number place d = ends_refused (after_nesting stage j x (length out) ns) out number place (lumps_stop number place d)
+    pub lumps_refused : (refusal : Refusal) (z : Outcome ℕ) → q ≡ Err refusal → z ≡ Err refusal → Ends (after_nesting stage j x (length out) ns) out out z
+    lumps_refused refusal z d h = ends_refused (after_nesting stage j x (length out) ns) out refusal z (lumps_stop refusal d) h
 
-    lumps_next : q ≡ Done → after_nesting stage j x (length out) ns ≡ fitting (length out) (framed_all (body_records (body_of j x ns)))
+    lumps_next : q ≡ Ok tt → after_nesting stage j x (length out) ns ≡ fitting (length out) (framed_all (body_records (body_of j x ns)))
     unfolding after_nesting after_lumps
-    lumps_next d = unasked stage 11 _ _ other ∙ bind_on (λ _. fitting (length out) (framed_all (body_records (body_of j x ns)))) (sym tested ∙ ap clear_of d)
+    lumps_next d = unasked Lumps stage _ _ other ∙ bind_on (λ _. fitting (length out) (framed_all (body_records (body_of j x ns)))) (sym tested ∙ d)
 
     -- the body that the tables stand for
     module _ (u : ℕ) (eu : u ≡ length us) where
@@ -164,7 +164,7 @@ module _ (bytes ix : List ℕ) {c : Counts} {us : List Use} {ts : List ℕ} {m :
           (record { solid = true; uses = (eu ∙ ap length H.uses) i; removed = H.removed i; passed = H.passed i; joins = k.joins; rings = k.rings; face_joins = H.face_joins i })
           (faces_in bytes ix c) (H.groups i) (H.starts_are i) (rows_to rows k.edges) (face_loops_in items stretches faces) (H.members i) (H.vertices i) (lumps ns)
 
-      pub lumps_on : (after : List ℕ) (r : Ending) → q ≡ Done → Ends (fitting (length out) (framed_all (body_records body))) out after r → Ends (after_nesting stage j x (length out) ns) out after r
+      pub lumps_on : (after : List ℕ) (r : Outcome ℕ) → q ≡ Ok tt → Ends (fitting (length out) (framed_all (body_records body))) out after r → Ends (after_nesting stage j x (length out) ns) out after r
       lumps_on after r d z =
           ends_as (after_nesting stage j x (length out) ns) (fitting (length out) (framed_all (body_records body))) out after r
           (lumps_next d ∙ ap (λ b. fitting (length out) (framed_all (body_records b))) (sym body_is)) z

@@ -1,14 +1,16 @@
 -- After the fans: the stage `fans`, test 31, then edges and loops.
-use Rattle.std.specs.Prelude.{ℕ, ◌*◌, ◌≤◌, ◌≡◌, Bool, length, take}
+use Rattle.std.specs.Prelude.{ℕ, ◌*◌, ◌≤◌, ◌≡◌, Bool, length, take, Option, true, false}
 use Rattle.std.proofs.Common.{arith, sym, subst, ◌∙◌, length-take-le}
 use Rattle.std.proofs.Math.Path.{ap, subst₂}
 use mathlib.Core.List.{List, map, flat_map}
 use Rattle.lists.specs.Lists.{below, keep}
+use Rattle.rules.specs.declared.Refusal.{Refusal}
 use Rattle.rules.specs.declared.Counts.{Counts}
 use Rattle.rules.specs.declared.Use.{Use}
-use Rattle.rules.specs.declared.Ending.{Ending}
-use Rattle.rules.specs.declared.Ending.TheVariants.{Refused as Stopped}
-use Rattle.rules.specs.Outcome.{refuse}
+use Rattle.rules.specs.declared.Stage.{Stage}
+use Rattle.rules.specs.declared.Stage.TheVariants.{Fans}
+use Rattle.rules.specs.Operation.{is_asked}
+use Rattle.rules.specs.Outcome.{Outcome, Ok, Err}
 use Rattle.rules.proofs.OutcomeLaws.{bind_on, bind_stop}
 use Rattle.rules.specs.Job.{Job}
 use Rattle.rules.specs.Walk.{successors, circuits, loops_of}
@@ -25,9 +27,6 @@ use Rattle.theorems.proofs.Fanning.{fans_hold}
 use Rattle.theorems.proofs.Edging.{edges_hold}
 use Rattle.theorems.proofs.Starting.{ends_are_fans, starts_sound}
 use Rattle.job.specs.Lists.{edges_in, job_in}
-use Rattle.contact.specs.declared.Clear.{Clear}
-use Rattle.contact.specs.declared.Clear.TheVariants.{Done, Refused}
-use Rattle.contact.specs.Clear.{clear_of}
 use Rattle.maximal_edges.specs.Joined.{edges_in as rows_to, state_in}
 use Rattle.maximal_edges.specs.Hung.{SoundIn}
 use Rattle.stages_out.specs.Rows.{Staged}
@@ -41,9 +40,10 @@ use Rattle.rebuild.specs.Sizes.{Fanning, Holds, Tables, Spare, Roomy, settled_tw
 use Rattle.rebuild.specs.Starts.{state_sound}
 use Rattle.rebuild.specs.Lined.{Linable, Lined}
 use Rattle.progress.specs.Endings.{ends_as, ends_refused, asked, unasked}
+use Rattle.rules.specs.declared.Fault.TheVariants.{FansInBoundary}
 
 module _ {bytes ix : List ℕ} {c : Counts} {us : List Use} {ts : List ℕ} {m : Faces} {rm : List Bool} {ss kept : List ℕ} {g : Figures} {fans names starts : List ℕ}
-    (F : Fanning bytes ix c us ts m rm ss kept g fans names starts) (stage : ℕ) (out : List ℕ) where
+    (F : Fanning bytes ix c us ts m rm ss kept g fans names starts) (stage : Option Stage) (out : List ℕ) where
   abbrev S : Settled bytes ix c us ts m rm ss kept g
   S = F.settled
 
@@ -68,29 +68,29 @@ module _ {bytes ix : List ℕ} {c : Counts} {us : List Use} {ts : List ℕ} {m :
   unfolding fan_rows job_in walks_of fans_of
   fan_fields_lem = λ i. fan_rows (edges_in bytes c) us rm (fans_same i) (F.starts_are i)
 
-  fans_asked : stage ≡ 7 → after_fans stage j (length out) f ≡ stage_bytes (length out) (fan_rows (edges_in bytes c) us rm fans starts)
+  fans_asked : is_asked Fans stage ≡ true → after_fans stage j (length out) f ≡ stage_bytes (length out) (fan_rows (edges_in bytes c) us rm fans starts)
   unfolding after_fans
-  fans_asked e = asked stage 7 _ _ e ∙ ap (stage_bytes (length out)) (sym fan_fields_lem)
+  fans_asked e = asked Fans stage _ _ e ∙ ap (stage_bytes (length out)) (sym fan_fields_lem)
 
-  pub fans_written : (after : List ℕ) (r : Ending) → stage ≡ 7 → Staged (fan_rows (edges_in bytes c) us rm fans starts) out after r → Ends (after_fans stage j (length out) f) out after r
+  pub fans_written : (after : List ℕ) (r : Outcome ℕ) → is_asked Fans stage ≡ true → Staged (fan_rows (edges_in bytes c) us rm fans starts) out after r → Ends (after_fans stage j (length out) f) out after r
   fans_written after r e s = ends_as (after_fans stage j (length out) f) (stage_bytes (length out) (fan_rows (edges_in bytes c) us rm fans starts)) out after r (fans_asked e) s
 
   -- 31 as the code puts it
-  stand_apart : (r : Clear) → clear_of r ≡ points_clear 31 us starts (boundaries_in c m) names → clear_of r ≡ points_clear 31 f.walk.uses f.starts f.walk.merge.boundaries f.names
-  stand_apart r e = e ∙ (λ i. points_clear 31 (H.uses i) (H.starts_are i) (H.boundaries i) (H.names_are i))
+  stand_apart : (r : Outcome (Unit {0})) → r ≡ points_clear FansInBoundary us starts (boundaries_in c m) names → r ≡ points_clear FansInBoundary f.walk.uses f.starts f.walk.merge.boundaries f.names
+  stand_apart r e = e ∙ (λ i. points_clear FansInBoundary (H.uses i) (H.starts_are i) (H.boundaries i) (H.names_are i))
 
-  fans_stop : (r : Clear) (n p : ℕ) → (stage ≡ 7 → ⊥) → clear_of r ≡ points_clear 31 us starts (boundaries_in c m) names → r ≡ Refused n p → after_fans stage j (length out) f ≡ refuse n p
+  fans_stop : (r : Outcome (Unit {0})) (refusal : Refusal) → is_asked Fans stage ≡ false → r ≡ points_clear FansInBoundary us starts (boundaries_in c m) names → r ≡ Err refusal → after_fans stage j (length out) f ≡ Err refusal
   unfolding after_fans
-  fans_stop r n p other e q = unasked stage 7 _ _ other ∙ bind_stop (λ _. after_edges stage j (length out) x) (sym (stand_apart r e) ∙ ap clear_of q)
+  fans_stop r refusal other e q = unasked Fans stage _ _ other ∙ bind_stop (λ _. after_edges stage j (length out) x) (sym (stand_apart r e) ∙ q)
 
-  fans_next : (r : Clear) → (stage ≡ 7 → ⊥) → clear_of r ≡ points_clear 31 us starts (boundaries_in c m) names → r ≡ Done → after_fans stage j (length out) f ≡ after_edges stage j (length out) x
+  fans_next : (r : Outcome (Unit {0})) → is_asked Fans stage ≡ false → r ≡ points_clear FansInBoundary us starts (boundaries_in c m) names → r ≡ Ok tt → after_fans stage j (length out) f ≡ after_edges stage j (length out) x
   unfolding after_fans
-  fans_next r other e q = unasked stage 7 _ _ other ∙ bind_on (λ _. after_edges stage j (length out) x) (sym (stand_apart r e) ∙ ap clear_of q)
+  fans_next r other e q = unasked Fans stage _ _ other ∙ bind_on (λ _. after_edges stage j (length out) x) (sym (stand_apart r e) ∙ q)
 
-  pub fans_refused : (r : Clear) (n p : ℕ) → (stage ≡ 7 → ⊥) → clear_of r ≡ points_clear 31 us starts (boundaries_in c m) names → r ≡ Refused n p → Ends (after_fans stage j (length out) f) out out (Stopped n p)
-  fans_refused r n p other e q = ends_refused (after_fans stage j (length out) f) out n p (fans_stop r n p other e q)
+  pub fans_refused : (r : Outcome (Unit {0})) (refusal : Refusal) (z : Outcome ℕ) → is_asked Fans stage ≡ false → r ≡ points_clear FansInBoundary us starts (boundaries_in c m) names → r ≡ Err refusal → z ≡ Err refusal → Ends (after_fans stage j (length out) f) out out z
+  fans_refused r refusal z other e q h = ends_refused (after_fans stage j (length out) f) out refusal z (fans_stop r refusal other e q) h
 
-  pub fans_on : (after : List ℕ) (z : Ending) (r : Clear) → (stage ≡ 7 → ⊥) → clear_of r ≡ points_clear 31 us starts (boundaries_in c m) names → r ≡ Done → Ends (after_edges stage j (length out) x) out after z
+  pub fans_on : (after : List ℕ) (z : Outcome ℕ) (r : Outcome (Unit {0})) → is_asked Fans stage ≡ false → r ≡ points_clear FansInBoundary us starts (boundaries_in c m) names → r ≡ Ok tt → Ends (after_edges stage j (length out) x) out after z
       → Ends (after_fans stage j (length out) f) out after z
   fans_on after z r other e q s = ends_as (after_fans stage j (length out) f) (after_edges stage j (length out) x) out after z (fans_next r other e q) s
 
@@ -165,7 +165,7 @@ module _ {bytes ix : List ℕ} {c : Counts} {us : List Use} {ts : List ℕ} {m :
         ended = drawn_ended;
       }
 
-    pub edges_on : (after : List ℕ) (r : Ending)
+    pub edges_on : (after : List ℕ) (r : Outcome ℕ)
         → ((h : Fanned) → Holds c us ts m kept g names starts h
         → Ends (after_edges stage j (length out) (record { fan = h; joining = state_in rows edges items (take (2 * loops) stretches) (take loops faces) 0 0 })) out after r)
         → Ends (after_edges stage j (length out) x) out after r

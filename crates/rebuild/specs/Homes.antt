@@ -13,7 +13,7 @@ use Rattle.lists.specs.Lists.{below, ◌∈◌, keep, index_of}
 use Rattle.lists.specs.Membership.{get_or_in}
 use Rattle.lists.specs.Runs.{in_below, below_in, length_below, length_table}
 use Rattle.lists.specs.Members.{keep_in, keep_length, positions_in, in_map, map_in, get_or_map}
-use Rattle.rules.specs.Outcome.{Outcome, ok, ◌>>=◌, for_each}
+use Rattle.rules.specs.Outcome.{Outcome, Ok, ◌>>=◌, for_each}
 use Rattle.rules.proofs.OutcomeLaws.{refuse_ok, ok_one, bind_ok, cond_ok, each_none, each_ok}
 use Rattle.rules.specs.Job.{Answer}
 use Rattle.rules.specs.Groups.{label_of, is_lowest, lowest_members}
@@ -51,49 +51,49 @@ LowTaken none = Unit {0}
 LowTaken (shell o) = o < 256
 
 module _ (answers : List Answer) where
-  innermost_low : (taken : Taken) (later : ℕ) (u : Taken) → LowTaken taken → later < 256 → innermost answers taken later ≡ ok u → LowTaken u
+  innermost_low : (taken : Taken) (later : ℕ) (u : Taken) → LowTaken taken → later < 256 → innermost answers taken later ≡ Ok u → LowTaken u
   innermost_low none later u h l e = subst LowTaken (ok_one e) l
   innermost_low (shell now) later u h l e =
-      let r = bind_ok (shell_inside answers later now) (λ yes. ok (shell (cond yes later now))) u e in
+      let r = bind_ok (shell_inside answers later now) (λ yes. Ok (shell (cond yes later now))) u e in
       subst LowTaken (ok_one r.2) (go r.0)
     where
       go : (b : Bool) → cond b later now < 256
       go true = l
       go false = h
 
-  enclosing_low : (void : ℕ) (os : List ℕ) (taken t : Taken) → ((o : ℕ) → o ∈ os → o < 256) → LowTaken taken → enclosing_shell answers void os taken ≡ ok t → LowTaken t
+  enclosing_low : (void : ℕ) (os : List ℕ) (taken t : Taken) → ((o : ℕ) → o ∈ os → o < 256) → LowTaken taken → enclosing_shell answers void os taken ≡ Ok t → LowTaken t
   unfolding enclosing_shell
   enclosing_low void [] taken t low h e = subst LowTaken (ok_one e) h
   enclosing_low void (o ∷ os) taken t low h e =
-      let r = bind_ok (shell_inside answers void o) (λ contains. cond contains (innermost answers taken o) (ok taken) >>= enclosing_shell answers void os) t e in
-      let q = bind_ok (cond r.0 (innermost answers taken o) (ok taken)) (enclosing_shell answers void os) t r.2 in
+      let r = bind_ok (shell_inside answers void o) (λ contains. cond contains (innermost answers taken o) (Ok taken) >>= enclosing_shell answers void os) t e in
+      let q = bind_ok (cond r.0 (innermost answers taken o) (Ok taken)) (enclosing_shell answers void os) t r.2 in
       enclosing_low void os q.0 t (λ x m. low x (Memᴰ.tail m))
       (⊎_elim
       (λ z. innermost_low taken o q.0 h (low o (Memᴰ.head refl)) z.1)
       (λ z. subst LowTaken (ok_one z.1) h)
-      (cond_ok r.0 (innermost answers taken o) (ok taken) q.0 q.1))
+      (cond_ok r.0 (innermost answers taken o) (Ok taken) q.0 q.1))
       q.2
 
-  found_low : (taken : Taken) (void o : ℕ) → LowTaken taken → or_refuse taken void ≡ ok o → o < 256
+  found_low : (taken : Taken) (void o : ℕ) → LowTaken taken → or_refuse taken void ≡ Ok o → o < 256
   found_low none void o h e = absurd (refuse_ok e)
   found_low (shell x) void o h e = subst (λ y. y < 256) (ok_one e) h
 
-  nest_low : (os : List ℕ) (s : Shell) (n : Nested) → ((o : ℕ) → o ∈ os → o < 256) → lowest_face s.faces < 256 → nest answers os s ≡ ok n → n.home < 256
+  nest_low : (os : List ℕ) (s : Shell) (n : Nested) → ((o : ℕ) → o ∈ os → o < 256) → lowest_face s.faces < 256 → nest answers os s ≡ Ok n → n.home < 256
   unfolding nest
   nest_low os s n low h e =
       let low_face : ℕ = lowest_face s.faces in
       let put : Outcome ℕ = enclosing_shell answers low_face os none >>= λ taken. or_refuse taken low_face in
-      let r = bind_ok (cond s.outer (ok low_face) put) (λ o. ok (record { shell = s; home = o })) n e in
+      let r = bind_ok (cond s.outer (Ok low_face) put) (λ o. Ok (record { shell = s; home = o })) n e in
       subst (λ (x : Nested). x.home < 256) (ok_one r.2)
       (⊎_elim
       (λ z. subst (λ y. y < 256) (ok_one z.1) h)
       (λ z.
       let q = bind_ok (enclosing_shell answers low_face os none) (λ taken. or_refuse taken low_face) r.0 z.1 in
       found_low q.0 low_face r.0 (enclosing_low low_face os none q.0 low tt q.1) q.2)
-      (cond_ok s.outer (ok low_face) put r.0 r.1))
+      (cond_ok s.outer (Ok low_face) put r.0 r.1))
 
   each_low : (os : List ℕ) (ss : List Shell) (ns : List Nested) → ((o : ℕ) → o ∈ os → o < 256) → ((s : Shell) → s ∈ ss → lowest_face s.faces < 256)
-      → for_each (nest answers os) ss ≡ ok ns → (n : Nested) → n ∈ ns → n.home < 256
+      → for_each (nest answers os) ss ≡ Ok ns → (n : Nested) → n ∈ ns → n.home < 256
   each_low os [] ns low faces e n m = absurd (Memᴰ.not-nil (subst (λ l. n ∈ l) (sym (ok_one (sym (each_none (nest answers os)) ∙ e))) m))
   each_low os (s ∷ ss) ns low faces e n m =
       let r = each_ok (nest answers os) s ss ns e in
@@ -104,7 +104,7 @@ module _ (answers : List Answer) where
 
   -- the table after nesting
   pub homes_low : (boundaries members : List ℕ) (n : ℕ) (t t' : List ℕ) → length members ≤ 256
-      → ok (nested_in boundaries members n t') ≡ nested answers (shells_in boundaries members n t) → LowHomes n t'
+      → Ok (nested_in boundaries members n t') ≡ nested answers (shells_in boundaries members n t) → LowHomes n t'
   unfolding nested_in shells_in
   homes_low boundaries members n t t' few e k h =
       each_low (outers shells) shells (map (nested_one boundaries members t') (below n))

@@ -1,16 +1,15 @@
 -- The contact tests by lump: 32, then 33.
 use Rattle.std.specs.Prelude.{ℕ, ◌≤◌, ◌≡◌, List, ◌++◌, length, take, drop}
 use Rattle.std.proofs.Common.{arith, sym, ap, subst, ◌∙◌, length-take-le}
+use Rattle.rules.specs.declared.Refusal.{Refusal}
 use Rattle.rules.specs.declared.Counts.{Counts}
 use Rattle.rules.specs.declared.Use.{Use}
-use Rattle.rules.specs.Outcome.{Outcome, ◌>>=◌}
+use Rattle.rules.specs.Outcome.{Outcome, ◌>>=◌, Err, Ok}
 use Rattle.rules.proofs.OutcomeLaws.{bind_on, bind_stop}
 use Rattle.rules.specs.Groups.{lowest_members, Lowest}
 use Rattle.rules.specs.Contact.{edges_clear, points_clear}
 use Rattle.rules.specs.Shells.{lump_labels}
-use Rattle.contact.specs.declared.Clear.{Clear}
-use Rattle.contact.specs.declared.Clear.TheVariants.{Done, Refused}
-use Rattle.contact.specs.Clear.{clear_of, LowLabels}
+use Rattle.contact.specs.Clear.{LowLabels}
 use Rattle.shells.specs.Table.{nested_in, Shelled}
 use Rattle.progress.specs.declared.Faces.{Faces}
 use Rattle.progress.specs.declared.Figures.{Figures}
@@ -18,6 +17,7 @@ use Rattle.progress.specs.Known.{boundaries_in, members_in}
 use Rattle.progress.specs.Parts.{zeros, lent_part}
 use Rattle.rebuild.specs.Homes.{LowHomes, shelled_count, labels_low}
 use Rattle.rebuild.specs.Sizes.{Sizes, names_few}
+use Rattle.rules.specs.declared.Fault.TheVariants.{FansInLump, PairsInLump}
 
 -- how many shells there are: one for each boundary
 abbrev pub shell_count : Counts → Faces → ℕ
@@ -29,7 +29,7 @@ lumps_by c m t = lump_labels (boundaries_in c m) (nested_in (boundaries_in c m) 
 
 -- 32, then 33
 abbrev pub lump_tests : Counts → Faces → List Use → List ℕ → List ℕ → List ℕ → List ℕ → Outcome (Unit {0})
-lump_tests c m us ts names starts t = points_clear 32 us starts (lumps_by c m t) names >>= λ _. edges_clear 33 us ts (lumps_by c m t) c.edges
+lump_tests c m us ts names starts t = points_clear FansInLump us starts (lumps_by c m t) names >>= λ _. edges_clear PairsInLump us ts (lumps_by c m t) c.edges
 
 -- what the tests need: nested shells, named by merged faces
 pub record Lumped (c : Counts) (us : List Use) (m : Faces) (names t : List ℕ) : Type 0 where
@@ -73,13 +73,13 @@ module _ {c : Counts} {us : List Use} {m : Faces} {names t : List ℕ} (L : Lump
     pub lumped_low : LowLabels (take c.faces (labels ++ drop c.faces (zeros 256)))
     lumped_low = subst LowLabels (sym lumped_labels) (labels_low (boundaries_in c m) (members_in m) (shell_count c m) t L.homes)
 
-    pub lumped_refused : (ts starts : List ℕ) (r : Clear) (n p : ℕ) → clear_of r ≡ points_clear 32 us starts (take c.faces (labels ++ drop c.faces (zeros 256))) names → r ≡ Refused n p
-        → clear_of (Refused n p) ≡ lump_tests c m us ts names starts t
-    lumped_refused ts starts r n p er d =
-        sym (bind_stop (λ _. edges_clear 33 us ts (lumps_by c m t) c.edges) (sym (er ∙ ap (λ l. points_clear 32 us starts l names) lumped_labels) ∙ ap clear_of d))
+    pub lumped_refused : (ts starts : List ℕ) (r : Outcome (Unit {0})) (refusal : Refusal) → r ≡ points_clear FansInLump us starts (take c.faces (labels ++ drop c.faces (zeros 256))) names → r ≡ Err refusal
+        → (Err refusal) ≡ lump_tests c m us ts names starts t
+    lumped_refused ts starts r refusal er d =
+        sym (bind_stop (λ _. edges_clear PairsInLump us ts (lumps_by c m t) c.edges) (sym (er ∙ ap (λ l. points_clear FansInLump us starts l names) lumped_labels) ∙ d))
 
-    pub lumped_on : (ts starts : List ℕ) (r z : Clear) → clear_of r ≡ points_clear 32 us starts (take c.faces (labels ++ drop c.faces (zeros 256))) names → r ≡ Done
-        → clear_of z ≡ edges_clear 33 us ts (take c.faces (labels ++ drop c.faces (zeros 256))) c.edges → clear_of z ≡ lump_tests c m us ts names starts t
+    pub lumped_on : (ts starts : List ℕ) (r z : Outcome (Unit {0})) → r ≡ points_clear FansInLump us starts (take c.faces (labels ++ drop c.faces (zeros 256))) names → r ≡ Ok tt
+        → z ≡ edges_clear PairsInLump us ts (take c.faces (labels ++ drop c.faces (zeros 256))) c.edges → z ≡ lump_tests c m us ts names starts t
     lumped_on ts starts r z er d ez =
-        ez ∙ ap (λ l. edges_clear 33 us ts l c.edges) lumped_labels
-        ∙ sym (bind_on (λ _. edges_clear 33 us ts (lumps_by c m t) c.edges) (sym (er ∙ ap (λ l. points_clear 32 us starts l names) lumped_labels) ∙ ap clear_of d))
+        ez ∙ ap (λ l. edges_clear PairsInLump us ts l c.edges) lumped_labels
+        ∙ sym (bind_on (λ _. edges_clear PairsInLump us ts (lumps_by c m t) c.edges) (sym (er ∙ ap (λ l. points_clear FansInLump us starts l names) lumped_labels) ∙ d))

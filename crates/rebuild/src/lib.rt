@@ -11,7 +11,7 @@ ghost use Rattle.rules.specs.Contact.{edges_clear};
 ghost use Rattle.rules.specs.Sew.{Fanned, fans_of, unjoined, Ends};
 ghost use Rattle.job.specs.Lists.{edges_in, job_in};
 ghost use Rattle.uses.specs.Table.{uses_in};
-ghost use Rattle.contact.specs.Clear.{clear_of, LowLabels};
+ghost use Rattle.contact.specs.Clear.{LowLabels};
 ghost use Rattle.shells.specs.Table.{shells_in, nested_in, Shelled};
 ghost use Rattle.maximal_edges.specs.Hung.{SoundIn};
 ghost use Rattle.maximal_edges.specs.Joined.{state_in};
@@ -24,44 +24,50 @@ ghost use Rattle.rebuild.specs.Lumped.{Lumped, lump_tests};
 ghost use Rattle.rebuild.specs.ShellExits.{Shellable, Shells};
 
 use body::{Totals, put_body};
-use contact::{Clear, edges_clear, points_clear};
+use contact::{edges_clear, points_clear};
 use edge_uses::link;
 use fans::{fan_names, start_points};
-use maximal_edges::{Joining, Joins, maximal_edges};
-use progress::{EDGES, FANS, Faces, Figures, JOINING, LUMPS, SHELLS};
+use maximal_edges::{Joins, maximal_edges};
+use progress::{Faces, Figures};
 use result_out::{write_fans, write_joining, write_lumps, write_shells};
-use rules::{Counts, Ending};
-use shells::{Nesting, lump_labels, nest};
+use rules::{Counts, Fault, Refusal, Stage};
+use shells::{lump_labels, nest};
 use uses::count;
 
 // CONTACT TESTS
 
 // 30 by boundary, 33 by lump: the uses of each edge are chained first, in blank tables.
 fn clear_linked(
-    number: usize,
+    fault: Fault,
     uses: &[u32],
     twins: &[u32],
     labels: &[u32],
     firsts: &mut [u32],
     nexts: &mut [u32],
-) -> Clear
+) -> Result<(), Refusal>
     requires { (firsts.old ≡ replicate (length firsts.old) 0) × (length firsts.old ≤ 1024) × (length nexts.old ≡ length (uses_in uses.now)) × (length nexts.old ≤ 2048) × LowLabels labels.now }
-    ensures { clear_of result ≡ edges_clear number (uses_in uses.now) twins.now labels.now (length firsts.old) }
+    ensures { result ≡ edges_clear fault (uses_in uses.now) twins.now labels.now (length firsts.old) }
 {
     link(uses, firsts, nexts);
-    edges_clear(number, uses, twins, firsts, nexts, labels)
+    edges_clear(fault, uses, twins, firsts, nexts, labels)
 }
 
-// In tables for up to 64 edges and uses.
-fn clear_in_small(number: usize, edges: usize, uses: &[u32], twins: &[u32], labels: &[u32]) -> Clear
-    requires { (edges ≤ 64) × (length (uses_in uses.now) ≤ 64) × LowLabels labels.now }
-    ensures { clear_of result ≡ edges_clear number (uses_in uses.now) twins.now labels.now edges }
+// In tables for so many edges and uses.
+fn clear_in_tables<const EDGES: usize, const USES: usize>(
+    fault: Fault,
+    edges: usize,
+    uses: &[u32],
+    twins: &[u32],
+    labels: &[u32],
+) -> Result<(), Refusal>
+    requires { (edges ≤ EDGES) × (EDGES ≤ 1024) × (length (uses_in uses.now) ≤ USES) × (USES ≤ 2048) × LowLabels labels.now }
+    ensures { result ≡ edges_clear fault (uses_in uses.now) twins.now labels.now edges }
 {
     let n = count(uses);
-    let mut firsts = [0u32; 64];
-    let mut nexts = [0u32; 64];
+    let mut firsts = [0u32; EDGES];
+    let mut nexts = [0u32; USES];
     clear_linked(
-        number,
+        fault,
         uses,
         twins,
         labels,
@@ -70,35 +76,23 @@ fn clear_in_small(number: usize, edges: usize, uses: &[u32], twins: &[u32], labe
     )
 }
 
-// In tables for as many as there may be.
-fn clear_in_large(number: usize, edges: usize, uses: &[u32], twins: &[u32], labels: &[u32]) -> Clear
-    requires { (edges ≤ 1024) × (length (uses_in uses.now) ≤ 2048) × LowLabels labels.now }
-    ensures { clear_of result ≡ edges_clear number (uses_in uses.now) twins.now labels.now edges }
-{
-    let n = count(uses);
-    let mut firsts = [0u32; 1024];
-    let mut nexts = [0u32; 2048];
-    clear_linked(
-        number,
-        uses,
-        twins,
-        labels,
-        &mut firsts[..edges],
-        &mut nexts[..n],
-    )
-}
-
-// In the tables that the part needs.
-fn clear_edges(number: usize, c: Counts, uses: &[u32], twins: &[u32], labels: &[u32]) -> Clear
+// In tables for up to 64 edges and uses, where that is enough, and else for as many as there may be.
+fn clear_edges(
+    fault: Fault,
+    c: Counts,
+    uses: &[u32],
+    twins: &[u32],
+    labels: &[u32],
+) -> Result<(), Refusal>
     requires { (c.edges ≤ 1024) × (length (uses_in uses.now) ≤ 2048) × LowLabels labels.now }
-    ensures { clear_of result ≡ edges_clear number (uses_in uses.now) twins.now labels.now c.edges }
+    ensures { result ≡ edges_clear fault (uses_in uses.now) twins.now labels.now c.edges }
 {
     if c.edges <= 64 {
         if count(uses) <= 64 {
-            return clear_in_small(number, c.edges, uses, twins, labels);
+            return clear_in_tables::<64, 64>(fault, c.edges, uses, twins, labels);
         }
     }
-    clear_in_large(number, c.edges, uses, twins, labels)
+    clear_in_tables::<1024, 2048>(fault, c.edges, uses, twins, labels)
 }
 
 // THE BODY
@@ -112,23 +106,20 @@ fn lumps_clear(
     names: &[u32],
     starts: &[u32],
     table: &[u32],
-) -> Clear
+) -> Result<(), Refusal>
     requires { Lumped c (uses_in uses.now) m names.now table.now }
-    ensures { clear_of result ≡ lump_tests c m (uses_in uses.now) twins.now names.now starts.now table.now }
+    ensures { result ≡ lump_tests c m (uses_in uses.now) twins.now names.now starts.now table.now }
 {
     let boundaries = m.boundaries;
     let mut labels = [0u32; 256];
     lump_labels(&boundaries[..c.faces], table, &mut labels[..c.faces]);
-    let t = points_clear(32, uses, starts, &labels[..c.faces], names);
-    match t {
-        Clear::Refused(number, place) => Clear::Refused(number, place),
-        Clear::Done => clear_edges(33, c, uses, twins, &labels[..c.faces]),
-    }
+    points_clear(Fault::FansInLump, uses, starts, &labels[..c.faces], names)?;
+    clear_edges(Fault::PairsInLump, c, uses, twins, &labels[..c.faces])
 }
 
 // The stage `lumps`, the tests by lump, then the body: n shells, and edges after the joins and rings of k.
 fn on_nested(
-    stage: usize,
+    stage: Option<Stage>,
     job: &[u8],
     index: &[u32],
     c: Counts,
@@ -149,23 +140,17 @@ fn on_nested(
     numbers: &mut [u32],
     vertices: &mut [u32],
     out: &mut [u8],
-) -> Ending
+) -> Result<usize, Refusal>
     requires { Sizes job.now index.now c (uses_in uses.now) m names.now g × Tables names.now rows.now k.edges items.now stretches.now faces.now × Shelled (boundaries_in c m) (members_in m) n table.now × LowHomes n table.now × Spare (length (uses_in uses.now)) rows.now numbers.old vertices.old }
     ensures { (f : Fanned) → Holds c (uses_in uses.now) twins.now m kept.now g names.now starts.now f → Ends (after_nesting stage (job_in job.now index.now c) (record { fan = f; joining = state_in rows.now k.edges items.now stretches.now faces.now k.joins k.rings }) (length out.old) (nested_in (boundaries_in c m) (members_in m) n table.now)) out.old out.new result }
 {
     let boundaries = m.boundaries;
     let groups = m.groups;
     let members = m.members;
-    if stage == LUMPS {
+    if Stage::Lumps.is_asked(stage) {
         return write_lumps(&boundaries[..c.faces], &members[..m.merged], table, n, out);
     }
-    let t = lumps_clear(c, m, uses, twins, names, starts, table);
-    match t {
-        Clear::Refused(number, place) => {
-            return Ending::Refused(number, place);
-        }
-        Clear::Done => {}
-    }
+    lumps_clear(c, m, uses, twins, names, starts, table)?;
     let totals = Totals {
         uses: count(uses),
         removed: g.removed,
@@ -200,7 +185,13 @@ fn on_nested(
 // SHELLS
 
 // The shells of the boundaries, each with its merged faces.
-fn make_shells(job: &[u8], index: &[u32], c: Counts, m: Faces, table: &mut [u32]) -> Nesting
+fn make_shells(
+    job: &[u8],
+    index: &[u32],
+    c: Counts,
+    m: Faces,
+    table: &mut [u32],
+) -> Result<usize, Refusal>
     requires { Shellable job.now index.now c m table.old }
     ensures { Shells job.now index.now c m table.new result }
 {
@@ -218,7 +209,7 @@ fn make_shells(job: &[u8], index: &[u32], c: Counts, m: Faces, table: &mut [u32]
 
 // The stage `shells`, then the nesting of n shells.
 fn on_shelled(
-    stage: usize,
+    stage: Option<Stage>,
     job: &[u8],
     index: &[u32],
     c: Counts,
@@ -239,28 +230,25 @@ fn on_shelled(
     numbers: &mut [u32],
     vertices: &mut [u32],
     out: &mut [u8],
-) -> Ending
+) -> Result<usize, Refusal>
     requires { Sizes job.now index.now c (uses_in uses.now) m names.now g × Tables names.now rows.now k.edges items.now stretches.now faces.now × Shelled (boundaries_in c m) (members_in m) n table.old × Spare (length (uses_in uses.now)) rows.now numbers.old vertices.old }
     ensures { (f : Fanned) → Holds c (uses_in uses.now) twins.now m kept.now g names.now starts.now f → Ends (after_shells stage (job_in job.now index.now c) (record { fan = f; joining = state_in rows.now k.edges items.now stretches.now faces.now k.joins k.rings }) (length out.old) (shells_in (boundaries_in c m) (members_in m) n table.old)) out.old out.new result }
 {
-    if stage == SHELLS {
+    if Stage::Shells.is_asked(stage) {
         let boundaries = m.boundaries;
         let members = m.members;
         return write_shells(&boundaries[..c.faces], &members[..m.merged], table, n, out);
     }
-    let r = nest(job, index, c, table, n);
-    match r {
-        Nesting::Refused(number, place) => Ending::Refused(number, place),
-        Nesting::Done(all) => on_nested(
-            stage, job, index, c, m, uses, twins, kept, g, names, starts, rows, k, items,
-            stretches, faces, table, all, numbers, vertices, out,
-        ),
-    }
+    nest(job, index, c, table, n)?;
+    on_nested(
+        stage, job, index, c, m, uses, twins, kept, g, names, starts, rows, k, items, stretches,
+        faces, table, n, numbers, vertices, out,
+    )
 }
 
 // The stage `joining`, after the joins and rings of k, then the shells.
 fn on_joined(
-    stage: usize,
+    stage: Option<Stage>,
     job: &[u8],
     index: &[u32],
     c: Counts,
@@ -279,31 +267,28 @@ fn on_joined(
     numbers: &mut [u32],
     vertices: &mut [u32],
     out: &mut [u8],
-) -> Ending
+) -> Result<usize, Refusal>
     requires { Sizes job.now index.now c (uses_in uses.now) m names.now g × Tables names.now rows.now k.edges items.now stretches.now faces.now × Spare (length (uses_in uses.now)) rows.now numbers.old vertices.old }
     ensures { (f : Fanned) → Holds c (uses_in uses.now) twins.now m kept.now g names.now starts.now f → Ends (after_joining stage (job_in job.now index.now c) (length out.old) (record { fan = f; joining = state_in rows.now k.edges items.now stretches.now faces.now k.joins k.rings })) out.old out.new result }
 {
-    if stage == JOINING {
+    if Stage::Joining.is_asked(stage) {
         return write_joining(
             k.joins, k.rings, rows, k.edges, items, stretches, faces, out,
         );
     }
     let mut table = [0u32; 1024];
-    let r = make_shells(job, index, c, m, &mut table);
-    match r {
-        Nesting::Refused(number, place) => Ending::Refused(number, place),
-        Nesting::Done(n) => on_shelled(
-            stage, job, index, c, m, uses, twins, kept, g, names, starts, rows, k, items,
-            stretches, faces, &mut table, n, numbers, vertices, out,
-        ),
-    }
+    let n = make_shells(job, index, c, m, &mut table)?;
+    on_shelled(
+        stage, job, index, c, m, uses, twins, kept, g, names, starts, rows, k, items, stretches,
+        faces, &mut table, n, numbers, vertices, out,
+    )
 }
 
 // JOINING
 
 // The stage `edges`, of `count` edges, then joining.
 fn on_edged(
-    stage: usize,
+    stage: Option<Stage>,
     job: &[u8],
     index: &[u32],
     c: Counts,
@@ -322,21 +307,18 @@ fn on_edged(
     numbers: &mut [u32],
     vertices: &mut [u32],
     out: &mut [u8],
-) -> Ending
+) -> Result<usize, Refusal>
     requires { Sizes job.now index.now c (uses_in uses.now) m names.now g × Tables names.now rows.old count items.old stretches.old faces.now × (count ≤ 1024) × (14 * count ≤ length rows.old) × Spare (length (uses_in uses.now)) rows.old numbers.old vertices.old × SoundIn rows.old count items.old stretches.old 2048 }
     ensures { (f : Fanned) → Holds c (uses_in uses.now) twins.now m kept.now g names.now starts.now f → Ends (after_edges stage (job_in job.now index.now c) (length out.old) (record { fan = f; joining = state_in rows.old count items.old stretches.old faces.now 0 0 })) out.old out.new result }
 {
-    if stage == EDGES {
+    if Stage::Edges.is_asked(stage) {
         return write_joining(0, 0, rows, count, items, stretches, faces, out);
     }
-    let r = maximal_edges(job, index, c, starts, names, rows, count, items, stretches);
-    match r {
-        Joining::Refused(number, place) => Ending::Refused(number, place),
-        Joining::Done(k) => on_joined(
-            stage, job, index, c, m, uses, twins, kept, g, names, starts, rows, k, items,
-            stretches, faces, numbers, vertices, out,
-        ),
-    }
+    let k = maximal_edges(job, index, c, starts, names, rows, count, items, stretches)?;
+    on_joined(
+        stage, job, index, c, m, uses, twins, kept, g, names, starts, rows, k, items, stretches,
+        faces, numbers, vertices, out,
+    )
 }
 
 // EDGES AND LOOPS
@@ -394,7 +376,7 @@ fn make_edges(
 
 // The fans do not touch: their edges and loops, then the stage `edges`. `owns` is spare after that.
 fn on_apart(
-    stage: usize,
+    stage: Option<Stage>,
     job: &[u8],
     index: &[u32],
     c: Counts,
@@ -415,7 +397,7 @@ fn on_apart(
     faces: &mut [u32],
     vertices: &mut [u32],
     out: &mut [u8],
-) -> Ending
+) -> Result<usize, Refusal>
     requires { Fanning job.now index.now c (uses_in uses.now) twins.now m removed.now succ.now kept.now g fans.now names.now starts.now × Roomy (length twins.now) rows.old owns.old items.old stretches.old faces.old vertices.old }
     ensures { Ends (after_edges stage (job_in job.now index.now c) (length out.old) (record { fan = fans_of (job_in job.now index.now c) (walked_in c m (uses_in uses.now) twins.now removed.now g.kept kept.now); joining = unjoined (job_in job.now index.now c) (fans_of (job_in job.now index.now c) (walked_in c m (uses_in uses.now) twins.now removed.now g.kept kept.now)) })) out.old out.new result }
 {
@@ -449,7 +431,7 @@ fn on_apart(
 
 // The stage `fans`, then 31.
 fn on_fanned(
-    stage: usize,
+    stage: Option<Stage>,
     job: &[u8],
     index: &[u32],
     c: Counts,
@@ -470,28 +452,26 @@ fn on_fanned(
     faces: &mut [u32],
     vertices: &mut [u32],
     out: &mut [u8],
-) -> Ending
+) -> Result<usize, Refusal>
     requires { Fanning job.now index.now c (uses_in uses.now) twins.now m removed.now succ.now kept.now g fans.now names.now starts.now × Roomy (length twins.now) rows.old owns.old items.old stretches.old faces.old vertices.old }
     ensures { Ends (after_fans stage (job_in job.now index.now c) (length out.old) (fans_of (job_in job.now index.now c) (walked_in c m (uses_in uses.now) twins.now removed.now g.kept kept.now))) out.old out.new result }
 {
-    if stage == FANS {
+    if Stage::Fans.is_asked(stage) {
         return write_fans(job, c, uses, removed, fans, starts, out);
     }
     let boundaries = m.boundaries;
-    let t = points_clear(31, uses, starts, &boundaries[..c.faces], names);
-    match t {
-        Clear::Refused(number, place) => Ending::Refused(number, place),
-        Clear::Done => on_apart(
-            stage, job, index, c, m, uses, twins, removed, succ, kept, g, fans, names, starts,
-            rows, owns, items, stretches, faces, vertices, out,
-        ),
-    }
+    let labels = &boundaries[..c.faces];
+    points_clear(Fault::FansInBoundary, uses, starts, labels, names)?;
+    on_apart(
+        stage, job, index, c, m, uses, twins, removed, succ, kept, g, fans, names, starts, rows,
+        owns, items, stretches, faces, vertices, out,
+    )
 }
 
 // The fans in tables with an entry for each use, then the stage `fans`; the tables after them are for the edges, the loops
 // and the body.
 fn make_fans(
-    stage: usize,
+    stage: Option<Stage>,
     job: &[u8],
     index: &[u32],
     c: Counts,
@@ -512,7 +492,7 @@ fn make_fans(
     faces: &mut [u32],
     vertices: &mut [u32],
     out: &mut [u8],
-) -> Ending
+) -> Result<usize, Refusal>
     requires { Settled job.now index.now c (uses_in uses.now) twins.now m removed.now succ.now kept.now g × (length fans.old ≡ length twins.now) × (length names.old ≡ length twins.now) × (length starts.old ≡ length twins.now) × Roomy (length twins.now) rows.old owns.old items.old stretches.old faces.old vertices.old }
     ensures { Ends (after_fans stage (job_in job.now index.now c) (length out.old) (fans_of (job_in job.now index.now c) (walked_in c m (uses_in uses.now) twins.now removed.now g.kept kept.now))) out.old out.new result }
 {
@@ -544,9 +524,10 @@ fn make_fans(
     )
 }
 
-// In tables for up to 64 uses, whose edges are at most half as many, and twice that when joined.
-fn in_small_tables(
-    stage: usize,
+// In tables for so many uses: there are at most half as many edges, and twice that when joined, of seven numbers each, and
+// a loop's stretch takes two.
+fn in_tables<const USES: usize, const NUMBERS: usize, const ENDS: usize>(
+    stage: Option<Stage>,
     job: &[u8],
     index: &[u32],
     c: Counts,
@@ -558,73 +539,21 @@ fn in_small_tables(
     kept: &[u32],
     g: Figures,
     out: &mut [u8],
-) -> Ending
-    requires { Settled job.now index.now c (uses_in uses.now) twins.now m removed.now succ.now kept.now g × (length twins.now ≤ 64) }
+) -> Result<usize, Refusal>
+    requires { Settled job.now index.now c (uses_in uses.now) twins.now m removed.now succ.now kept.now g × (length twins.now ≤ USES) × (7 * USES ≤ NUMBERS) × (2 * USES ≤ ENDS)
+        × (USES ≤ 2048) × (NUMBERS ≤ 14336) × (ENDS ≤ 4096) }
     ensures { Ends (after_fans stage (job_in job.now index.now c) (length out.old) (fans_of (job_in job.now index.now c) (walked_in c m (uses_in uses.now) twins.now removed.now g.kept kept.now))) out.old out.new result }
 {
     let n = twins.len();
-    let mut fans = [0u32; 64];
-    let mut names = [0u32; 64];
-    let mut starts = [0u32; 64];
-    let mut rows = [0u32; 448];
-    let mut owns = [0u32; 64];
-    let mut items = [0u32; 64];
-    let mut stretches = [0u32; 128];
-    let mut faces = [0u32; 64];
-    let mut vertices = [0u32; 64];
-    make_fans(
-        stage,
-        job,
-        index,
-        c,
-        m,
-        uses,
-        twins,
-        removed,
-        succ,
-        kept,
-        g,
-        &mut fans[..n],
-        &mut names[..n],
-        &mut starts[..n],
-        &mut rows[..7 * n],
-        &mut owns[..n],
-        &mut items[..n],
-        &mut stretches[..2 * n],
-        &mut faces[..n],
-        &mut vertices[..n],
-        out,
-    )
-}
-
-// In tables for as many as there may be.
-fn in_large_tables(
-    stage: usize,
-    job: &[u8],
-    index: &[u32],
-    c: Counts,
-    m: Faces,
-    uses: &[u32],
-    twins: &[u32],
-    removed: &[bool],
-    succ: &[u32],
-    kept: &[u32],
-    g: Figures,
-    out: &mut [u8],
-) -> Ending
-    requires { Settled job.now index.now c (uses_in uses.now) twins.now m removed.now succ.now kept.now g }
-    ensures { Ends (after_fans stage (job_in job.now index.now c) (length out.old) (fans_of (job_in job.now index.now c) (walked_in c m (uses_in uses.now) twins.now removed.now g.kept kept.now))) out.old out.new result }
-{
-    let n = twins.len();
-    let mut fans = [0u32; 2048];
-    let mut names = [0u32; 2048];
-    let mut starts = [0u32; 2048];
-    let mut rows = [0u32; 14336];
-    let mut owns = [0u32; 2048];
-    let mut items = [0u32; 2048];
-    let mut stretches = [0u32; 4096];
-    let mut faces = [0u32; 2048];
-    let mut vertices = [0u32; 2048];
+    let mut fans = [0u32; USES];
+    let mut names = [0u32; USES];
+    let mut starts = [0u32; USES];
+    let mut rows = [0u32; NUMBERS];
+    let mut owns = [0u32; USES];
+    let mut items = [0u32; USES];
+    let mut stretches = [0u32; ENDS];
+    let mut faces = [0u32; USES];
+    let mut vertices = [0u32; USES];
     make_fans(
         stage,
         job,
@@ -652,7 +581,7 @@ fn in_large_tables(
 
 // The stages from 30 on: the fans, and what follows them.
 pub fn rebuild(
-    stage: usize,
+    stage: Option<Stage>,
     job: &[u8],
     index: &[u32],
     c: Counts,
@@ -664,24 +593,24 @@ pub fn rebuild(
     kept: &[u32],
     g: Figures,
     out: &mut [u8],
-) -> Ending
+) -> Result<usize, Refusal>
     requires { Settled job.now index.now c (uses_in uses.now) twins.now m removed.now succ.now kept.now g }
     ensures { Ends (after_loops stage (job_in job.now index.now c) (length out.old) (walked_in c m (uses_in uses.now) twins.now removed.now g.kept kept.now)) out.old out.new result }
 {
     let boundaries = m.boundaries;
-    let t = clear_edges(30, c, uses, twins, &boundaries[..c.faces]);
-    match t {
-        Clear::Refused(number, place) => {
-            return Ending::Refused(number, place);
-        }
-        Clear::Done => {}
-    }
+    clear_edges(
+        Fault::PairsInBoundary,
+        c,
+        uses,
+        twins,
+        &boundaries[..c.faces],
+    )?;
     if twins.len() <= 64 {
-        return in_small_tables(
+        return in_tables::<64, 448, 128>(
             stage, job, index, c, m, uses, twins, removed, succ, kept, g, out,
         );
     }
-    in_large_tables(
+    in_tables::<2048, 14336, 4096>(
         stage, job, index, c, m, uses, twins, removed, succ, kept, g, out,
     )
 }

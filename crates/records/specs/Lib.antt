@@ -1,3 +1,4 @@
+pub mod Apart
 pub mod Permitted
 pub mod Joints
 pub mod Limits

@@ -1,7 +1,8 @@
 -- The permitted fields of a record of the right length, as its bytes have them.
 use Rattle.std.specs.Prelude.{ℕ, zero, suc, ◌+◌, ◌*◌, ◌-◌, ◌/◌, ◌%◌, ◌<◌, ◌≤◌, ◌≡◌, refl, List, ◌∷◌, Bool, true, false, ◌&&◌, not, drop, eqb, ltb, leb}
-use Rattle.std.proofs.Common.{not-suc-le-zero, sub-one, arith, sym, ap, ◌∙◌, eqb-true, ltb-true, lt-ltb, le-ltb, le-leb}
+use Rattle.std.proofs.Common.{not-suc-le-zero, le_of_suc-le-suc, add-zero, sub-one, arith, sym, ap, ◌∙◌, eqb-true, ltb-true, lt-ltb, le-ltb, le-leb}
 use Rattle.std.proofs.lemmas.Bool.{lt-leb}
+use Rattle.std.proofs.Math.Bool.{and-false}
 use Rattle.lists.specs.Lists.{all}
 use Rattle.lists.specs.Tests.{and_both}
 use Rattle.rules.specs.declared.Kind.{Kind}
@@ -36,10 +37,6 @@ module _ (n : ℕ) (s : List ℕ) (p : ℕ) where
   later : (i : ℕ) → i < n → field (fields_in n (drop p s)) i ≡ le32 s (p + 4 * i)
   later i h = field_in n s p i h
 
-and_false : (t : Bool) → (t && false) ≡ false
-and_false true = refl
-and_false false = refl
-
 even : (n m : ℕ) → n ≡ 2 * m → n ≡ 2 * (n / 2)
 even n m e = omega arith
 
@@ -47,7 +44,7 @@ long : (n m : ℕ) → eqb (4 * n) (4 * m) ≡ true → n ≡ m
 long n m e = let q = eqb-true (4 * n) (4 * m) e in omega arith
 
 -- they are as the definitions have them
-permitted_at_lem : (k : Kind) (c : Counts) (s : List ℕ) (p n : ℕ) → right_length k (4 * n) ≡ true → fields_permitted k c (fields_in n (drop p s)) ≡ permitted_at k c s p n
+pub permitted_at_lem : (k : Kind) (c : Counts) (s : List ℕ) (p n : ℕ) → right_length k (4 * n) ≡ true → fields_permitted k c (fields_in n (drop p s)) ≡ permitted_at k c s p n
 unfolding permitted_at fields_permitted right_length
 permitted_at_lem Unknown c s p n e = refl
 permitted_at_lem Head c s p n e = let q = long n 1 e in rw (first n s p (omega arith))
@@ -75,10 +72,6 @@ permitted_at_lem Singular c s p n e = let q = long n 5 e in rw (later n s p 1 (o
 permitted_at_lem Orientation c s p n e = let q = long n 2 e in rw (first n s p (omega arith), later n s p 1 (omega arith))
 permitted_at_lem Inside c s p n e = let q = long n 3 e in rw (first n s p (omega arith), later n s p 1 (omega arith), later n s p 2 (omega arith))
 
--- the same where the kind is told by an equation, as the code has it
-pub permitted_as : (k l : Kind) (c : Counts) (s : List ℕ) (p n : ℕ) → k ≡ l → right_length k (4 * n) ≡ true → fields_permitted k c (fields_in n (drop p s)) ≡ permitted_at l c s p n
-permitted_as k l c s p n q e = permitted_at_lem k c s p n e ∙ ap (λ j. permitted_at j c s p n) q
-
 -- a radial answer has a field at least
 pub radial_some : (k : Kind) (n : ℕ) → k ≡ Radial → right_length k (4 * n) ≡ true → 0 < n
 unfolding right_length
@@ -87,44 +80,59 @@ radial_some k n q e =
     let h = ltb-true 0 (4 * n) r.0 in
     omega arith
 
--- ONE TURN OF A LOOP OVER FIELDS
+-- ITEMS AND NUMBERS, BY THEIR PLACES
 
-permit_more : (m edges : ℕ) (s : List ℕ) (p : ℕ) → 0 < m
-    → items_permitted edges (fields_in (2 * m) (drop p s)) ≡ (ltb (le32 s p) edges && (is_sense (le32 s (p + 4)) && items_permitted edges (fields_in (2 * (m - 1)) (drop (p + 8) s))))
-unfolding items_permitted
-permit_more m edges s p h = ap (items_permitted edges) (pair_more m s p h)
+next_item : (p i : ℕ) → p + 8 * suc i ≡ p + 8 + 8 * i
+next_item p i = omega arith
 
--- m items from a place on, the first with an edge e that does not exist, with a sense that is none, and with both in order
-pub permit_edge : (m edges : ℕ) (s : List ℕ) (p e : ℕ) → 0 < m → e ≡ le32 s p → edges ≤ e → items_permitted edges (fields_in (2 * m) (drop p s)) ≡ false
-permit_edge m edges s p e h q k = permit_more m edges s p h ∙ rw (← q, le-ltb e edges k)
+next_field : (p i : ℕ) → p + 4 * suc i ≡ p + 4 + 4 * i
+next_field p i = omega arith
 
-pub permit_sense : (m edges : ℕ) (s : List ℕ) (p t : ℕ) → 0 < m → t ≡ le32 s (p + 4) → 1 < t → items_permitted edges (fields_in (2 * m) (drop p s)) ≡ false
-permit_sense m edges s p t h q k = permit_more m edges s p h ∙ rw (← q, lt-leb t 1 k) (and_false (ltb (le32 s p) edges))
+module _ (edges : ℕ) (s : List ℕ) where
+  permit_more : (n p : ℕ) → items_permitted edges (fields_in (2 * suc n) (drop p s))
+      ≡ (ltb (le32 s p) edges && (is_sense (le32 s (p + 4)) && items_permitted edges (fields_in (2 * n) (drop (p + 8) s))))
+  unfolding items_permitted
+  permit_more n p = ap (items_permitted edges) (rw sub-one at (pair_more (suc n) s p (omega arith)))
 
-pub permit_on : (m edges : ℕ) (s : List ℕ) (p e t : ℕ) → 0 < m → e ≡ le32 s p → e < edges → t ≡ le32 s (p + 4) → t ≤ 1
-    → items_permitted edges (fields_in (2 * m) (drop p s)) ≡ items_permitted edges (fields_in (2 * (m - 1)) (drop (p + 8) s))
-permit_on m edges s p e t h q k r l = permit_more m edges s p h ∙ rw (← q, ← r, lt-ltb e edges k, le-leb t 1 l)
+  -- an item names an edge that does not exist
+  pub permit_edge : (n p i : ℕ) → i < n → edges ≤ le32 s (p + 8 * i) → items_permitted edges (fields_in (2 * n) (drop p s)) ≡ false
+  permit_edge zero p i h k = absurd (not-suc-le-zero h)
+  permit_edge (suc n) p zero h k = permit_more n p ∙ rw (le-ltb (le32 s p) edges (rw add-zero at k))
+  permit_edge (suc n) p (suc i) h k =
+      permit_more n p ∙ rw (permit_edge n (p + 8) i (le_of_suc-le-suc h) (rw (next_item p i) at k), and-false, and-false)
 
-pub permit_none : (m edges : ℕ) (s : List ℕ) (p : ℕ) → m ≤ 0 → items_permitted edges (fields_in (2 * m) (drop p s)) ≡ true
-unfolding items_permitted fields_in
-permit_none zero edges s p h = refl
-permit_none (suc m) edges s p h = absurd (not-suc-le-zero h)
+  -- an item has no sense
+  pub permit_sense : (n p i : ℕ) → i < n → 1 < le32 s (p + 8 * i + 4) → items_permitted edges (fields_in (2 * n) (drop p s)) ≡ false
+  permit_sense zero p i h k = absurd (not-suc-le-zero h)
+  permit_sense (suc n) p zero h k = permit_more n p ∙ rw (lt-leb (le32 s (p + 4)) 1 (rw add-zero at k), and-false)
+  permit_sense (suc n) p (suc i) h k =
+      permit_more n p ∙ rw (permit_sense n (p + 8) i (le_of_suc-le-suc h) (rw (next_item p i) at k), and-false, and-false)
 
-exist_more : (m count : ℕ) (s : List ℕ) (p : ℕ) → 0 < m
-    → all (exists count) (fields_in m (drop p s)) ≡ (ltb (le32 s p) count && all (exists count) (fields_in (m - 1) (drop (p + 4) s)))
-unfolding all
-exist_more zero count s p h = absurd (not-suc-le-zero h)
-exist_more (suc m) count s p h = rw sub-one (ap (all (exists count)) (fields_first m s p))
+  -- each item names an edge and has a sense
+  pub permit_each : (n p : ℕ) → ((i : ℕ) → i < n → (le32 s (p + 8 * i) < edges) × (le32 s (p + 8 * i + 4) ≤ 1))
+      → items_permitted edges (fields_in (2 * n) (drop p s)) ≡ true
+  unfolding items_permitted fields_in
+  permit_each zero p h = refl
+  permit_each (suc n) p h =
+      let first = rw add-zero at (h 0 (omega arith)) in
+      permit_more n p ∙ rw (lt-ltb (le32 s p) edges first.0, le-leb (le32 s (p + 4)) 1 first.1)
+      (permit_each n (p + 8) (λ i k. rw (next_item p i) at (h (suc i) (omega arith))))
 
--- m numbers from a place on, the first x one that does not exist, and one that does
-pub exist_not : (m count : ℕ) (s : List ℕ) (p x : ℕ) → 0 < m → x ≡ le32 s p → count ≤ x → all (exists count) (fields_in m (drop p s)) ≡ false
-exist_not m count s p x h q k = exist_more m count s p h ∙ rw (← q, le-ltb x count k)
+module _ (count : ℕ) (s : List ℕ) where
+  exist_more : (n p : ℕ) → all (exists count) (fields_in (suc n) (drop p s)) ≡ (ltb (le32 s p) count && all (exists count) (fields_in n (drop (p + 4) s)))
+  unfolding all
+  exist_more n p = ap (all (exists count)) (fields_first n s p)
 
-pub exist_on : (m count : ℕ) (s : List ℕ) (p x : ℕ) → 0 < m → x ≡ le32 s p → x < count
-    → all (exists count) (fields_in m (drop p s)) ≡ all (exists count) (fields_in (m - 1) (drop (p + 4) s))
-exist_on m count s p x h q k = exist_more m count s p h ∙ rw (← q, lt-ltb x count k)
+  -- number i does not exist
+  pub exist_not : (n p i : ℕ) → i < n → count ≤ le32 s (p + 4 * i) → all (exists count) (fields_in n (drop p s)) ≡ false
+  exist_not zero p i h k = absurd (not-suc-le-zero h)
+  exist_not (suc n) p zero h k = exist_more n p ∙ rw (le-ltb (le32 s p) count (rw add-zero at k))
+  exist_not (suc n) p (suc i) h k = exist_more n p ∙ rw (exist_not n (p + 4) i (le_of_suc-le-suc h) (rw (next_field p i) at k), and-false)
 
-pub exist_none : (m count : ℕ) (s : List ℕ) (p : ℕ) → m ≤ 0 → all (exists count) (fields_in m (drop p s)) ≡ true
-unfolding all fields_in
-exist_none zero count s p h = refl
-exist_none (suc m) count s p h = absurd (not-suc-le-zero h)
+  -- each number exists
+  pub exist_each : (n p : ℕ) → ((i : ℕ) → i < n → le32 s (p + 4 * i) < count) → all (exists count) (fields_in n (drop p s)) ≡ true
+  unfolding all fields_in
+  exist_each zero p h = refl
+  exist_each (suc n) p h =
+      exist_more n p ∙ rw (lt-ltb (le32 s p) count (rw add-zero at (h 0 (omega arith))))
+      (exist_each n (p + 4) (λ i k. rw (next_field p i) at (h (suc i) (omega arith))))

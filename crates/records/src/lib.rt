@@ -6,14 +6,14 @@ ghost use Rattle.std.specs.Prelude.{◌≡◌, true, ◌&&◌, ◌||◌, not, �
 ghost use Rattle.lists.specs.Lists.{all, neighbours};
 ghost use Rattle.rules.specs.Fields.{le32, fields_in};
 ghost use Rattle.rules.specs.Job.{item_at, items_from, of_ring};
-ghost use Rattle.rules.specs.Kinds.{is_answer, in_turn, is_sense, is_body, exists, ends_permitted, items_permitted, fields_permitted, right_length, right_position, limit_passed};
+ghost use Rattle.rules.specs.Kinds.{is_answer, in_turn, is_sense, is_body, exists, ends_permitted, items_permitted, fields_permitted, right_length, right_position, limit_passed, part_of};
 ghost use Rattle.rules.specs.Load.{joint, jointed as jointed_of, right_joints, counted};
 ghost use Rattle.theorems.specs.Sound.{Limited};
 ghost use Rattle.job.specs.Lists.{points_in, edges_in};
 ghost use Rattle.records.specs.Joints.{ends_of};
 
 use fields::{UNSET, word};
-use rules::{Counts, Kind};
+use rules::{Counts, Kind, Sense};
 
 // LENGTH AND POSITION
 
@@ -22,13 +22,11 @@ fn parts(size: usize, each: usize) -> bool
     requires { 0 < each }
     ensures { result ≡ (ltb 0 size && eqb (size % each) 0) }
 {
-    if 0 < size {
-        return size % each == 0;
-    }
-    false
+    0 < size && size % each == 0
 }
 
 // 3: the payload's length is right for its kind.
+#[tactic(auto, unfolding(rules::specs::Kinds::right_length))]
 pub fn right_length(kind: Kind, size: usize) -> bool
     ensures { result ≡ right_length kind size }
 {
@@ -54,35 +52,28 @@ pub fn right_length(kind: Kind, size: usize) -> bool
 fn in_turn(reached: usize, part: usize) -> bool
     ensures { result ≡ in_turn reached part }
 {
-    if 0 < reached {
-        return reached <= part;
-    }
-    false
+    0 < reached && reached <= part
 }
 
 // Kinds 7 to 13 are answers.
+#[tactic(auto, unfolding(rules::specs::Kinds::number_of))]
 pub fn is_answer(kind: Kind) -> bool
     ensures { result ≡ is_answer kind }
 {
-    match kind {
-        Kind::Unknown => false,
-        Kind::Head => false,
-        Kind::Vertex => false,
-        Kind::EdgeRecord => false,
-        Kind::FaceRecord => false,
-        Kind::LoopRecord => false,
-        Kind::VertexLoop => false,
-        Kind::Radial => true,
-        Kind::Surface => true,
-        Kind::Points => true,
-        Kind::Curves => true,
-        Kind::Singular => true,
-        Kind::Orientation => true,
-        Kind::Inside => true,
-    }
+    matches!(
+        kind,
+        Kind::Radial
+            | Kind::Surface
+            | Kind::Points
+            | Kind::Curves
+            | Kind::Singular
+            | Kind::Orientation
+            | Kind::Inside
+    )
 }
 
 // 3: the record stands in its part.
+#[tactic(auto, unfolding(rules::specs::Kinds::right_position))]
 pub fn right_position(kind: Kind, reached: usize) -> bool
     ensures { result ≡ right_position kind reached }
 {
@@ -94,13 +85,13 @@ pub fn right_position(kind: Kind, reached: usize) -> bool
         Kind::FaceRecord => in_turn(reached, 4),
         Kind::LoopRecord => reached == 4,
         Kind::VertexLoop => reached == 4,
-        Kind::Radial => in_turn(reached, 5),
-        Kind::Surface => in_turn(reached, 5),
-        Kind::Points => in_turn(reached, 5),
-        Kind::Curves => in_turn(reached, 5),
-        Kind::Singular => in_turn(reached, 5),
-        Kind::Orientation => in_turn(reached, 5),
-        Kind::Inside => in_turn(reached, 5),
+        Kind::Radial
+        | Kind::Surface
+        | Kind::Points
+        | Kind::Curves
+        | Kind::Singular
+        | Kind::Orientation
+        | Kind::Inside => in_turn(reached, 5),
     }
 }
 
@@ -111,14 +102,11 @@ fn loops_passed(c: Counts, n: usize) -> bool
     requires { Limited c × (n < 2 ^ 60) }
     ensures { result ≡ (leb 1024 c.loops || ltb 2048 (c.uses + n / 2)) }
 {
-    if 1024 <= c.loops {
-        return true;
-    }
-    let uses = c.uses + n / 2;
-    2048 < uses
+    1024 <= c.loops || 2048 < c.uses + n / 2
 }
 
 // 5: a limit is passed by one more record of n fields.
+#[tactic(auto, unfolding(rules::specs::Kinds::limit_passed))]
 pub fn limit_passed(kind: Kind, c: Counts, n: usize) -> bool
     requires { Limited c × (n < 2 ^ 60) }
     ensures { result ≡ limit_passed kind c n }
@@ -131,184 +119,121 @@ pub fn limit_passed(kind: Kind, c: Counts, n: usize) -> bool
         Kind::FaceRecord => 256 <= c.faces,
         Kind::LoopRecord => loops_passed(c, n),
         Kind::VertexLoop => 1024 <= c.loops,
-        Kind::Radial => 2048 <= c.answers,
-        Kind::Surface => 2048 <= c.answers,
-        Kind::Points => 2048 <= c.answers,
-        Kind::Curves => 2048 <= c.answers,
-        Kind::Singular => 2048 <= c.answers,
-        Kind::Orientation => 2048 <= c.answers,
-        Kind::Inside => 2048 <= c.answers,
+        Kind::Radial
+        | Kind::Surface
+        | Kind::Points
+        | Kind::Curves
+        | Kind::Singular
+        | Kind::Orientation
+        | Kind::Inside => 2048 <= c.answers,
     }
 }
 
-// The counts with a part reached.
-fn reach(c: Counts, part: usize) -> Counts
-    ensures { result ≡ record { part = part; vertices = c.vertices; edges = c.edges; faces = c.faces; loops = c.loops; uses = c.uses; answers = c.answers } }
+// The part in which a kind stands.
+#[tactic(auto, unfolding(rules::specs::Kinds::part_of))]
+fn part_of(kind: Kind) -> usize
+    ensures { result ≡ part_of kind }
 {
-    let mut after = c;
-    after.part = part;
-    after
-}
-
-fn more_vertices(c: Counts) -> Counts
-    requires { Limited c }
-    ensures { result ≡ counted Kind.Vertex 1 c }
-{
-    let mut after = c;
-    after.part = 2;
-    after.vertices = c.vertices + 1;
-    after
-}
-
-fn more_edges(c: Counts) -> Counts
-    requires { Limited c }
-    ensures { result ≡ counted Kind.EdgeRecord 1 c }
-{
-    let mut after = c;
-    after.part = 3;
-    after.edges = c.edges + 1;
-    after
-}
-
-fn more_faces(c: Counts) -> Counts
-    requires { Limited c }
-    ensures { result ≡ counted Kind.FaceRecord 1 c }
-{
-    let mut after = c;
-    after.part = 4;
-    after.faces = c.faces + 1;
-    after
-}
-
-// A loop of either sort.
-fn more_loops(c: Counts) -> Counts
-    requires { Limited c }
-    ensures { result ≡ counted Kind.VertexLoop 1 c }
-{
-    let mut after = c;
-    after.part = 4;
-    after.loops = c.loops + 1;
-    after
-}
-
-// A loop of uses, of n fields.
-fn more_uses(c: Counts, n: usize) -> Counts
-    requires { Limited c × (n < 2 ^ 60) }
-    ensures { result ≡ counted Kind.LoopRecord n c }
-{
-    let mut after = c;
-    after.part = 4;
-    after.loops = c.loops + 1;
-    after.uses = c.uses + n / 2;
-    after
-}
-
-fn more_answers(c: Counts) -> Counts
-    requires { Limited c }
-    ensures { result ≡ counted Kind.Radial 1 c }
-{
-    let mut after = c;
-    after.part = 5;
-    after.answers = c.answers + 1;
-    after
+    match kind {
+        Kind::Unknown => 0,
+        Kind::Head => 1,
+        Kind::Vertex => 2,
+        Kind::EdgeRecord => 3,
+        Kind::FaceRecord | Kind::LoopRecord | Kind::VertexLoop => 4,
+        Kind::Radial
+        | Kind::Surface
+        | Kind::Points
+        | Kind::Curves
+        | Kind::Singular
+        | Kind::Orientation
+        | Kind::Inside => 5,
+    }
 }
 
 // The counts after a record of n fields.
+#[tactic(auto, unfolding(rules::specs::Load::counted, rules::specs::Kinds::number_of, rules::specs::Kinds::part_of))]
 pub fn count_record(kind: Kind, n: usize, c: Counts) -> Counts
     requires { Limited c × (n < 2 ^ 60) }
     ensures { result ≡ counted kind n c }
 {
+    let mut after = c;
+    after.part = part_of(kind);
     match kind {
-        Kind::Unknown => reach(c, 0),
-        Kind::Head => reach(c, 1),
-        Kind::Vertex => more_vertices(c),
-        Kind::EdgeRecord => more_edges(c),
-        Kind::FaceRecord => more_faces(c),
-        Kind::LoopRecord => more_uses(c, n),
-        Kind::VertexLoop => more_loops(c),
-        Kind::Radial => more_answers(c),
-        Kind::Surface => more_answers(c),
-        Kind::Points => more_answers(c),
-        Kind::Curves => more_answers(c),
-        Kind::Singular => more_answers(c),
-        Kind::Orientation => more_answers(c),
-        Kind::Inside => more_answers(c),
+        Kind::Unknown | Kind::Head => {}
+        Kind::Vertex => after.vertices += 1,
+        Kind::EdgeRecord => after.edges += 1,
+        Kind::FaceRecord => after.faces += 1,
+        Kind::LoopRecord => {
+            after.loops += 1;
+            after.uses += n / 2;
+        }
+        Kind::VertexLoop => after.loops += 1,
+        Kind::Radial
+        | Kind::Surface
+        | Kind::Points
+        | Kind::Curves
+        | Kind::Singular
+        | Kind::Orientation
+        | Kind::Inside => after.answers += 1,
     }
+    after
 }
 
 // PERMITTED FIELDS
 
 // Two vertices that exist, or the mark in both.
+#[tactic(auto, unfolding(rules::specs::Kinds::ends_permitted))]
 fn ends_permitted(vertices: usize, start: usize, end: usize) -> bool
     ensures { result ≡ ends_permitted vertices start end }
 {
     if start == UNSET {
         return end == UNSET;
     }
-    if start < vertices {
-        return end < vertices;
-    }
-    false
+    start < vertices && end < vertices
 }
 
 fn edge_permitted(job: &[u8], vertices: usize, body: usize) -> bool
     requires { body < 2 ^ 59 }
     ensures { result ≡ (is_sense (le32 job.now (body + 4)) && ends_permitted vertices (le32 job.now (body + 8)) (le32 job.now (body + 12))) }
 {
-    if 1 < word(job, body + 4) {
-        return false;
-    }
-    let start = word(job, body + 8);
-    let end = word(job, body + 12);
-    ends_permitted(vertices, start, end)
+    word(job, body + 4) <= 1 && ends_permitted(vertices, word(job, body + 8), word(job, body + 12))
 }
 
 fn face_permitted(job: &[u8], body: usize) -> bool
     requires { body < 2 ^ 59 }
     ensures { result ≡ (is_sense (le32 job.now (body + 4)) && (is_sense (le32 job.now (body + 8)) && is_body (le32 job.now (body + 12)))) }
 {
-    if 1 < word(job, body + 4) {
-        return false;
-    }
-    if 1 < word(job, body + 8) {
-        return false;
-    }
-    word(job, body + 12) <= 1
+    word(job, body + 4) <= 1 && word(job, body + 8) <= 1 && word(job, body + 12) <= 1
 }
 
 // Each of n items names an edge and has a sense.
+#[tactic(auto, using(crate::specs::Permitted::permit_each, crate::specs::Permitted::permit_edge, crate::specs::Permitted::permit_sense))]
 fn items_permitted(job: &[u8], edges: usize, body: usize, n: usize) -> bool
     requires { body + 8 * n < 2 ^ 59 }
     ensures { result ≡ items_permitted edges (fields_in (2 * n) (drop body job.now)) }
 {
-    let mut p = body;
-    let mut left = n;
-    while 0 < left {
+    for i in 0..n {
+        let p = body + 8 * i;
         if edges <= word(job, p) {
             return false;
         }
         if 1 < word(job, p + 4) {
             return false;
         }
-        p += 8;
-        left -= 1;
     }
     true
 }
 
 // Each of n numbers lies below a count.
+#[tactic(auto, using(crate::specs::Permitted::exist_each, crate::specs::Permitted::exist_not))]
 fn all_exist(job: &[u8], count: usize, from: usize, n: usize) -> bool
     requires { from + 4 * n < 2 ^ 59 }
     ensures { result ≡ all (exists count) (fields_in n (drop from job.now)) }
 {
-    let mut p = from;
-    let mut left = n;
-    while 0 < left {
-        if count <= word(job, p) {
+    for i in 0..n {
+        if count <= word(job, from + 4 * i) {
             return false;
         }
-        p += 4;
-        left -= 1;
     }
     true
 }
@@ -317,10 +242,7 @@ fn radial_permitted(job: &[u8], c: Counts, body: usize, n: usize) -> bool
     requires { (0 < n) × (body + 4 * n < 2 ^ 59) }
     ensures { result ≡ (exists c.edges (le32 job.now body) && all (exists c.uses) (fields_in (n - 1) (drop (body + 4) job.now))) }
 {
-    if c.edges <= word(job, body) {
-        return false;
-    }
-    all_exist(job, c.uses, body + 4, n - 1)
+    word(job, body) < c.edges && all_exist(job, c.uses, body + 4, n - 1)
 }
 
 // A number that exists, and a value.
@@ -328,10 +250,7 @@ fn valued_permitted(job: &[u8], count: usize, most: usize, body: usize) -> bool
     requires { body < 2 ^ 59 }
     ensures { result ≡ (exists count (le32 job.now body) && leb (le32 job.now (body + 4)) most) }
 {
-    if count <= word(job, body) {
-        return false;
-    }
-    word(job, body + 4) <= most
+    word(job, body) < count && word(job, body + 4) <= most
 }
 
 // Two numbers that differ, and a value.
@@ -339,10 +258,7 @@ fn different_permitted(job: &[u8], body: usize) -> bool
     requires { body < 2 ^ 59 }
     ensures { result ≡ (not (eqb (le32 job.now body) (le32 job.now (body + 4))) && leb (le32 job.now (body + 8)) 2) }
 {
-    if word(job, body) == word(job, body + 4) {
-        return false;
-    }
-    word(job, body + 8) <= 2
+    word(job, body) != word(job, body + 4) && word(job, body + 8) <= 2
 }
 
 // Two faces, ascending, that exist, and a value.
@@ -351,13 +267,7 @@ fn singular_permitted(job: &[u8], faces: usize, body: usize) -> bool
     ensures { result ≡ (ltb (le32 job.now (body + 4)) (le32 job.now (body + 8)) && (exists faces (le32 job.now (body + 8)) && leb (le32 job.now (body + 16)) 2)) }
 {
     let b = word(job, body + 8);
-    if b <= word(job, body + 4) {
-        return false;
-    }
-    if faces <= b {
-        return false;
-    }
-    word(job, body + 16) <= 2
+    word(job, body + 4) < b && b < faces && word(job, body + 16) <= 2
 }
 
 // Two faces that exist, and a value.
@@ -365,16 +275,11 @@ fn inside_permitted(job: &[u8], faces: usize, body: usize) -> bool
     requires { body < 2 ^ 59 }
     ensures { result ≡ (exists faces (le32 job.now body) && (exists faces (le32 job.now (body + 4)) && leb (le32 job.now (body + 8)) 2)) }
 {
-    if faces <= word(job, body) {
-        return false;
-    }
-    if faces <= word(job, body + 4) {
-        return false;
-    }
-    word(job, body + 8) <= 2
+    word(job, body) < faces && word(job, body + 4) < faces && word(job, body + 8) <= 2
 }
 
 // 4: the n fields of a record of the right length are permitted; its payload stands at `body`.
+#[tactic(auto, using(crate::specs::Permitted::permitted_at_lem, crate::specs::Permitted::radial_some), unfolding(crate::specs::Permitted::permitted_at))]
 pub fn fields_permitted(job: &[u8], kind: Kind, c: Counts, body: usize, n: usize) -> bool
     requires { (right_length kind (4 * n) ≡ true) × (body + 4 * n < 2 ^ 59) }
     ensures { result ≡ fields_permitted kind c (fields_in n (drop body job.now)) }
@@ -404,9 +309,7 @@ fn is_ring(job: &[u8], c: Counts, p: usize) -> bool
     requires { Limited c × (p < 2 ^ 59) }
     ensures { result ≡ of_ring (edges_in job.now c) (item_at job.now p) }
 {
-    let e = word(job, p);
-    let start = job::edge_start(job, c, e);
-    start == UNSET
+    job::edge_start(job, c, word(job, p)) == UNSET
 }
 
 // Whether an item is of a ring, and the points where it starts and ends.
@@ -423,7 +326,7 @@ fn item_ends(job: &[u8], c: Counts, p: usize) -> Ends
     ensures { result ≡ ends_of (points_in job.now c) (edges_in job.now c) (item_at job.now p) }
 {
     let e = word(job, p);
-    let s = job::sense_of(word(job, p + 4));
+    let s = Sense::from(word(job, p + 4));
     let ring = job::edge_start(job, c, e) == UNSET;
     let v = job::start_by(job, c, e, s);
     let w = job::end_by(job, c, e, s);
@@ -436,6 +339,7 @@ fn item_ends(job: &[u8], c: Counts, p: usize) -> Ends
 
 // Each of n items with its successor is a joint, the last with the first: none is of a ring, and each starts at the
 // point where the one before ends.
+#[tactic(auto, using(crate::specs::Joints::along), unfolding(rules::specs::Load::joint))]
 fn joined(job: &[u8], c: Counts, body: usize, n: usize) -> bool
     requires { Limited c × (body + 8 * n < 2 ^ 59) }
     ensures { result ≡ all (joint (points_in job.now c) (edges_in job.now c)) (neighbours (items_from job.now body n)) }
@@ -448,11 +352,8 @@ fn joined(job: &[u8], c: Counts, body: usize, n: usize) -> bool
         return false;
     }
     let mut end = first.end;
-    let mut p = body;
-    let mut left = n - 1;
-    while 0 < left {
-        let q = p + 8;
-        let next = item_ends(job, c, q);
+    for i in 1..n {
+        let next = item_ends(job, c, body + 8 * i);
         if next.ring {
             return false;
         }
@@ -460,27 +361,21 @@ fn joined(job: &[u8], c: Counts, body: usize, n: usize) -> bool
             return false;
         }
         end = next.end;
-        p = q;
-        left -= 1;
     }
     end == first.start
 }
 
 // A ring's use alone, or joints.
+#[tactic(auto, using(crate::specs::Joints::jointed_is))]
 fn jointed(job: &[u8], c: Counts, body: usize, n: usize) -> bool
     requires { Limited c × (body + 8 * n < 2 ^ 59) }
     ensures { result ≡ jointed_of (points_in job.now c) (edges_in job.now c) (items_from job.now body n) }
 {
-    if n != 1 {
-        return joined(job, c, body, n);
-    }
-    if is_ring(job, c, body) {
-        return true;
-    }
-    joined(job, c, body, 1)
+    n == 1 && is_ring(job, c, body) || joined(job, c, body, n)
 }
 
 // 6: a loop's joints hold.
+#[tactic(auto, using(crate::specs::Joints::loop_joints, crate::specs::Joints::no_loop))]
 pub fn right_joints(job: &[u8], kind: Kind, c: Counts, body: usize, n: usize) -> bool
     requires { Limited c × (body + 4 * n < 2 ^ 59) }
     ensures { result ≡ right_joints kind (points_in job.now c) (edges_in job.now c) (fields_in n (drop body job.now)) }

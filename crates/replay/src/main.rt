@@ -8,9 +8,8 @@ ghost use Rattle.std.specs.Prelude.{◌≡◌, ◌+◌, ◌<◌, ◌≤◌, ◌^
 ghost use Rattle.replay.specs.Counted.{Counted};
 
 use fields::{put_word, word};
-use load::Stretched;
 use programs::Program;
-use rules::Ending;
+use rules::{Refusal, Stage};
 
 // One byte more than a packed file may have: a longer file is told by its length.
 const FILE: usize = 2000001;
@@ -22,7 +21,7 @@ const BODY: usize = 65536;
 
 // An answer: the refusal's number or 0, its place or the output's length, the output's hash, and how many bytes of the
 // output are packed or agree with the packed ones.
-#[derive(Clone, Copy)]
+#[derive(Clone, Copy, PartialEq, Eq)]
 struct Answer {
     number: usize,
     place: usize,
@@ -52,7 +51,7 @@ struct Tally {
 }
 
 // A refusal has no output.
-fn refusal(number: usize, place: usize) -> Answer {
+fn refused(number: usize, place: usize) -> Answer {
     Answer {
         number: number,
         place: place,
@@ -127,7 +126,7 @@ fn packed_at(bytes: &[u8], at: usize) -> Packed
     let number = word(bytes, ending);
     let place = word(bytes, ending + 4);
     if 0 < number {
-        let answer = refusal(number, place);
+        let answer = refused(number, place);
         return Packed {
             operation: operation,
             room: room,
@@ -159,13 +158,9 @@ fn packed_at(bytes: &[u8], at: usize) -> Packed
 
 // The 32-bit FNV-1a hash.
 fn hash_of(bytes: &[u8]) -> usize {
-    let mut hash: usize = 2166136261;
-    let mut i: usize = 0;
-    while i < bytes.len() {
-        hash = hash_more(hash, bytes[i]);
-        i += 1;
-    }
-    hash
+    bytes
+        .iter()
+        .fold(2166136261, |hash, byte| hash_more(hash, *byte))
 }
 
 fn hash_more(hash: usize, byte: u8) -> usize {
@@ -175,17 +170,7 @@ fn hash_more(hash: usize, byte: u8) -> usize {
 
 // How many bytes at the front of two texts are the same.
 fn agreeing(a: &[u8], b: &[u8]) -> usize {
-    let mut i: usize = 0;
-    while i < a.len() {
-        if b.len() <= i {
-            return i;
-        }
-        if a[i] != b[i] {
-            return i;
-        }
-        i += 1;
-    }
-    i
+    a.iter().zip(b).take_while(|(x, y)| x == y).count()
 }
 
 // Two numbers as fields at a place; gives the place after them.
@@ -207,43 +192,39 @@ fn put_payload(job: &[u8], n: usize, out: &mut [u8], at: usize) -> usize
 }
 
 // The answers to the loop requests from 0 up to the first that is refused: number and place, or 0, length and payload.
-fn requests(job: &[u8], out: &mut [u8]) -> Ending
+fn requests(job: &[u8], out: &mut [u8]) -> usize
     requires { (length job.now < 4294967296) × (length out.old < 4294967296) }
 {
     let mut p: usize = 0;
     let mut n: usize = 0;
     while p < out.len() {
-        let stretch = load::loop_stretch(job, n);
-        match stretch {
-            Stretched::Refused(number, place) => {
-                return Ending::Written(put_two(out, p, number, place));
+        match load::loop_stretch(job, n) {
+            Err(refusal) => {
+                return put_two(out, p, refusal.fault.number(), refusal.place);
             }
-            Stretched::At(start, end) => {
-                let q = put_two(out, p, 0, end - start);
+            Ok(bytes) => {
+                let q = put_two(out, p, 0, bytes.end - bytes.start);
                 p = put_payload(job, n, out, q);
             }
         }
         n += 1;
     }
-    Ending::Written(p)
+    p
 }
 
-fn run(operation: usize, job: &[u8], out: &mut [u8]) -> Ending
+fn run(operation: usize, job: &[u8], out: &mut [u8]) -> Result<usize, Refusal>
     requires { (length job.now < 4294967296) × (length out.old < 4294967296) }
 {
     if operation == 12 {
-        return requests(job, out);
+        return Ok(requests(job, out));
     }
-    programs::operate(operation, job, out)
+    programs::operate(Stage::numbered(operation), job, out)
 }
 
 fn least(a: usize, b: usize) -> usize
     ensures { result ≤ b }
 {
-    if a < b {
-        return a;
-    }
-    b
+    a.min(b)
 }
 
 // The answer that is found, with the bytes of the output held against the packed ones.
@@ -254,8 +235,8 @@ fn found(bytes: &[u8], job: &[u8], p: Packed, out: &mut [u8]) -> Answer
     let room = least(p.room, out.len());
     let ending = run(p.operation, job, &mut out[..room]);
     match ending {
-        Ending::Refused(number, place) => refusal(number, place),
-        Ending::Written(n) => {
+        Err(refusal) => refused(refusal.fault.number(), refusal.place),
+        Ok(n) => {
             let written = lines::front(out, n);
             let packed = part(bytes, p.start, expected.shown);
             Answer {
@@ -266,22 +247,6 @@ fn found(bytes: &[u8], job: &[u8], p: Packed, out: &mut [u8]) -> Answer
             }
         }
     }
-}
-
-fn is_same(a: Answer, b: Answer) -> bool {
-    if a.number != b.number {
-        return false;
-    }
-    if a.place != b.place {
-        return false;
-    }
-    if a.hash != b.hash {
-        return false;
-    }
-    if a.shown != b.shown {
-        return false;
-    }
-    true
 }
 
 // REPORTING
@@ -371,7 +336,7 @@ fn run_answer(
 {
     let expected = p.answer;
     let answer = found(bytes, job, p, out);
-    if is_same(expected, answer) {
+    if expected == answer {
         return Tally {
             at: p.next,
             jobs: t.jobs,
@@ -404,8 +369,7 @@ fn run_answers(
     ensures { Counted result × (result.at ≤ length bytes.now) }
 {
     let mut t = first;
-    let mut i: usize = 0;
-    while i < count {
+    for _ in 0..count {
         let p = packed_at(bytes, t.at);
         if bytes.len() < p.next {
             return Tally {
@@ -417,7 +381,6 @@ fn run_answers(
             };
         }
         t = run_answer(rt, bytes, job, vector, p, t, out);
-        i += 1;
     }
     t
 }
@@ -460,8 +423,7 @@ fn run_vectors(rt: &impl Print, bytes: &[u8], out: &mut [u8]) -> Tally
         differences: 0,
         whole: true,
     };
-    let mut i: usize = 0;
-    while i < count {
+    for _ in 0..count {
         let start = answers_at(bytes, t.at);
         if bytes.len() < start {
             return t;
@@ -470,7 +432,6 @@ fn run_vectors(rt: &impl Print, bytes: &[u8], out: &mut [u8]) -> Tally
         if !t.whole {
             return t;
         }
-        i += 1;
     }
     t
 }

@@ -1,5 +1,5 @@
 -- Laws of fields written row by row from a place on, of rows that may be none, and of the ending of a stage.
-use Rattle.std.specs.Prelude.{ℕ, zero, suc, ◌+◌, ◌*◌, ◌≤◌, ◌<◌, ◌≡◌, refl, Bool, true, false, cond, length}
+use Rattle.std.specs.Prelude.{ℕ, zero, suc, ◌+◌, ◌*◌, ◌≤◌, ◌≡◌, refl, Bool, true, false, cond, length}
 use Rattle.std.proofs.Common.{mul-suc, add-one, ◌∙◌, ⊎_elim, length-append}
 use native.Mathlib.Omega.{arith}
 use Rattle.std.proofs.Math.Path.{sym, ap}
@@ -10,13 +10,11 @@ use Rattle.lists.specs.Tests.{both_ways, cond_true, cond_false}
 use Rattle.lists.specs.Rows.{rows_more, flat_map_keep}
 use Rattle.rules.specs.declared.Edge.{Edge}
 use Rattle.rules.specs.declared.Use.{Use}
-use Rattle.rules.specs.declared.Ending.TheVariants.{Written, Refused}
 use Rattle.rules.specs.Fields.{bytes32, field_bytes}
 use Rattle.rules.specs.Groups.{label_of}
 use Rattle.rules.specs.Fans.{kept_with_ends, fan_point}
 use Rattle.fields.specs.Wrote.{Wrote}
-use Rattle.stages_out.specs.Rows.{Staged}
-use Rattle.stages_out.specs.Writing.{wrote_one, wrote_both, wrote_same, wrote_nothing, place_after_lem, staged_written, staged_short}
+use Rattle.stages_out.specs.Writing.{wrote_one, wrote_both, wrote_same, wrote_nothing, place_after_lem}
 use Rattle.result_out.specs.Rows.{fan_row, fan_or, fan_rows}
 
 -- ROWS
@@ -71,15 +69,8 @@ three_fields_lem before mid after at a b c p q u w = wrote_both (a ∷ b ∷ [])
 -- THE ENDING
 
 -- the bytes needed are those of another output, to which the same fields were written
-module _ (fs none after_none : List ℕ) (needed : ℕ) (counted : Wrote none 0 (field_bytes fs) after_none needed) where
-  four_each : needed ≡ 4 * length fs
-  four_each = omega (arith, place_after_lem fs none after_none 0 needed counted)
-
-  pub staged_fits : (before after : List ℕ) (p : ℕ) → needed ≤ length before → Wrote before 0 (field_bytes fs) after p → Staged fs before after (Written needed)
-  staged_fits before after p fits w = staged_written fs before after needed p four_each fits w
-
-  pub staged_refused : (before : List ℕ) → length before < needed → Staged fs before before (Refused 40 needed)
-  staged_refused before less = staged_short fs before needed four_each less
+pub four_each : (fs none after : List ℕ) (needed : ℕ) → Wrote none 0 (field_bytes fs) after needed → needed ≡ 4 * length fs
+four_each fs none after needed w = omega (arith, place_after_lem fs none after 0 needed w)
 
 -- FANS
 

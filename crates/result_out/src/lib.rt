@@ -22,9 +22,9 @@ ghost use Rattle.result_out.specs.Rows.{fan_or, fan_rows, edge_row, loop_row, it
 use edges::edge_at;
 use fans::kept_with_ends;
 use fields::{get, put_word};
-use rules::{Counts, Ending};
+use rules::{Counts, Refusal};
 use shells::{shell_boundary, shell_home, shell_outer};
-use stages_out::put_two;
+use stages_out::{fits, put_two};
 use uses::count;
 
 // 1 for true.
@@ -102,17 +102,14 @@ pub fn write_fans(
     fans: &[u32],
     starts: &[u32],
     out: &mut [u8],
-) -> Ending
+) -> Result<usize, Refusal>
     requires { (c.vertices ≤ 1024) × (c.edges ≤ 1024) × (length (uses_in uses.now) ≤ 2048) }
     ensures { Staged (fan_rows (edges_in job.now c) (uses_in uses.now) removed.now fans.now starts.now) out.old out.new result }
 {
     let mut nothing = [0u8; 0];
     let needed = put_fans(job, c, uses, removed, fans, starts, &mut nothing);
-    if out.len() < needed {
-        return Ending::Refused(40, needed);
-    }
-    put_fans(job, c, uses, removed, fans, starts, out);
-    Ending::Written(needed)
+    fits(out, needed)?;
+    Ok(put_fans(job, c, uses, removed, fans, starts, out))
 }
 
 // EDGES AND JOINING
@@ -125,7 +122,7 @@ fn put_edge(rows: &[u32], e: usize, out: &mut [u8], at: usize) -> usize
     let x = edge_at(rows, e);
     let own = x.sense;
     let faces = x.faces;
-    let sense = job::sense_number(own);
+    let sense = usize::from(own);
     let active = flag_number(x.active);
     let low = wide(faces[0]);
     let high = wide(faces[1]);
@@ -221,17 +218,14 @@ pub fn write_joining(
     stretches: &[u32],
     faces: &[u32],
     out: &mut [u8],
-) -> Ending
+) -> Result<usize, Refusal>
     requires { Laid stretches.now items.now × (2 * length faces.now ≤ length stretches.now) × (n ≤ 2047) × (7 * n ≤ length rows.now) × (length items.now ≤ 2048) × (length faces.now ≤ 2048) }
     ensures { Staged (joining_fields (state_in rows.now n items.now stretches.now faces.now joins rings)) out.old out.new result }
 {
     let mut nothing = [0u8; 0];
     let needed = put_joining(joins, rings, rows, n, items, stretches, faces, &mut nothing);
-    if out.len() < needed {
-        return Ending::Refused(40, needed);
-    }
-    put_joining(joins, rings, rows, n, items, stretches, faces, out);
-    Ending::Written(needed)
+    fits(out, needed)?;
+    Ok(put_joining(joins, rings, rows, n, items, stretches, faces, out))
 }
 
 // SHELLS
@@ -319,17 +313,14 @@ pub fn write_shells(
     table: &[u32],
     n: usize,
     out: &mut [u8],
-) -> Ending
+) -> Result<usize, Refusal>
     requires { (n ≤ 256) × (length members.now ≤ 256) }
     ensures { Staged (flat_map shell_fields (shells_in boundaries.now members.now n table.now)) out.old out.new result }
 {
     let mut nothing = [0u8; 0];
     let needed = put_shells(boundaries, members, table, n, &mut nothing);
-    if out.len() < needed {
-        return Ending::Refused(40, needed);
-    }
-    put_shells(boundaries, members, table, n, out);
-    Ending::Written(needed)
+    fits(out, needed)?;
+    Ok(put_shells(boundaries, members, table, n, out))
 }
 
 // LUMPS
@@ -435,15 +426,12 @@ pub fn write_lumps(
     table: &[u32],
     n: usize,
     out: &mut [u8],
-) -> Ending
+) -> Result<usize, Refusal>
     requires { (n ≤ 256) × (length members.now ≤ 256) }
     ensures { Staged (lump_fields 0 (lumps (nested_in boundaries.now members.now n table.now))) out.old out.new result }
 {
     let mut nothing = [0u8; 0];
     let needed = put_lumps(boundaries, members, table, n, &mut nothing);
-    if out.len() < needed {
-        return Ending::Refused(40, needed);
-    }
-    put_lumps(boundaries, members, table, n, out);
-    Ending::Written(needed)
+    fits(out, needed)?;
+    Ok(put_lumps(boundaries, members, table, n, out))
 }

@@ -4,3 +4,4 @@ pub mod FrameLaws
 pub mod QuestionLaws
 pub mod GroupLaws
 pub mod SenseLaws
+pub mod KindLaws

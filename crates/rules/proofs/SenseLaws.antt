@@ -1,4 +1,6 @@
 -- Laws of senses: the test of equality, the reverse, the product, and where a sense starts and ends an edge.
+use denote.Enum.Bare.{sameb}
+use Rattle.rules.specs.contracts.Sense.{the_type as Sense_type}
 use Rattle.std.specs.Prelude.{◌≡◌, refl, ◌⊎◌, true, false}
 use Rattle.std.proofs.Common.{sym, ap, ◌∙◌, inl, inr, true≢false}
 use Rattle.rules.specs.declared.Sense.{Sense}
@@ -8,6 +10,13 @@ use Rattle.rules.specs.declared.EdgeData.{EdgeData}
 use Rattle.rules.specs.Sense.{reverse, product, FourAnswers, same_sense, is_same}
 use Rattle.rules.specs.Job.{start_by, end_by}
 use Rattle.rules.specs.Join.{start_fan, end_fan}
+
+-- `==` of senses is the test of the definitions
+pub same_tested : (a b : Sense) → sameb Sense_type a b ≡ same_sense a b
+same_tested Same Same = refl
+same_tested Same Reversed = refl
+same_tested Reversed Same = refl
+same_tested Reversed Reversed = refl
 
 -- senses that pass the test are equal, and equal ones pass
 pub tested_sense : (s t : Sense) → same_sense s t ≡ true → s ≡ t

@@ -1,13 +1,14 @@
 -- Further jobs made by hand from document 01, each with its ending: what P1 to P9 leave open.
 use Rattle.std.specs.Prelude.{◌≡◌, refl, List, [], ◌∷◌, ◌++◌, Bool, true, false, ◌&&◌, ℕ, eqb}
 use Rattle.lists.specs.Lists.{same, all}
-use Rattle.rules.specs.Outcome.{Outcome, ok, refuse}
+use Rattle.rules.specs.Outcome.{Outcome, Ok, refuse, Err, same_refusal}
 use Rattle.rules.specs.Frame.{Record, framed_all}
 use Rattle.rules.specs.Job.{unset}
 use Rattle.rules.specs.Rules.{ordinary}
 use Rattle.rules.specs.Body.{rec}
 use Rattle.rules.specs.Sew.{sewn}
 use Rattle.rules.specs.Open.{computes}
+use Rattle.rules.specs.declared.Fault.TheVariants.{CutShort, Misplaced, FieldNotPermitted, LoopJoints, AnsweredTwice, OddUses, SamePredecessor, NoTwin, Unanswered, AnswerUndecided, NormalsVanish, NotRound, PairsInBoundary, FansInBoundary, FansInLump, PairsInLump, NoOuterShell, NoRoom}
 
 -- a job, its records and then the bytes of a damaged one, the length of the output, the expected ending
 pub record Case : Type 0 where
@@ -17,14 +18,14 @@ pub record Case : Type 0 where
   pub ending : Outcome (List Record)
 
 abbrev pub bytes_of : Outcome (List Record) → Outcome (List ℕ)
-bytes_of (ok rs) = ok (framed_all rs)
-bytes_of (refuse n p) = refuse n p
+bytes_of (Ok rs) = Ok (framed_all rs)
+bytes_of (Err r) = Err r
 
 abbrev pub same_bytes : Outcome (List ℕ) → Outcome (List ℕ) → Bool
-same_bytes (ok a) (ok b) = same a b
-same_bytes (ok a) (refuse n p) = false
-same_bytes (refuse n p) (ok b) = false
-same_bytes (refuse n p) (refuse m q) = eqb n m && eqb p q
+same_bytes (Ok a) (Ok b) = same a b
+same_bytes (Ok a) (Err q) = false
+same_bytes (Err r) (Ok b) = false
+same_bytes (Err r) (Err q) = same_refusal r q
 
 -- sewing the case's job ends as the case says
 abbrev pub right : Case → Bool
@@ -37,7 +38,7 @@ empty_job = record {
       [];
   damaged = [];
   room = 65536;
-  ending = refuse 3 0;
+  ending = refuse Misplaced 0;
 }
 
 -- first record is no Head
@@ -47,7 +48,7 @@ no_head = record {
       rec 2 (0 ∷ []) ∷ [];
   damaged = [];
   room = 65536;
-  ending = refuse 3 0;
+  ending = refuse Misplaced 0;
 }
 
 -- header cut short
@@ -57,7 +58,7 @@ cut_header = record {
       [];
   damaged = 4 ∷ 0 ∷ 0 ∷ [];
   room = 65536;
-  ending = refuse 2 0;
+  ending = refuse CutShort 0;
 }
 
 -- payload cut short
@@ -67,7 +68,7 @@ cut_payload = record {
       rec 1 (1 ∷ []) ∷ [];
   damaged = 4 ∷ 0 ∷ 0 ∷ 0 ∷ 2 ∷ 0 ∷ 7 ∷ 0 ∷ 0 ∷ [];
   room = 65536;
-  ending = refuse 2 10;
+  ending = refuse CutShort 10;
 }
 
 -- a payload length far past the end
@@ -77,7 +78,7 @@ cut_huge = record {
       rec 1 (1 ∷ []) ∷ [];
   damaged = 255 ∷ 255 ∷ 255 ∷ 255 ∷ 2 ∷ 0 ∷ [];
   room = 65536;
-  ending = refuse 2 10;
+  ending = refuse CutShort 10;
 }
 
 -- unknown kind
@@ -87,7 +88,7 @@ unknown_kind = record {
       rec 1 (1 ∷ []) ∷ rec 14 (0 ∷ []) ∷ [];
   damaged = [];
   room = 65536;
-  ending = refuse 3 10;
+  ending = refuse Misplaced 10;
 }
 
 -- Head twice
@@ -97,7 +98,7 @@ two_heads = record {
       rec 1 (1 ∷ []) ∷ rec 1 (1 ∷ []) ∷ [];
   damaged = [];
   room = 65536;
-  ending = refuse 3 10;
+  ending = refuse Misplaced 10;
 }
 
 -- Vertex after Edge
@@ -107,7 +108,7 @@ late_vertex = record {
       rec 1 (1 ∷ []) ∷ rec 3 (5 ∷ 0 ∷ unset ∷ unset ∷ []) ∷ rec 2 (0 ∷ []) ∷ [];
   damaged = [];
   room = 65536;
-  ending = refuse 3 32;
+  ending = refuse Misplaced 32;
 }
 
 -- loop before any face
@@ -117,7 +118,7 @@ loose_loop = record {
       rec 1 (1 ∷ []) ∷ rec 3 (5 ∷ 0 ∷ unset ∷ unset ∷ []) ∷ rec 5 (0 ∷ 0 ∷ []) ∷ [];
   damaged = [];
   room = 65536;
-  ending = refuse 3 32;
+  ending = refuse Misplaced 32;
 }
 
 -- face after an answer
@@ -127,7 +128,7 @@ late_face = record {
       rec 1 (1 ∷ []) ∷ rec 9 (1 ∷ 2 ∷ 0 ∷ []) ∷ rec 4 (7 ∷ 0 ∷ 0 ∷ 0 ∷ 0 ∷ []) ∷ [];
   damaged = [];
   room = 65536;
-  ending = refuse 3 28;
+  ending = refuse Misplaced 28;
 }
 
 -- loop without items
@@ -137,7 +138,7 @@ empty_loop = record {
       rec 1 (1 ∷ []) ∷ rec 4 (7 ∷ 0 ∷ 0 ∷ 0 ∷ 0 ∷ []) ∷ rec 5 [] ∷ [];
   damaged = [];
   room = 65536;
-  ending = refuse 3 36;
+  ending = refuse Misplaced 36;
 }
 
 -- loop of one field
@@ -147,7 +148,7 @@ odd_loop = record {
       rec 1 (1 ∷ []) ∷ rec 4 (7 ∷ 0 ∷ 0 ∷ 0 ∷ 0 ∷ []) ∷ rec 5 (0 ∷ []) ∷ [];
   damaged = [];
   room = 65536;
-  ending = refuse 3 36;
+  ending = refuse Misplaced 36;
 }
 
 -- Head 2
@@ -157,7 +158,7 @@ head_two = record {
       rec 1 (2 ∷ []) ∷ [];
   damaged = [];
   room = 65536;
-  ending = refuse 4 0;
+  ending = refuse FieldNotPermitted 0;
 }
 
 -- one end without vertex
@@ -167,7 +168,7 @@ half_ring = record {
       rec 1 (1 ∷ []) ∷ rec 2 (0 ∷ []) ∷ rec 3 (5 ∷ 0 ∷ 0 ∷ unset ∷ []) ∷ [];
   damaged = [];
   room = 65536;
-  ending = refuse 4 20;
+  ending = refuse FieldNotPermitted 20;
 }
 
 -- edge sense 2
@@ -177,7 +178,7 @@ edge_sense = record {
       rec 1 (1 ∷ []) ∷ rec 3 (5 ∷ 2 ∷ unset ∷ unset ∷ []) ∷ [];
   damaged = [];
   room = 65536;
-  ending = refuse 4 10;
+  ending = refuse FieldNotPermitted 10;
 }
 
 -- selected sense 2
@@ -187,7 +188,7 @@ face_sense = record {
       rec 1 (1 ∷ []) ∷ rec 4 (7 ∷ 0 ∷ 2 ∷ 0 ∷ 0 ∷ []) ∷ [];
   damaged = [];
   room = 65536;
-  ending = refuse 4 10;
+  ending = refuse FieldNotPermitted 10;
 }
 
 -- no such edge
@@ -197,7 +198,7 @@ loop_edge = record {
       rec 1 (1 ∷ []) ∷ rec 4 (7 ∷ 0 ∷ 0 ∷ 0 ∷ 0 ∷ []) ∷ rec 5 (0 ∷ 0 ∷ []) ∷ [];
   damaged = [];
   room = 65536;
-  ending = refuse 4 36;
+  ending = refuse FieldNotPermitted 36;
 }
 
 -- no such vertex
@@ -207,7 +208,7 @@ loop_vertex = record {
       rec 1 (1 ∷ []) ∷ rec 4 (7 ∷ 0 ∷ 0 ∷ 0 ∷ 0 ∷ []) ∷ rec 6 (0 ∷ []) ∷ [];
   damaged = [];
   room = 65536;
-  ending = refuse 4 36;
+  ending = refuse FieldNotPermitted 36;
 }
 
 -- equal points
@@ -217,7 +218,7 @@ points_equal = record {
       rec 1 (1 ∷ []) ∷ rec 9 (3 ∷ 3 ∷ 1 ∷ []) ∷ [];
   damaged = [];
   room = 65536;
-  ending = refuse 4 10;
+  ending = refuse FieldNotPermitted 10;
 }
 
 -- lower face not less than higher
@@ -227,7 +228,7 @@ singular_order = record {
       rec 1 (1 ∷ []) ∷ rec 4 (7 ∷ 0 ∷ 0 ∷ 0 ∷ 0 ∷ []) ∷ rec 4 (8 ∷ 0 ∷ 0 ∷ 0 ∷ 1 ∷ []) ∷ rec 11 (5 ∷ 1 ∷ 1 ∷ 0 ∷ 0 ∷ []) ∷ [];
   damaged = [];
   room = 65536;
-  ending = refuse 4 62;
+  ending = refuse FieldNotPermitted 62;
 }
 
 -- a question answered before, in the other order
@@ -237,7 +238,7 @@ points_twice = record {
       rec 1 (1 ∷ []) ∷ rec 9 (3 ∷ 4 ∷ 1 ∷ []) ∷ rec 9 (4 ∷ 3 ∷ 0 ∷ []) ∷ [];
   damaged = [];
   room = 65536;
-  ending = refuse 7 28;
+  ending = refuse AnsweredTwice 28;
 }
 
 -- unasked answers are ignored
@@ -247,7 +248,7 @@ empty_unasked = record {
       rec 1 (0 ∷ []) ∷ rec 9 (3 ∷ 4 ∷ 1 ∷ []) ∷ rec 10 (3 ∷ 4 ∷ 1 ∷ []) ∷ [];
   damaged = [];
   room = 65536;
-  ending = ok
+  ending = Ok
       (rec 21 (0 ∷ 0 ∷ 0 ∷ 0 ∷ 0 ∷ 0 ∷ 0 ∷ []) ∷ []);
 }
 
@@ -258,7 +259,7 @@ no_room = record {
       rec 1 (1 ∷ []) ∷ [];
   damaged = [];
   room = 33;
-  ending = refuse 40 34;
+  ending = refuse NoRoom 34;
 }
 
 -- output just long enough
@@ -268,7 +269,7 @@ just_room = record {
       rec 1 (1 ∷ []) ∷ [];
   damaged = [];
   room = 34;
-  ending = ok
+  ending = Ok
       (rec 21 (0 ∷ 0 ∷ 0 ∷ 0 ∷ 0 ∷ 0 ∷ 0 ∷ []) ∷ []);
 }
 
@@ -280,7 +281,7 @@ broken_joint = record {
       rec 5 (0 ∷ 0 ∷ 1 ∷ 1 ∷ []) ∷ [];
   damaged = [];
   room = 65536;
-  ending = refuse 6 100;
+  ending = refuse LoopJoints 100;
 }
 
 -- no radial answer
@@ -292,7 +293,7 @@ radial_missing = record {
       rec 4 (9 ∷ 0 ∷ 0 ∷ 0 ∷ 2 ∷ []) ∷ rec 5 (0 ∷ 0 ∷ []) ∷ rec 4 (10 ∷ 0 ∷ 0 ∷ 0 ∷ 3 ∷ []) ∷ rec 5 (0 ∷ 1 ∷ []) ∷ [];
   damaged = [];
   room = 65536;
-  ending = refuse 20 7;
+  ending = refuse Unanswered 7;
 }
 
 -- radial order undecided
@@ -304,7 +305,7 @@ radial_open = record {
       rec 4 (9 ∷ 0 ∷ 0 ∷ 0 ∷ 2 ∷ []) ∷ rec 5 (0 ∷ 0 ∷ []) ∷ rec 4 (10 ∷ 0 ∷ 0 ∷ 0 ∷ 3 ∷ []) ∷ rec 5 (0 ∷ 1 ∷ []) ∷ rec 7 (0 ∷ []) ∷ [];
   damaged = [];
   room = 65536;
-  ending = refuse 21 7;
+  ending = refuse AnswerUndecided 7;
 }
 
 -- radial list leaves a use out
@@ -316,7 +317,7 @@ radial_short = record {
       rec 4 (9 ∷ 0 ∷ 0 ∷ 0 ∷ 2 ∷ []) ∷ rec 5 (0 ∷ 0 ∷ []) ∷ rec 4 (10 ∷ 0 ∷ 0 ∷ 0 ∷ 3 ∷ []) ∷ rec 5 (0 ∷ 1 ∷ []) ∷ rec 7 (0 ∷ 0 ∷ 1 ∷ 2 ∷ []) ∷ [];
   damaged = [];
   room = 65536;
-  ending = refuse 23 0;
+  ending = refuse NotRound 0;
 }
 
 -- radial list has a use twice
@@ -328,7 +329,7 @@ radial_twice = record {
       rec 4 (9 ∷ 0 ∷ 0 ∷ 0 ∷ 2 ∷ []) ∷ rec 5 (0 ∷ 0 ∷ []) ∷ rec 4 (10 ∷ 0 ∷ 0 ∷ 0 ∷ 3 ∷ []) ∷ rec 5 (0 ∷ 1 ∷ []) ∷ rec 7 (0 ∷ 0 ∷ 1 ∷ 2 ∷ 2 ∷ []) ∷ [];
   damaged = [];
   room = 65536;
-  ending = refuse 23 0;
+  ending = refuse NotRound 0;
 }
 
 -- Same after Same
@@ -340,7 +341,7 @@ same_same = record {
       rec 4 (9 ∷ 0 ∷ 0 ∷ 0 ∷ 2 ∷ []) ∷ rec 5 (0 ∷ 0 ∷ []) ∷ rec 4 (10 ∷ 0 ∷ 0 ∷ 0 ∷ 3 ∷ []) ∷ rec 5 (0 ∷ 1 ∷ []) ∷ rec 7 (0 ∷ 0 ∷ 2 ∷ 1 ∷ 3 ∷ []) ∷ [];
   damaged = [];
   room = 65536;
-  ending = refuse 12 0;
+  ending = refuse SamePredecessor 0;
 }
 
 -- three Reversed and one Same
@@ -352,7 +353,7 @@ lone_use = record {
       rec 4 (9 ∷ 0 ∷ 0 ∷ 0 ∷ 2 ∷ []) ∷ rec 5 (0 ∷ 1 ∷ []) ∷ rec 4 (10 ∷ 0 ∷ 0 ∷ 0 ∷ 3 ∷ []) ∷ rec 5 (0 ∷ 1 ∷ []) ∷ rec 7 (0 ∷ 0 ∷ 1 ∷ 2 ∷ 3 ∷ []) ∷ [];
   damaged = [];
   room = 65536;
-  ending = refuse 13 1;
+  ending = refuse NoTwin 1;
 }
 
 -- three uses
@@ -364,7 +365,7 @@ three_uses = record {
       rec 4 (9 ∷ 0 ∷ 0 ∷ 0 ∷ 2 ∷ []) ∷ rec 5 (0 ∷ 1 ∷ []) ∷ [];
   damaged = [];
   room = 65536;
-  ending = refuse 11 0;
+  ending = refuse OddUses 0;
 }
 
 -- surface unanswered
@@ -375,7 +376,7 @@ surface_missing = record {
       rec 5 (0 ∷ 1 ∷ []) ∷ [];
   damaged = [];
   room = 65536;
-  ending = refuse 20 8;
+  ending = refuse Unanswered 8;
 }
 
 -- surface undecided
@@ -387,7 +388,7 @@ surface_open = record {
       rec 8 (0 ∷ 4 ∷ []) ∷ [];
   damaged = [];
   room = 65536;
-  ending = refuse 21 8;
+  ending = refuse AnswerUndecided 8;
 }
 
 -- normals vanish
@@ -399,7 +400,7 @@ surface_vanish = record {
       rec 8 (0 ∷ 3 ∷ []) ∷ [];
   damaged = [];
   room = 65536;
-  ending = refuse 22 8;
+  ending = refuse NormalsVanish 8;
 }
 
 -- two shells touch along an edge
@@ -413,7 +414,7 @@ two_shells = record {
       rec 8 (2 ∷ 0 ∷ []) ∷ [];
   damaged = [];
   room = 65536;
-  ending = ok
+  ending = Ok
       (rec 21 (1 ∷ 4 ∷ 0 ∷ 0 ∷ 0 ∷ 0 ∷ 0 ∷ []) ∷ rec 23 (5 ∷ 0 ∷ unset ∷ unset ∷ []) ∷ rec 23 (5 ∷ 0 ∷ unset ∷ unset ∷ []) ∷ rec 24 (7 ∷ 0 ∷ []) ∷
       rec 29 (0 ∷ 0 ∷ []) ∷
       rec 25 (0 ∷ 0 ∷ []) ∷ rec 24 (8 ∷ 0 ∷ []) ∷ rec 29 (0 ∷ 1 ∷ []) ∷ rec 25 (0 ∷ 1 ∷ []) ∷ rec 24 (9 ∷ 0 ∷ []) ∷ rec 29 (0 ∷ 2 ∷ []) ∷ rec 25 (1 ∷ 0 ∷ []) ∷
@@ -432,7 +433,7 @@ orient_missing = record {
       rec 8 (2 ∷ 0 ∷ []) ∷ [];
   damaged = [];
   room = 65536;
-  ending = refuse 20 12;
+  ending = refuse Unanswered 12;
 }
 
 -- second orientation undecided
@@ -446,7 +447,7 @@ orient_second = record {
       rec 8 (2 ∷ 0 ∷ []) ∷ rec 12 (0 ∷ 1 ∷ []) ∷ rec 12 (2 ∷ 2 ∷ []) ∷ [];
   damaged = [];
   room = 65536;
-  ending = refuse 21 12;
+  ending = refuse AnswerUndecided 12;
 }
 
 -- void without an outer shell
@@ -460,7 +461,7 @@ void_alone = record {
       rec 8 (2 ∷ 0 ∷ []) ∷ rec 12 (0 ∷ 0 ∷ []) ∷ rec 12 (2 ∷ 0 ∷ []) ∷ [];
   damaged = [];
   room = 65536;
-  ending = refuse 34 0;
+  ending = refuse NoOuterShell 0;
 }
 
 -- inside unanswered
@@ -474,7 +475,7 @@ inside_missing = record {
       rec 8 (2 ∷ 0 ∷ []) ∷ rec 12 (0 ∷ 1 ∷ []) ∷ rec 12 (2 ∷ 0 ∷ []) ∷ [];
   damaged = [];
   room = 65536;
-  ending = refuse 20 13;
+  ending = refuse Unanswered 13;
 }
 
 -- void outside the one outer shell
@@ -488,7 +489,7 @@ not_inside = record {
       rec 8 (2 ∷ 0 ∷ []) ∷ rec 12 (0 ∷ 1 ∷ []) ∷ rec 12 (2 ∷ 0 ∷ []) ∷ rec 13 (2 ∷ 0 ∷ 0 ∷ []) ∷ [];
   damaged = [];
   room = 65536;
-  ending = refuse 34 2;
+  ending = refuse NoOuterShell 2;
 }
 
 -- two pairs of an edge in one lump
@@ -502,7 +503,7 @@ edge_in_lump = record {
       rec 8 (2 ∷ 0 ∷ []) ∷ rec 12 (0 ∷ 1 ∷ []) ∷ rec 12 (2 ∷ 0 ∷ []) ∷ rec 13 (2 ∷ 0 ∷ 1 ∷ []) ∷ [];
   damaged = [];
   room = 65536;
-  ending = refuse 33 0;
+  ending = refuse PairsInLump 0;
 }
 
 -- two pairs of an edge in one boundary
@@ -514,7 +515,7 @@ edge_in_bound = record {
       rec 4 (10 ∷ 0 ∷ 0 ∷ 0 ∷ 3 ∷ []) ∷ rec 5 (0 ∷ 1 ∷ []) ∷ rec 7 (0 ∷ 0 ∷ 5 ∷ 3 ∷ 2 ∷ []) ∷ rec 8 (0 ∷ 0 ∷ []) ∷ rec 8 (1 ∷ 0 ∷ []) ∷ rec 8 (3 ∷ 0 ∷ []) ∷ [];
   damaged = [];
   room = 65536;
-  ending = refuse 30 0;
+  ending = refuse PairsInBoundary 0;
 }
 
 -- two fans at a point in one boundary
@@ -526,7 +527,7 @@ point_in_bound = record {
       rec 8 (1 ∷ 0 ∷ []) ∷ [];
   damaged = [];
   room = 65536;
-  ending = refuse 31 4;
+  ending = refuse FansInBoundary 4;
 }
 
 -- singular unanswered
@@ -539,7 +540,7 @@ singular_missing = record {
       rec 5 (1 ∷ 1 ∷ []) ∷ rec 8 (0 ∷ 0 ∷ []) ∷ rec 8 (2 ∷ 0 ∷ []) ∷ rec 11 (5 ∷ 0 ∷ 1 ∷ 4 ∷ 0 ∷ []) ∷ [];
   damaged = [];
   room = 65536;
-  ending = refuse 20 11;
+  ending = refuse Unanswered 11;
 }
 
 -- singular undecided
@@ -552,7 +553,7 @@ singular_open = record {
       rec 5 (1 ∷ 1 ∷ []) ∷ rec 8 (0 ∷ 0 ∷ []) ∷ rec 8 (2 ∷ 0 ∷ []) ∷ rec 11 (5 ∷ 0 ∷ 1 ∷ 4 ∷ 1 ∷ []) ∷ rec 11 (6 ∷ 2 ∷ 3 ∷ 4 ∷ 2 ∷ []) ∷ [];
   damaged = [];
   room = 65536;
-  ending = refuse 21 11;
+  ending = refuse AnswerUndecided 11;
 }
 
 -- two lumps meet at a point
@@ -565,7 +566,7 @@ point_shared = record {
       rec 5 (1 ∷ 1 ∷ []) ∷ rec 8 (0 ∷ 0 ∷ []) ∷ rec 8 (2 ∷ 0 ∷ []) ∷ rec 11 (5 ∷ 0 ∷ 1 ∷ 4 ∷ 1 ∷ []) ∷ rec 11 (6 ∷ 2 ∷ 3 ∷ 4 ∷ 0 ∷ []) ∷ [];
   damaged = [];
   room = 65536;
-  ending = ok
+  ending = Ok
       (rec 21 (1 ∷ 4 ∷ 0 ∷ 0 ∷ 0 ∷ 1 ∷ 0 ∷ []) ∷ rec 22 (4 ∷ []) ∷ rec 23 (5 ∷ 0 ∷ 0 ∷ 0 ∷ []) ∷ rec 23 (6 ∷ 0 ∷ unset ∷ unset ∷ []) ∷ rec 24 (7 ∷ 0 ∷ []) ∷
       rec 29 (0 ∷ 0 ∷ []) ∷
       rec 25 (0 ∷ 0 ∷ []) ∷ rec 24 (8 ∷ 0 ∷ []) ∷ rec 29 (0 ∷ 1 ∷ []) ∷ rec 25 (0 ∷ 1 ∷ []) ∷ rec 24 (9 ∷ 0 ∷ []) ∷ rec 29 (0 ∷ 2 ∷ []) ∷ rec 25 (1 ∷ 0 ∷ []) ∷
@@ -584,7 +585,7 @@ point_in_lump = record {
       rec 12 (0 ∷ 1 ∷ []) ∷ rec 12 (2 ∷ 0 ∷ []) ∷ rec 13 (2 ∷ 0 ∷ 1 ∷ []) ∷ [];
   damaged = [];
   room = 65536;
-  ending = refuse 32 4;
+  ending = refuse FansInLump 4;
 }
 
 -- a void in its lump
@@ -598,7 +599,7 @@ void_inside = record {
       rec 12 (0 ∷ 1 ∷ []) ∷ rec 12 (2 ∷ 0 ∷ []) ∷ rec 13 (2 ∷ 0 ∷ 1 ∷ []) ∷ [];
   damaged = [];
   room = 65536;
-  ending = ok
+  ending = Ok
       (rec 21 (1 ∷ 4 ∷ 0 ∷ 0 ∷ 0 ∷ 0 ∷ 0 ∷ []) ∷ rec 22 (4 ∷ []) ∷ rec 22 (5 ∷ []) ∷ rec 23 (5 ∷ 0 ∷ 0 ∷ 0 ∷ []) ∷ rec 23 (6 ∷ 0 ∷ 1 ∷ 1 ∷ []) ∷
       rec 24 (7 ∷ 0 ∷ []) ∷ rec 29 (0 ∷ 0 ∷ []) ∷ rec 25 (0 ∷ 0 ∷ []) ∷ rec 24 (8 ∷ 0 ∷ []) ∷ rec 29 (0 ∷ 1 ∷ []) ∷ rec 25 (0 ∷ 1 ∷ []) ∷ rec 24 (9 ∷ 0 ∷ []) ∷
       rec 29 (0 ∷ 2 ∷ []) ∷ rec 25 (1 ∷ 0 ∷ []) ∷
@@ -615,7 +616,7 @@ seam = record {
       rec 5 (1 ∷ 0 ∷ []) ∷ rec 8 (0 ∷ 0 ∷ []) ∷ rec 8 (2 ∷ 0 ∷ []) ∷ rec 11 (5 ∷ 0 ∷ 1 ∷ 0 ∷ 0 ∷ []) ∷ rec 11 (6 ∷ 0 ∷ 2 ∷ 1 ∷ 0 ∷ []) ∷ [];
   damaged = [];
   room = 65536;
-  ending = ok
+  ending = Ok
       (rec 21 (1 ∷ 6 ∷ 2 ∷ 2 ∷ 0 ∷ 2 ∷ 0 ∷ []) ∷ rec 23 (5 ∷ 0 ∷ unset ∷ unset ∷ []) ∷ rec 23 (6 ∷ 0 ∷ unset ∷ unset ∷ []) ∷ rec 24 (7 ∷ 0 ∷ []) ∷
       rec 29 (0 ∷ 0 ∷ []) ∷
       rec 25 (0 ∷ 0 ∷ []) ∷ rec 25 (1 ∷ 1 ∷ []) ∷ rec 24 (8 ∷ 0 ∷ []) ∷ rec 29 (0 ∷ 1 ∷ []) ∷ rec 25 (0 ∷ 1 ∷ []) ∷ rec 24 (8 ∷ 0 ∷ []) ∷ rec 29 (0 ∷ 2 ∷ []) ∷
@@ -633,7 +634,7 @@ turned = record {
       rec 5 (1 ∷ 0 ∷ []) ∷ rec 8 (0 ∷ 0 ∷ []) ∷ rec 8 (2 ∷ 0 ∷ []) ∷ rec 11 (5 ∷ 0 ∷ 1 ∷ 0 ∷ 0 ∷ []) ∷ rec 11 (6 ∷ 0 ∷ 2 ∷ 1 ∷ 0 ∷ []) ∷ [];
   damaged = [];
   room = 65536;
-  ending = ok
+  ending = Ok
       (rec 21 (1 ∷ 6 ∷ 2 ∷ 2 ∷ 0 ∷ 2 ∷ 0 ∷ []) ∷ rec 23 (5 ∷ 0 ∷ unset ∷ unset ∷ []) ∷ rec 23 (6 ∷ 0 ∷ unset ∷ unset ∷ []) ∷ rec 24 (7 ∷ 1 ∷ []) ∷
       rec 29 (0 ∷ 0 ∷ []) ∷
       rec 25 (0 ∷ 0 ∷ []) ∷ rec 25 (1 ∷ 1 ∷ []) ∷ rec 24 (8 ∷ 0 ∷ []) ∷ rec 29 (0 ∷ 1 ∷ []) ∷ rec 25 (0 ∷ 1 ∷ []) ∷ rec 24 (8 ∷ 0 ∷ []) ∷ rec 29 (0 ∷ 2 ∷ []) ∷
@@ -650,7 +651,7 @@ opposed = record {
       rec 8 (0 ∷ 2 ∷ []) ∷ [];
   damaged = [];
   room = 65536;
-  ending = ok
+  ending = Ok
       (rec 21 (1 ∷ 2 ∷ 2 ∷ 0 ∷ 0 ∷ 0 ∷ 1 ∷ []) ∷ rec 24 (7 ∷ 0 ∷ []) ∷ rec 29 (0 ∷ 0 ∷ 0 ∷ 1 ∷ []) ∷ rec 27 [] ∷ rec 28 (0 ∷ []) ∷ []);
 }
 
@@ -663,7 +664,7 @@ opposed_same = record {
       rec 8 (0 ∷ 2 ∷ []) ∷ [];
   damaged = [];
   room = 65536;
-  ending = ok
+  ending = Ok
       (rec 21 (1 ∷ 2 ∷ 0 ∷ 0 ∷ 0 ∷ 0 ∷ 0 ∷ []) ∷ rec 23 (5 ∷ 0 ∷ unset ∷ unset ∷ []) ∷ rec 24 (7 ∷ 0 ∷ []) ∷ rec 29 (0 ∷ 0 ∷ []) ∷ rec 25 (0 ∷ 0 ∷ []) ∷
       rec 24 (7 ∷ 0 ∷ []) ∷ rec 29 (0 ∷ 1 ∷ []) ∷
       rec 25 (0 ∷ 1 ∷ []) ∷ rec 27 [] ∷ rec 28 (0 ∷ 1 ∷ []) ∷ []);
@@ -677,7 +678,7 @@ points_missing = record {
       rec 5 (0 ∷ 0 ∷ []) ∷ rec 6 (0 ∷ []) ∷ rec 4 (7 ∷ 0 ∷ 0 ∷ 0 ∷ 1 ∷ []) ∷ rec 6 (1 ∷ []) ∷ rec 5 (0 ∷ 1 ∷ []) ∷ rec 6 (2 ∷ []) ∷ rec 8 (0 ∷ 1 ∷ []) ∷ [];
   damaged = [];
   room = 65536;
-  ending = refuse 20 9;
+  ending = refuse Unanswered 9;
 }
 
 -- one vertex loop of three is kept
@@ -689,7 +690,7 @@ points_same = record {
       rec 9 (4 ∷ 3 ∷ 1 ∷ []) ∷ [];
   damaged = [];
   room = 65536;
-  ending = ok
+  ending = Ok
       (rec 21 (1 ∷ 2 ∷ 2 ∷ 0 ∷ 0 ∷ 0 ∷ 1 ∷ []) ∷ rec 24 (7 ∷ 0 ∷ []) ∷ rec 29 (0 ∷ 0 ∷ 0 ∷ 1 ∷ []) ∷ rec 26 (3 ∷ []) ∷ rec 27 [] ∷ rec 28 (0 ∷ []) ∷ []);
 }
 
@@ -702,7 +703,7 @@ points_differ = record {
       rec 9 (4 ∷ 3 ∷ 0 ∷ []) ∷ [];
   damaged = [];
   room = 65536;
-  ending = ok
+  ending = Ok
       (rec 21 (1 ∷ 2 ∷ 2 ∷ 0 ∷ 0 ∷ 0 ∷ 1 ∷ []) ∷ rec 24 (7 ∷ 0 ∷ []) ∷ rec 29 (0 ∷ 0 ∷ 0 ∷ 1 ∷ []) ∷ rec 26 (3 ∷ []) ∷ rec 26 (4 ∷ []) ∷ rec 27 [] ∷
       rec 28 (0 ∷ []) ∷ []);
 }
@@ -715,7 +716,7 @@ points_apart = record {
       rec 5 (0 ∷ 0 ∷ []) ∷ rec 6 (0 ∷ []) ∷ rec 4 (7 ∷ 0 ∷ 0 ∷ 0 ∷ 1 ∷ []) ∷ rec 6 (1 ∷ []) ∷ rec 5 (0 ∷ 1 ∷ []) ∷ rec 6 (2 ∷ []) ∷ rec 8 (0 ∷ 0 ∷ []) ∷ [];
   damaged = [];
   room = 65536;
-  ending = refuse 20 9;
+  ending = refuse Unanswered 9;
 }
 
 -- four edges become a ring
@@ -729,7 +730,7 @@ four_joined = record {
       rec 11 (5 ∷ 0 ∷ 1 ∷ 3 ∷ 0 ∷ []) ∷ [];
   damaged = [];
   room = 65536;
-  ending = ok
+  ending = Ok
       (rec 21 (1 ∷ 8 ∷ 0 ∷ 0 ∷ 3 ∷ 1 ∷ 0 ∷ []) ∷ rec 23 (5 ∷ 1 ∷ unset ∷ unset ∷ []) ∷ rec 24 (7 ∷ 0 ∷ []) ∷ rec 29 (0 ∷ 0 ∷ []) ∷ rec 25 (0 ∷ 1 ∷ []) ∷
       rec 24 (8 ∷ 0 ∷ []) ∷ rec 29 (0 ∷ 1 ∷ []) ∷
       rec 25 (0 ∷ 0 ∷ []) ∷ rec 27 [] ∷ rec 28 (0 ∷ 1 ∷ []) ∷ []);
@@ -748,7 +749,7 @@ pass_twice = record {
       rec 10 (13 ∷ 14 ∷ 0 ∷ []) ∷ rec 10 (14 ∷ 10 ∷ 0 ∷ []) ∷ [];
   damaged = [];
   room = 65536;
-  ending = ok
+  ending = Ok
       (rec 21 (1 ∷ 14 ∷ 4 ∷ 4 ∷ 0 ∷ 0 ∷ 2 ∷ []) ∷ rec 22 (0 ∷ []) ∷ rec 22 (1 ∷ []) ∷ rec 22 (2 ∷ []) ∷ rec 22 (3 ∷ []) ∷ rec 22 (4 ∷ []) ∷
       rec 23 (10 ∷ 0 ∷ 0 ∷ 1 ∷ []) ∷ rec 23 (11 ∷ 0 ∷ 1 ∷ 2 ∷ []) ∷ rec 23 (12 ∷ 0 ∷ 2 ∷ 3 ∷ []) ∷ rec 23 (13 ∷ 0 ∷ 3 ∷ 4 ∷ []) ∷
       rec 23 (14 ∷ 0 ∷ 4 ∷ 0 ∷ []) ∷ rec 24 (7 ∷ 0 ∷ []) ∷ rec 29 (0 ∷ 0 ∷ 0 ∷ 1 ∷ 0 ∷ 2 ∷ []) ∷ rec 25 (0 ∷ 0 ∷ 1 ∷ 0 ∷ 2 ∷ 0 ∷ 3 ∷ 0 ∷ 4 ∷ 0 ∷ []) ∷
@@ -768,7 +769,7 @@ curves_missing = record {
       rec 8 (5 ∷ 1 ∷ []) ∷ rec 8 (7 ∷ 0 ∷ []) ∷ rec 8 (8 ∷ 0 ∷ []) ∷ rec 10 (10 ∷ 11 ∷ 0 ∷ []) ∷ rec 10 (10 ∷ 14 ∷ 0 ∷ []) ∷ [];
   damaged = [];
   room = 65536;
-  ending = refuse 20 10;
+  ending = refuse Unanswered 10;
 }
 
 -- curves undecided
@@ -783,7 +784,7 @@ curves_open = record {
       rec 8 (5 ∷ 1 ∷ []) ∷ rec 8 (7 ∷ 0 ∷ []) ∷ rec 8 (8 ∷ 0 ∷ []) ∷ rec 10 (10 ∷ 14 ∷ 2 ∷ []) ∷ [];
   damaged = [];
   room = 65536;
-  ending = refuse 21 10;
+  ending = refuse AnswerUndecided 10;
 }
 
 -- an edge and a vertex without uses
@@ -794,7 +795,7 @@ unused_edge = record {
       rec 4 (8 ∷ 0 ∷ 0 ∷ 0 ∷ 1 ∷ []) ∷ rec 5 (1 ∷ 1 ∷ []) ∷ rec 8 (0 ∷ 0 ∷ []) ∷ [];
   damaged = [];
   room = 65536;
-  ending = ok
+  ending = Ok
       (rec 21 (1 ∷ 2 ∷ 0 ∷ 0 ∷ 0 ∷ 0 ∷ 0 ∷ []) ∷ rec 23 (5 ∷ 0 ∷ unset ∷ unset ∷ []) ∷ rec 24 (7 ∷ 0 ∷ []) ∷ rec 29 (0 ∷ 0 ∷ []) ∷ rec 25 (0 ∷ 0 ∷ []) ∷
       rec 24 (8 ∷ 0 ∷ []) ∷ rec 29 (0 ∷ 1 ∷ []) ∷
       rec 25 (0 ∷ 1 ∷ []) ∷ rec 27 [] ∷ rec 28 (0 ∷ 1 ∷ []) ∷ []);
@@ -808,7 +809,7 @@ vertex_loop_last = record {
       rec 4 (8 ∷ 0 ∷ 0 ∷ 0 ∷ 1 ∷ []) ∷ rec 5 (0 ∷ 1 ∷ []) ∷ rec 8 (0 ∷ 0 ∷ []) ∷ [];
   damaged = [];
   room = 65536;
-  ending = ok
+  ending = Ok
       (rec 21 (1 ∷ 2 ∷ 0 ∷ 0 ∷ 0 ∷ 0 ∷ 0 ∷ []) ∷ rec 23 (5 ∷ 0 ∷ unset ∷ unset ∷ []) ∷ rec 24 (7 ∷ 0 ∷ []) ∷ rec 29 (0 ∷ 0 ∷ []) ∷ rec 25 (0 ∷ 0 ∷ []) ∷
       rec 26 (9 ∷ []) ∷
       rec 24 (8 ∷ 0 ∷ []) ∷ rec 29 (0 ∷ 1 ∷ []) ∷ rec 25 (0 ∷ 1 ∷ []) ∷ rec 27 [] ∷ rec 28 (0 ∷ 1 ∷ []) ∷ []);
@@ -824,7 +825,7 @@ radial_again = record {
       rec 7 (0 ∷ []) ∷ [];
   damaged = [];
   room = 65536;
-  ending = refuse 7 218;
+  ending = refuse AnsweredTwice 218;
 }
 
 -- 32 comes before 33
@@ -838,7 +839,7 @@ point_before_edge = record {
       rec 11 (5 ∷ 0 ∷ 1 ∷ 4 ∷ 1 ∷ []) ∷ rec 11 (6 ∷ 2 ∷ 3 ∷ 4 ∷ 1 ∷ []) ∷ rec 12 (0 ∷ 1 ∷ []) ∷ rec 12 (2 ∷ 0 ∷ []) ∷ rec 13 (2 ∷ 0 ∷ 1 ∷ []) ∷ [];
   damaged = [];
   room = 65536;
-  ending = refuse 32 4;
+  ending = refuse FansInLump 4;
 }
 
 -- the later outer shell lies inside
@@ -854,7 +855,7 @@ inner = record {
       rec 13 (4 ∷ 0 ∷ 1 ∷ []) ∷ rec 13 (4 ∷ 2 ∷ 1 ∷ []) ∷ rec 13 (2 ∷ 0 ∷ 1 ∷ []) ∷ [];
   damaged = [];
   room = 65536;
-  ending = ok
+  ending = Ok
       (rec 21 (1 ∷ 6 ∷ 0 ∷ 0 ∷ 0 ∷ 0 ∷ 0 ∷ []) ∷ rec 23 (5 ∷ 0 ∷ unset ∷ unset ∷ []) ∷ rec 23 (6 ∷ 0 ∷ unset ∷ unset ∷ []) ∷
       rec 23 (7 ∷ 0 ∷ unset ∷ unset ∷ []) ∷ rec 24 (7 ∷ 0 ∷ []) ∷ rec 29 (0 ∷ 0 ∷ []) ∷ rec 25 (0 ∷ 0 ∷ []) ∷ rec 24 (8 ∷ 0 ∷ []) ∷ rec 29 (0 ∷ 1 ∷ []) ∷
       rec 25 (0 ∷ 1 ∷ []) ∷ rec 24 (9 ∷ 0 ∷ []) ∷ rec 29 (0 ∷ 2 ∷ []) ∷
@@ -876,7 +877,7 @@ outer_kept = record {
       rec 13 (4 ∷ 0 ∷ 1 ∷ []) ∷ rec 13 (4 ∷ 2 ∷ 1 ∷ []) ∷ rec 13 (2 ∷ 0 ∷ 0 ∷ []) ∷ [];
   damaged = [];
   room = 65536;
-  ending = ok
+  ending = Ok
       (rec 21 (1 ∷ 6 ∷ 0 ∷ 0 ∷ 0 ∷ 0 ∷ 0 ∷ []) ∷ rec 23 (5 ∷ 0 ∷ unset ∷ unset ∷ []) ∷ rec 23 (6 ∷ 0 ∷ unset ∷ unset ∷ []) ∷
       rec 23 (7 ∷ 0 ∷ unset ∷ unset ∷ []) ∷ rec 24 (7 ∷ 0 ∷ []) ∷ rec 29 (0 ∷ 0 ∷ []) ∷ rec 25 (0 ∷ 0 ∷ []) ∷ rec 24 (8 ∷ 0 ∷ []) ∷ rec 29 (0 ∷ 1 ∷ []) ∷
       rec 25 (0 ∷ 1 ∷ []) ∷ rec 24 (9 ∷ 0 ∷ []) ∷ rec 29 (0 ∷ 2 ∷ []) ∷
@@ -898,7 +899,7 @@ void_first = record {
       rec 13 (0 ∷ 2 ∷ 0 ∷ []) ∷ rec 13 (0 ∷ 4 ∷ 1 ∷ []) ∷ [];
   damaged = [];
   room = 65536;
-  ending = ok
+  ending = Ok
       (rec 21 (1 ∷ 6 ∷ 0 ∷ 0 ∷ 0 ∷ 0 ∷ 0 ∷ []) ∷ rec 23 (5 ∷ 0 ∷ unset ∷ unset ∷ []) ∷ rec 23 (6 ∷ 0 ∷ unset ∷ unset ∷ []) ∷
       rec 23 (7 ∷ 0 ∷ unset ∷ unset ∷ []) ∷ rec 24 (7 ∷ 0 ∷ []) ∷ rec 29 (0 ∷ 0 ∷ []) ∷ rec 25 (0 ∷ 0 ∷ []) ∷ rec 24 (8 ∷ 0 ∷ []) ∷ rec 29 (0 ∷ 1 ∷ []) ∷
       rec 25 (0 ∷ 1 ∷ []) ∷ rec 24 (9 ∷ 0 ∷ []) ∷ rec 29 (0 ∷ 2 ∷ []) ∷
@@ -915,7 +916,7 @@ sense_and_joint = record {
       rec 5 (0 ∷ 0 ∷ 1 ∷ 0 ∷ 0 ∷ 5 ∷ []) ∷ [];
   damaged = [];
   room = 65536;
-  ending = refuse 4 100;
+  ending = refuse FieldNotPermitted 100;
 }
 
 unfoldable pub cases : List Case

@@ -2,7 +2,8 @@
 use Rattle.std.specs.Prelude.{ℕ, List, [], ◌∷◌, map, Bool, ◌&&◌, cond, length, eqb, ltb}
 use Rattle.lists.specs.Lists.{below, keep, some, repeats, least}
 use Rattle.rules.specs.declared.Use.{Use}
-use Rattle.rules.specs.Outcome.{Outcome, ok, refuse}
+use Rattle.rules.specs.declared.Fault.{Fault}
+use Rattle.rules.specs.Outcome.{Outcome, Ok, refuse}
 use Rattle.rules.specs.Read.{face_of_use}
 use Rattle.rules.specs.Pair.{uses_of_edge, twin_of}
 use Rattle.rules.specs.Groups.{label_of}
@@ -38,14 +39,14 @@ contact_points us starts labels (f ∷ fs) =
     cond (some (touches us starts labels f) fs) (fan_point starts f ∷ later) later
 
 -- Endings: contact tests ascend by point or edge, so the lowest place is given
-abbrev pub clear : ℕ → List ℕ → Outcome (Unit {0})
-clear number [] = ok tt
-clear number (p ∷ ps) = refuse number (least (p ∷ ps) p)
+abbrev pub clear : Fault → List ℕ → Outcome (Unit {0})
+clear fault [] = Ok tt
+clear fault (p ∷ ps) = refuse fault (least (p ∷ ps) p)
 
 -- Endings, 30 and 33: edges ascending
-abbrev pub edges_clear : ℕ → List Use → List ℕ → List ℕ → ℕ → Outcome (Unit {0})
-edges_clear number us ts labels edges = clear number (keep (edge_touches us ts labels) (below edges))
+abbrev pub edges_clear : Fault → List Use → List ℕ → List ℕ → ℕ → Outcome (Unit {0})
+edges_clear fault us ts labels edges = clear fault (keep (edge_touches us ts labels) (below edges))
 
 -- Endings, 31 and 32: points ascending
-abbrev pub points_clear : ℕ → List Use → List ℕ → List ℕ → List ℕ → Outcome (Unit {0})
-points_clear number us starts labels names = clear number (contact_points us starts labels names)
+abbrev pub points_clear : Fault → List Use → List ℕ → List ℕ → List ℕ → Outcome (Unit {0})
+points_clear fault us starts labels names = clear fault (contact_points us starts labels names)

@@ -6,7 +6,7 @@ use Rattle.rules.specs.declared.Sense.{Sense}
 use Rattle.rules.specs.declared.Sense.TheVariants.{Same, Reversed}
 use Rattle.rules.specs.declared.Item.{Item}
 use Rattle.rules.specs.declared.EdgeData.{EdgeData}
-use Rattle.rules.specs.Outcome.{Outcome, ok, ◌>>=◌}
+use Rattle.rules.specs.Outcome.{Outcome, Ok, ◌>>=◌}
 use Rattle.rules.specs.Sense.{reverse}
 use Rattle.rules.specs.Job.{unset, Answer}
 use Rattle.rules.specs.Questions.{ask_yes, ask_same}
@@ -173,11 +173,11 @@ singular answers e point = ask_yes answers 11 (e.curve ∷ (e.faces ++ (point �
 -- a question that is put where a test holds; else the answer is no
 abbrev pub only_if : Bool → Outcome Bool → Outcome Bool
 only_if true question = question
-only_if false question = ok false
+only_if false question = Ok false
 
 -- Joining: one edge becomes a ring unless singular
 abbrev pub not_singular : List Answer → EdgeData → ℕ → Outcome Bool
-not_singular answers e point = singular answers e point >>= λ yes. ok (not yes)
+not_singular answers e point = singular answers e point >>= λ yes. Ok (not yes)
 
 -- Joining: two edges need equal face pairs, then same curve, then not singular for the first
 unfoldable pub may_join : List Answer → EdgeData → EdgeData → ℕ → Outcome Bool
@@ -194,30 +194,30 @@ pub data Tried : Type 0 where
 
 -- a change where the question is answered yes
 abbrev pub changed_if : Outcome Bool → Joining → Outcome Tried
-changed_if question s = question >>= λ yes. ok (cond yes (changed s) unchanged)
+changed_if question s = question >>= λ yes. Ok (cond yes (changed s) unchanged)
 
 -- Joining: corner v, at its point, with its active edge ends; lower edge first
 unfoldable pub at_corner : List Answer → ℕ → Joining → ℕ → List ℕ → Outcome Tried
-at_corner answers point s v [] = ok unchanged
-at_corner answers point s v (a ∷ []) = ok unchanged
+at_corner answers point s v [] = Ok unchanged
+at_corner answers point s v (a ∷ []) = Ok unchanged
 at_corner answers point s v (a ∷ b ∷ []) =
     let first = edge_data_at s.edges a in
     let second = edge_data_at s.edges b in
     let ring = changed_if (not_singular answers first point) (ring_at s a) in
     let join = changed_if (may_join answers first second point) (join_at s v a b) in
     cond (eqb a b) ring join
-at_corner answers point s v (a ∷ b ∷ c ∷ more) = ok unchanged
+at_corner answers point s v (a ∷ b ∷ c ∷ more) = Ok unchanged
 
 -- SWEEPS
 
 -- Joining: the sweep stops at its first change
 abbrev pub or_else : Tried → Outcome Tried → Outcome Tried
 or_else unchanged later = later
-or_else (changed s) later = ok (changed s)
+or_else (changed s) later = Ok (changed s)
 
 -- Joining: the sweep over the fans, ascending
 unfoldable pub sweep : List Answer → List ℕ → Joining → List ℕ → Outcome Tried
-sweep answers starts s [] = ok unchanged
+sweep answers starts s [] = Ok unchanged
 sweep answers starts s (v ∷ vs) =
     at_corner answers (fan_point starts v) s v (ends_at s.edges v) >>= λ t.
     let later = sweep answers starts s vs in
@@ -225,12 +225,12 @@ sweep answers starts s (v ∷ vs) =
 
 -- Joining: after a change it begins afresh
 abbrev pub after_sweep : Tried → Joining → (Joining → Outcome Joining) → Outcome Joining
-after_sweep unchanged s again = ok s
+after_sweep unchanged s again = Ok s
 after_sweep (changed next) s again = again next
 
 -- Joining: at most so many changes
 unfoldable pub maximal_edges : List Answer → List ℕ → List ℕ → ℕ → Joining → Outcome Joining
-maximal_edges answers starts names zero s = ok s
+maximal_edges answers starts names zero s = Ok s
 maximal_edges answers starts names (suc most) s =
     sweep answers starts s names >>= λ t. after_sweep t s (maximal_edges answers starts names most)
 

@@ -1,7 +1,7 @@
 -- The listing: a line per record, or the refusal, as text in ASCII.
 use Rattle.std.specs.Prelude.{ℕ, zero, suc, ◌+◌, ◌-◌, ◌/◌, ◌%◌, cond, get_or, drop, take, eqb, ltb}
 use mathlib.Core.List.{List, [], ◌∷◌, ◌++◌, flat_map}
-use Rattle.rules.specs.Outcome.{Outcome, ok, refuse, ◌>>=◌}
+use Rattle.rules.specs.Outcome.{Outcome, Ok, ◌>>=◌, Err, fault_number}
 use Rattle.rules.specs.Frame.{Record, framed_all}
 use Rattle.rules.specs.Job.{unset}
 use Rattle.rules.specs.Load.{loaded}
@@ -61,16 +61,20 @@ fields_text r =
 abbrev pub line_of : Record → List ℕ
 line_of r = word_of r.kind ++ (fields_text r ++ (10 ∷ []))
 
--- Listing: the lines of the records, or `refused` with number and place
+-- Listing: `refused` with number and place
+abbrev pub refusal_line : ℕ → ℕ → List ℕ
+refusal_line number place = refused_word ++ (field_text number ++ (field_text place ++ (10 ∷ [])))
+
+-- Listing: the lines of the records, or that of the refusal
 abbrev pub listing_of : Outcome (List Record) → List ℕ
-listing_of (ok rs) = flat_map line_of rs
-listing_of (refuse number place) = refused_word ++ (field_text number ++ (field_text place ++ (10 ∷ [])))
+listing_of (Ok rs) = flat_map line_of rs
+listing_of (Err refusal) = refusal_line (fault_number refusal.fault) refusal.place
 
 -- the records of a job's body where they fit an output of so many bytes
 unfoldable pub sewn_records : Rules → List ℕ → ℕ → Outcome (List Record)
 sewn_records rules job room = loaded job >>= λ j. rebuild rules j >>= λ b.
     fitting room (framed_all (body_records b)) >>= λ _.
-    ok (body_records b)
+    Ok (body_records b)
 
 -- Listing: a program lends 65,536 bytes for the body
 abbrev pub listing : Rules → List ℕ → List ℕ

@@ -1,18 +1,19 @@
 -- Loading: refusals 1 to 7 and 45 in their order, the job that the bytes hold, and the loop request.
-use Rattle.std.specs.Prelude.{ℕ, ◌+◌, ◌*◌, ◌-◌, ◌/◌, List, [], ◌∷◌, ◌++◌, Bool, true, false, ◌&&◌, ◌||◌, not, cond, length, get_or, take, drop, eqb, ltb, leb}
+use Rattle.std.specs.Prelude.{ℕ, ◌+◌, ◌*◌, ◌-◌, ◌/◌, List, [], ◌∷◌, ◌++◌, Bool, true, false, ◌&&◌, ◌||◌, not, cond, length, get_or, take, drop, eqb, ltb, leb, is_some}
 use Rattle.lists.specs.Lists.{Neighbours, neighbours, all, some}
 use Rattle.rules.specs.declared.Kind.{Kind}
 use Rattle.rules.specs.declared.Counts.{Counts}
 use Rattle.rules.specs.declared.Edge.{Edge}
 use Rattle.rules.specs.declared.Face.{Face}
 use Rattle.rules.specs.declared.Item.{Item}
-use Rattle.rules.specs.Outcome.{Outcome, ok, refuse, ◌>>=◌, need, throughout}
+use Rattle.rules.specs.Outcome.{Outcome, Ok, ◌>>=◌, need, throughout, Err}
 use Rattle.rules.specs.Sense.{sense_of}
 use Rattle.rules.specs.Fields.{field}
 use Rattle.rules.specs.Frame.{Frame, frames}
 use Rattle.rules.specs.Job.{of_items, at_vertex, Loop, Stretch, Answer, Job, of_ring, start_point, end_point, items_of}
-use Rattle.rules.specs.Questions.{find, is_found}
+use Rattle.rules.specs.Questions.{find}
 use Rattle.rules.specs.Kinds.{kind_of, number_of, is_loop, is_answer, right_length, part_of, right_position, limit_passed, fields_permitted, question_length, question_of}
+use Rattle.rules.specs.declared.Fault.TheVariants.{TooLong, CutShort, Misplaced, FieldNotPermitted, LimitPassed, LoopJoints, AnsweredTwice, SelectedTwice}
 
 -- JOINTS
 
@@ -101,7 +102,7 @@ selected_before k faces x = eqb (number_of k) 4 && some (same_source (face_of x)
 
 -- Endings, 7: the question is answered before
 unfoldable pub answered_before : Kind → List Answer → List ℕ → Bool
-answered_before k answers x = is_answer k && is_found (find answers (number_of k) (question_of k x))
+answered_before k answers x = is_answer k && is_some (find answers (number_of k) (question_of k x))
 
 -- Endings, load, each record in this order: 2, 3, 5, 4, document 02's 45, 6, 7 at the record's first byte; else it is taken
 unfoldable pub load_record : Frame → Loading → Outcome Loading
@@ -110,14 +111,14 @@ load_record f s =
     let c = s.counts in
     let j = s.job in
     let x = f.fields in
-    need f.whole 2 f.at
-    (need (right_length k f.size && right_position k c.part) 3 f.at
-    (need (not (limit_passed k c (length x))) 5 f.at
-    (need (fields_permitted k c x) 4 f.at
-    (need (not (selected_before k j.faces x)) 45 f.at
-    (need (right_joints k j.points j.edges x) 6 f.at
-    (need (not (answered_before k j.answers x)) 7 f.at
-    (ok (record { counts = counted k (length x) c; job = extended k f.at x j }))))))))
+    need f.whole CutShort f.at
+    (need (right_length k f.size && right_position k c.part) Misplaced f.at
+    (need (not (limit_passed k c (length x))) LimitPassed f.at
+    (need (fields_permitted k c x) FieldNotPermitted f.at
+    (need (not (selected_before k j.faces x)) SelectedTwice f.at
+    (need (right_joints k j.points j.edges x) LoopJoints f.at
+    (need (not (answered_before k j.answers x)) AnsweredTwice f.at
+    (Ok (record { counts = counted k (length x) c; job = extended k f.at x j }))))))))
 
 -- ALL RECORDS
 
@@ -135,13 +136,13 @@ nothing_loaded = record { counts = no_counts; job = no_job }
 unfoldable pub loading : List ℕ → Outcome Loading
 loading job =
     let records = throughout load_record (frames job) nothing_loaded in
-    need (leb (length job) 65536) 1 65536
-    (need (ltb 0 (length job)) 3 0
+    need (leb (length job) 65536) TooLong 65536
+    (need (ltb 0 (length job)) Misplaced 0
     records)
 
 -- Job records: the job that the bytes hold
 abbrev pub loaded : List ℕ → Outcome Job
-loaded job = loading job >>= λ s. ok s.job
+loaded job = loading job >>= λ s. Ok s.job
 
 -- THE LOOP REQUEST
 
@@ -150,9 +151,9 @@ no_stretch = record { start = 0; size = 0 }
 
 -- Job records, loop request: loop n among kinds 5 and 6; after load refusals, a number too high gives 4 with that number
 unfoldable pub requested : List ℕ → ℕ → Outcome Stretch
-requested job n = loaded job >>= λ j. need (ltb n (length j.stretches)) 4 n (ok (get_or j.stretches n no_stretch))
+requested job n = loaded job >>= λ j. need (ltb n (length j.stretches)) FieldNotPermitted n (Ok (get_or j.stretches n no_stretch))
 
 -- Job records, loop request: the stretch of the job's own bytes; a refused request shows an empty one
 abbrev pub shown : List ℕ → Outcome Stretch → List ℕ
-shown job (ok s) = take s.size (drop s.start job)
-shown job (refuse number place) = []
+shown job (Ok s) = take s.size (drop s.start job)
+shown job (Err refusal) = []

@@ -6,7 +6,7 @@ use Rattle.rules.specs.declared.Face.{Face}
 use Rattle.rules.specs.declared.Use.{Use}
 use Rattle.rules.specs.declared.SurfaceAnswer.{SurfaceAnswer}
 use Rattle.rules.specs.declared.SurfaceAnswer.TheVariants.{Different, Agreeing, Opposed, Vanishing, Undecided}
-use Rattle.rules.specs.Outcome.{Outcome, ok, refuse, ◌>>=◌, throughout}
+use Rattle.rules.specs.Outcome.{Outcome, Ok, refuse, ◌>>=◌, throughout}
 use Rattle.rules.specs.Sense.{same_sense}
 use Rattle.rules.specs.Job.{Answer, face_at}
 use Rattle.rules.specs.Questions.{surface_answer, ask}
@@ -14,6 +14,7 @@ use Rattle.rules.specs.Read.{face_of_use, stored_sense}
 use Rattle.rules.specs.Groups.{alone, label_of, joined, Grouping, join_groups, group_numbers}
 use Rattle.rules.specs.Pair.{twin_of}
 use Rattle.rules.specs.Rules.{Table}
+use Rattle.rules.specs.declared.Fault.TheVariants.{AnswerUndecided, NormalsVanish}
 
 -- the selected face of a use's twin
 abbrev pub other_face : List Use → List ℕ → ℕ → ℕ
@@ -29,11 +30,11 @@ boundaries us ts faces = foldl (boundary_step us ts) (alone faces) (below (lengt
 
 -- Merging: whether an answer joins the groups, by whether the stored senses are equal; 21 where it is undecided, 22 where normals vanish
 unfoldable pub joins_faces : Table → Bool → SurfaceAnswer → Outcome Bool
-joins_faces t equal Different = ok false
-joins_faces t equal Agreeing = ok (cond equal t.agreeing_equal t.agreeing_different)
-joins_faces t equal Opposed = ok (cond equal t.opposed_equal t.opposed_different)
-joins_faces t equal Vanishing = refuse 22 8
-joins_faces t equal Undecided = refuse 21 8
+joins_faces t equal Different = Ok false
+joins_faces t equal Agreeing = Ok (cond equal t.agreeing_equal t.agreeing_different)
+joins_faces t equal Opposed = Ok (cond equal t.opposed_equal t.opposed_different)
+joins_faces t equal Vanishing = refuse NormalsVanish 8
+joins_faces t equal Undecided = refuse AnswerUndecided 8
 
 -- stored senses of a use's face and its twin's are equal
 abbrev pub equal_senses : List Face → List Use → List ℕ → ℕ → Bool
@@ -43,7 +44,7 @@ equal_senses fs us ts h = same_sense (stored_sense (face_at fs (face_of_use us h
 unfoldable pub surface_step : Table → List Answer → List Face → List Use → List ℕ → ℕ → Grouping → Outcome Grouping
 surface_step t answers fs us ts h g = ask answers 8 (h ∷ []) >>= λ v.
     joins_faces t (equal_senses fs us ts h) (surface_answer v) >>= λ yes.
-    ok (cond yes (join_groups g (face_of_use us h) (other_face us ts h)) g)
+    Ok (cond yes (join_groups g (face_of_use us h) (other_face us ts h)) g)
 
 -- Merging: no question for the higher use of a pair; skipped when both uses are on one selected face
 abbrev pub unasked : List Use → List ℕ → ℕ → Bool
@@ -52,7 +53,7 @@ unasked us ts h = leb (twin_of ts h) h || eqb (face_of_use us h) (other_face us 
 unfoldable pub merge_step : Table → List Answer → List Face → List Use → List ℕ → ℕ → Grouping → Outcome Grouping
 merge_step t answers fs us ts h g =
     let put = surface_step t answers fs us ts h g in
-    cond (unasked us ts h) (ok g) put
+    cond (unasked us ts h) (Ok g) put
 
 -- each of n faces in a group of its own
 abbrev pub ungrouped : ℕ → Grouping
@@ -84,7 +85,7 @@ pub record Merged : Type 0 where
 -- Merging, whole
 unfoldable pub merge_faces : Table → List Answer → List Face → List Use → List ℕ → Outcome Merged
 merge_faces t answers fs us ts = merged_groups t answers fs us ts >>= λ g.
-    ok (record { boundaries = boundaries us ts (length fs); groups = g.groups; joins = g.joins; removed = removed_uses us ts g.groups })
+    Ok (record { boundaries = boundaries us ts (length fs); groups = g.groups; joins = g.joins; removed = removed_uses us ts g.groups })
 
 -- Merging: merged groups are the merged faces, by ascending lowest member; the merged face of each selected face
 abbrev pub merged_faces : Merged → List ℕ

@@ -2,11 +2,12 @@
 use Rattle.std.specs.Prelude.{ℕ, ◌%◌, List, [], ◌∷◌, Bool, ◌&&◌, not, cond, length, get_or, set, replicate, eqb}
 use Rattle.lists.specs.Lists.{below, has, all, positions, index_of}
 use Rattle.rules.specs.declared.Use.{Use}
-use Rattle.rules.specs.Outcome.{Outcome, ok, refuse, ◌>>=◌, need, throughout}
+use Rattle.rules.specs.Outcome.{Outcome, Ok, refuse, ◌>>=◌, need, throughout}
 use Rattle.rules.specs.Sense.{same_sense, is_same}
 use Rattle.rules.specs.Job.{unset, Answer}
 use Rattle.rules.specs.Questions.{ask_radial}
 use Rattle.rules.specs.Read.{use_at}
+use Rattle.rules.specs.declared.Fault.TheVariants.{EqualSenses, OddUses, SamePredecessor, NoTwin, NotRound}
 
 -- a use is of edge e
 abbrev pub on_edge : ℕ → Use → Bool
@@ -30,7 +31,7 @@ same_use us h = is_same (use_at us h).sense
 
 -- Pairing: two opposite uses are twins; 10 where their senses are equal
 unfoldable pub pair_two : List Use → ℕ → ℕ → ℕ → List ℕ → Outcome (List ℕ)
-pair_two us e a b ts = need (not (same_sense (use_at us a).sense (use_at us b).sense)) 10 e (ok (twinned ts a b))
+pair_two us e a b ts = need (not (same_sense (use_at us a).sense (use_at us b).sense)) EqualSenses e (Ok (twinned ts a b))
 
 -- Endings, 23: the radial list is each use of the edge once
 unfoldable pub each_once : List ℕ → List ℕ → Bool
@@ -40,12 +41,12 @@ each_once uses order = eqb (length order) (length uses) && all (λ h. has h orde
 unfoldable pub take_predecessor : List Use → ℕ → ℕ → ℕ → List ℕ → Outcome (List ℕ)
 take_predecessor us e p h ts =
     cond (same_use us h)
-    (need (not (same_use us p)) 12 e (ok (twinned ts h p)))
-    (ok ts)
+    (need (not (same_use us p)) SamePredecessor e (Ok (twinned ts h p)))
+    (Ok ts)
 
 -- the uses round the edge, in order, the first of them preceded by p
 unfoldable pub take_predecessors : List Use → ℕ → ℕ → List ℕ → List ℕ → Outcome (List ℕ)
-take_predecessors us e p [] ts = ok ts
+take_predecessors us e p [] ts = Ok ts
 take_predecessors us e p (h ∷ hs) ts = take_predecessor us e p h ts >>= take_predecessors us e h hs
 
 -- the last of a list
@@ -56,17 +57,17 @@ last_of x (y ∷ ys) = last_of y ys
 -- Pairing: for four or more, each Same use takes its predecessor in the radial order, cyclically; 20, 21, 23, 12
 unfoldable pub pair_round : List Answer → List Use → ℕ → List ℕ → List ℕ → Outcome (List ℕ)
 pair_round answers us e uses ts = ask_radial answers e >>= λ order.
-    need (each_once uses order) 23 e (take_predecessors us e (last_of 0 order) order ts)
+    need (each_once uses order) NotRound e (take_predecessors us e (last_of 0 order) order ts)
 
 -- Pairing, by the number of uses of the edge: none, one (11), two, an odd number (11), four or more
 unfoldable pub pair_uses : List Answer → List Use → ℕ → List ℕ → List ℕ → Outcome (List ℕ)
-pair_uses answers us e [] ts = ok ts
-pair_uses answers us e (a ∷ []) ts = refuse 11 e
+pair_uses answers us e [] ts = Ok ts
+pair_uses answers us e (a ∷ []) ts = refuse OddUses e
 pair_uses answers us e (a ∷ b ∷ []) ts = pair_two us e a b ts
 pair_uses answers us e (a ∷ b ∷ c ∷ more) ts =
     let uses = a ∷ b ∷ c ∷ more in
     let round = pair_round answers us e uses ts in
-    need (eqb (length uses % 2) 0) 11 e round
+    need (eqb (length uses % 2) 0) OddUses e round
 
 -- Pairing: one edge
 abbrev pub pair_edge : List Answer → List Use → ℕ → List ℕ → Outcome (List ℕ)
@@ -74,7 +75,7 @@ pair_edge answers us e ts = pair_uses answers us e (uses_of_edge us e) ts
 
 -- Endings, 13: after all edges, the lowest use without twin
 unfoldable pub complete : List ℕ → Outcome (List ℕ)
-complete ts = need (not (has unset ts)) 13 (index_of unset ts) (ok ts)
+complete ts = need (not (has unset ts)) NoTwin (index_of unset ts) (Ok ts)
 
 -- Pairing: edges ascending, all twins unset at first
 unfoldable pub pair : List Answer → List Use → ℕ → Outcome (List ℕ)

@@ -1,18 +1,19 @@
 -- Document 01's drawn parts P1 to P9 as one tabulated fact.
 use Rattle.std.specs.Prelude.{◌≡◌, refl, List, [], ◌∷◌, ◌++◌, true, ℕ}
 use Rattle.lists.specs.Lists.{all}
-use Rattle.rules.specs.Outcome.{ok, refuse}
+use Rattle.rules.specs.Outcome.{Ok, refuse}
 use Rattle.rules.specs.Frame.{Record}
 use Rattle.rules.specs.Job.{unset}
 use Rattle.rules.specs.Body.{rec}
 use Rattle.rules.specs.Tables.{Row, same_records, right}
 use Rattle.rules.specs.Open.{computes}
+use Rattle.rules.specs.declared.Fault.TheVariants.{LoopJoints, EqualSenses, OddUses}
 
 -- Head only
 unfoldable pub P1 : Row
 P1 = record {
   job = rec 1 (0 ∷ []) ∷ [];
-  ending = ok (rec 21 (0 ∷ 0 ∷ 0 ∷ 0 ∷ 0 ∷ 0 ∷ 0 ∷ []) ∷ []);
+  ending = Ok (rec 21 (0 ∷ 0 ∷ 0 ∷ 0 ∷ 0 ∷ 0 ∷ 0 ∷ []) ∷ []);
 }
 
 -- two faces on one ring, used Same then in the given sense
@@ -27,7 +28,7 @@ ring_job second =
 unfoldable pub P2 : Row
 P2 = record {
   job = ring_job 1 ++ (rec 8 (0 ∷ 0 ∷ []) ∷ []);
-  ending = ok
+  ending = Ok
       (rec 21 (1 ∷ 2 ∷ 0 ∷ 0 ∷ 0 ∷ 0 ∷ 0 ∷ []) ∷
       rec 23 (5 ∷ 0 ∷ unset ∷ unset ∷ []) ∷
       rec 24 (7 ∷ 0 ∷ []) ∷ rec 29 (0 ∷ 0 ∷ []) ∷ rec 25 (0 ∷ 0 ∷ []) ∷
@@ -39,25 +40,25 @@ P2 = record {
 unfoldable pub P3 : Row
 P3 = record {
   job = ring_job 1 ++ (rec 8 (0 ∷ 1 ∷ []) ∷ []);
-  ending = ok (rec 21 (1 ∷ 2 ∷ 2 ∷ 0 ∷ 0 ∷ 0 ∷ 1 ∷ []) ∷ rec 24 (7 ∷ 0 ∷ []) ∷ rec 29 (0 ∷ 0 ∷ 0 ∷ 1 ∷ []) ∷ rec 27 [] ∷ rec 28 (0 ∷ []) ∷ []);
+  ending = Ok (rec 21 (1 ∷ 2 ∷ 2 ∷ 0 ∷ 0 ∷ 0 ∷ 1 ∷ []) ∷ rec 24 (7 ∷ 0 ∷ []) ∷ rec 29 (0 ∷ 0 ∷ 0 ∷ 1 ∷ []) ∷ rec 27 [] ∷ rec 28 (0 ∷ []) ∷ []);
 }
 
 -- both uses Same
 unfoldable pub P4 : Row
-P4 = record { job = ring_job 0; ending = refuse 10 0 }
+P4 = record { job = ring_job 0; ending = refuse EqualSenses 0 }
 
 -- one use
 unfoldable pub P5 : Row
 P5 = record {
   job = rec 1 (1 ∷ []) ∷ rec 3 (5 ∷ 0 ∷ unset ∷ unset ∷ []) ∷ rec 4 (7 ∷ 0 ∷ 0 ∷ 0 ∷ 0 ∷ []) ∷ rec 5 (0 ∷ 0 ∷ []) ∷ [];
-  ending = refuse 11 0;
+  ending = refuse OddUses 0;
 }
 
 -- a ring with a second use in its loop
 unfoldable pub P6 : Row
 P6 = record {
   job = rec 1 (1 ∷ []) ∷ rec 3 (5 ∷ 0 ∷ unset ∷ unset ∷ []) ∷ rec 4 (7 ∷ 0 ∷ 0 ∷ 0 ∷ 0 ∷ []) ∷ rec 5 (0 ∷ 0 ∷ 0 ∷ 1 ∷ []) ∷ [];
-  ending = refuse 6 58;
+  ending = refuse LoopJoints 58;
 }
 
 -- two edges between two vertices, two faces, all answers 0 but whether point 0 is singular
@@ -75,7 +76,7 @@ lens_job singular =
 unfoldable pub P7 : Row
 P7 = record {
   job = lens_job 0;
-  ending = ok
+  ending = Ok
       (rec 21 (1 ∷ 4 ∷ 0 ∷ 0 ∷ 1 ∷ 1 ∷ 0 ∷ []) ∷
       rec 23 (5 ∷ 1 ∷ unset ∷ unset ∷ []) ∷
       rec 24 (7 ∷ 0 ∷ []) ∷ rec 29 (0 ∷ 0 ∷ []) ∷ rec 25 (0 ∷ 1 ∷ []) ∷
@@ -87,7 +88,7 @@ P7 = record {
 unfoldable pub P8 : Row
 P8 = record {
   job = lens_job 1;
-  ending = ok
+  ending = Ok
       (rec 21 (1 ∷ 4 ∷ 0 ∷ 0 ∷ 1 ∷ 0 ∷ 0 ∷ []) ∷
       rec 22 (0 ∷ []) ∷
       rec 23 (5 ∷ 0 ∷ 0 ∷ 0 ∷ []) ∷
@@ -108,7 +109,7 @@ P9 = record {
       rec 4 (8 ∷ 0 ∷ 0 ∷ 0 ∷ 2 ∷ []) ∷ rec 5 (1 ∷ 1 ∷ 0 ∷ 1 ∷ []) ∷
       rec 8 (0 ∷ 0 ∷ []) ∷ rec 8 (1 ∷ 1 ∷ []) ∷ rec 8 (3 ∷ 0 ∷ []) ∷
       rec 10 (5 ∷ 6 ∷ 0 ∷ []) ∷ [];
-  ending = ok
+  ending = Ok
       (rec 21 (1 ∷ 6 ∷ 2 ∷ 2 ∷ 0 ∷ 0 ∷ 1 ∷ []) ∷
       rec 22 (0 ∷ []) ∷ rec 22 (1 ∷ []) ∷
       rec 23 (5 ∷ 0 ∷ 0 ∷ 1 ∷ []) ∷ rec 23 (6 ∷ 0 ∷ 1 ∷ 0 ∷ []) ∷

@@ -1,34 +1,25 @@
 -- Questions and their answers: refusals 20, 21 and the values.
-use Rattle.std.specs.Prelude.{ℕ, List, [], ◌∷◌, Bool, true, false, ◌&&◌, cond, eqb, leb}
+use Rattle.std.specs.Prelude.{ℕ, List, [], ◌∷◌, Bool, true, false, ◌&&◌, cond, eqb, leb, Option, Some, None, is_some}
 use Rattle.lists.specs.Lists.{same}
 use Rattle.rules.specs.declared.SurfaceAnswer.{SurfaceAnswer}
 use Rattle.rules.specs.declared.SurfaceAnswer.TheVariants.{Different, Agreeing, Opposed, Vanishing, Undecided as SurfaceUndecided}
 use Rattle.rules.specs.declared.Verdict.{Verdict}
 use Rattle.rules.specs.declared.Verdict.TheVariants.{No, Yes, Undecided}
-use Rattle.rules.specs.Outcome.{Outcome, ok, refuse, ◌>>=◌}
+use Rattle.rules.specs.Outcome.{Outcome, Ok, refuse, ◌>>=◌}
 use Rattle.rules.specs.Fields.{field}
 use Rattle.rules.specs.Job.{Answer}
+use Rattle.rules.specs.declared.Fault.TheVariants.{Unanswered, AnswerUndecided}
 
 -- Job records: kinds 9 and 10 have no order of their two
 abbrev pub unordered : ℕ → ℕ → List ℕ
 unordered a b = cond (leb a b) (a ∷ b ∷ []) (b ∷ a ∷ [])
 
--- what is on record for a question: nothing, or the fields of its answer
-pub data Found : Type 0 where
-  missing : Found
-  found : List ℕ → Found
-
--- the answer to a question of a kind
-unfoldable pub find : List Answer → ℕ → List ℕ → Found
-find [] kind question = missing
+-- what is on record for a question of a kind: nothing, or the fields of its answer
+unfoldable pub find : List Answer → ℕ → List ℕ → Option (List ℕ)
+find [] kind question = None
 find (a ∷ more) kind question =
     let later = find more kind question in
-    cond (eqb a.kind kind && same a.question question) (found a.value) later
-
--- a question has an answer, as a test
-abbrev pub is_found : Found → Bool
-is_found missing = false
-is_found (found v) = true
+    cond (eqb a.kind kind && same a.question question) (Some a.value) later
 
 -- THE ANSWERS BY NUMBER
 
@@ -71,9 +62,9 @@ verdict v = numbered verdict_number (No ∷ Yes ∷ []) Undecided v
 -- THE QUESTIONS PUT
 
 -- Endings, 20, kinds 8 to 13: no record answers it, else the value on record
-unfoldable pub on_record : ℕ → Found → Outcome ℕ
-on_record kind missing = refuse 20 kind
-on_record kind (found v) = ok (field v 0)
+unfoldable pub on_record : ℕ → Option (List ℕ) → Outcome ℕ
+on_record kind None = refuse Unanswered kind
+on_record kind (Some v) = Ok (field v 0)
 
 -- a question of kinds 8 to 13 is put
 abbrev pub ask : List Answer → ℕ → List ℕ → Outcome ℕ
@@ -81,9 +72,9 @@ ask answers kind question = on_record kind (find answers kind question)
 
 -- Endings, 21, kinds 9 to 13: the answer is undecided, else yes or no
 unfoldable pub decided : ℕ → Verdict → Outcome Bool
-decided kind No = ok false
-decided kind Yes = ok true
-decided kind Undecided = refuse 21 kind
+decided kind No = Ok false
+decided kind Yes = Ok true
+decided kind Undecided = refuse AnswerUndecided kind
 
 -- a question of kinds 9 to 13 is put
 abbrev pub ask_yes : List Answer → ℕ → List ℕ → Outcome Bool
@@ -93,13 +84,13 @@ ask_yes answers kind question = ask answers kind question >>= λ v. decided kind
 unfoldable pub ask_same : List Answer → ℕ → ℕ → ℕ → Outcome Bool
 ask_same answers kind a b =
     let put = ask_yes answers kind (unordered a b) in
-    cond (eqb a b) (ok true) put
+    cond (eqb a b) (Ok true) put
 
 -- Endings, 20 and 21, kind 7: none means undecided
-unfoldable pub ordered : Found → Outcome (List ℕ)
-ordered missing = refuse 20 7
-ordered (found []) = refuse 21 7
-ordered (found (h ∷ hs)) = ok (h ∷ hs)
+unfoldable pub ordered : Option (List ℕ) → Outcome (List ℕ)
+ordered None = refuse Unanswered 7
+ordered (Some []) = refuse AnswerUndecided 7
+ordered (Some (h ∷ hs)) = Ok (h ∷ hs)
 
 -- kind 7: the uses of an edge in order round it
 abbrev pub ask_radial : List Answer → ℕ → Outcome (List ℕ)

@@ -3,9 +3,7 @@ use Rattle.std.specs.Prelude.{ℕ, ◌≡◌, List, ◌++◌, true, cond, length
 use Rattle.lists.specs.Lists.{keep, sum_of}
 use Rattle.rules.specs.declared.Use.{Use}
 use Rattle.rules.specs.declared.KeptVertexLoop.{KeptVertexLoop}
-use Rattle.rules.specs.declared.Ending.{Ending}
-use Rattle.rules.specs.declared.Ending.TheVariants.{Written, Refused}
-use Rattle.rules.specs.Outcome.{Outcome, ok, refuse, ◌>>=◌, need}
+use Rattle.rules.specs.Outcome.{Outcome, Ok, ◌>>=◌, need, Err}
 use Rattle.rules.specs.Frame.{framed_all}
 use Rattle.rules.specs.Job.{Job}
 use Rattle.rules.specs.Load.{loaded}
@@ -22,6 +20,7 @@ use Rattle.rules.specs.Edges.{edges_of, face_loops}
 use Rattle.rules.specs.Join.{Joining, maximal_edges, allowed}
 use Rattle.rules.specs.Shells.{Shell, all_shell_faces, shells, Nested, nested, lumps, lump_labels}
 use Rattle.rules.specs.Body.{Totals, Body, empty_body, solid_body, body_records}
+use Rattle.rules.specs.declared.Fault.TheVariants.{PairsInBoundary, FansInBoundary, FansInLump, PairsInLump, NoRoom}
 
 -- THROUGH THE WALKS
 
@@ -56,7 +55,7 @@ walked rules j =
     pair j.answers us (length j.edges) >>= λ ts.
     merge_faces rules.table j.answers j.faces us ts >>= λ m.
     vertex_loops j.answers j.points (merged_faces m) j.loops >>= λ ks.
-    ok (walks_of us ts m ks)
+    Ok (walks_of us ts m ks)
 
 -- THROUGH JOINING
 
@@ -80,8 +79,8 @@ fans_of j w =
 -- The stages: contact test 30, then fans
 unfoldable pub fanned : Rules → Job → Outcome Fanned
 fanned rules j = walked rules j >>= λ w.
-    edges_clear 30 w.uses w.twins w.merge.boundaries (length j.edges) >>= λ _.
-    ok (fans_of j w)
+    edges_clear PairsInBoundary w.uses w.twins w.merge.boundaries (length j.edges) >>= λ _.
+    Ok (fans_of j w)
 
 -- the edges and loops before any change
 unfoldable pub unjoined : Job → Fanned → Joining
@@ -103,15 +102,15 @@ pub record Joined : Type 0 where
 -- The stages: contact test 31, then edges
 unfoldable pub edged : Rules → Job → Outcome Joined
 edged rules j = fanned rules j >>= λ f.
-    points_clear 31 f.walk.uses f.starts f.walk.merge.boundaries f.names >>= λ _.
-    ok (record { fan = f; joining = unjoined j f })
+    points_clear FansInBoundary f.walk.uses f.starts f.walk.merge.boundaries f.names >>= λ _.
+    Ok (record { fan = f; joining = unjoined j f })
 
 -- The stages: joining
 unfoldable pub through_joining : Rules → Job → Outcome Joined
 through_joining rules j = edged rules j >>= λ x.
     let f = x.fan in
     maximal_edges j.answers f.starts f.names (allowed rules.changes f.names) x.joining >>= λ s.
-    ok (record { fan = f; joining = s })
+    Ok (record { fan = f; joining = s })
 
 -- SHELLS AND THE BODY
 
@@ -124,8 +123,8 @@ unfoldable pub lumps_clear : Job → Fanned → List Nested → Outcome (Unit {0
 lumps_clear j f ns =
     let w = f.walk in
     let labels = lump_labels w.merge.boundaries ns in
-    points_clear 32 w.uses f.starts labels f.names >>= λ _.
-    edges_clear 33 w.uses w.twins labels (length j.edges)
+    points_clear FansInLump w.uses f.starts labels f.names >>= λ _.
+    edges_clear PairsInLump w.uses w.twins labels (length j.edges)
 
 -- Body records, 21: passed in total, summed over kept uses (a removed use has none)
 abbrev pub totals_of : Walked → Joining → Totals
@@ -153,19 +152,19 @@ solid rules j =
     shells_of j x.fan.walk >>= λ ss.
     nested j.answers ss >>= λ ns.
     lumps_clear j x.fan ns >>= λ _.
-    ok (body_of j x ns)
+    Ok (body_of j x ns)
 
 -- the body of a job; one that selects no face gives an Empty body
 unfoldable pub rebuild : Rules → Job → Outcome Body
 rebuild rules j =
     let full = solid rules j in
-    cond (eqb (length j.faces) 0) (ok empty_body) full
+    cond (eqb (length j.faces) 0) (Ok empty_body) full
 
 -- THE WHOLE
 
 -- Endings, 40: records exceed the output, with the bytes needed
 abbrev pub fitting : ℕ → List ℕ → Outcome (List ℕ)
-fitting room bytes = need (leb (length bytes) room) 40 (length bytes) (ok bytes)
+fitting room bytes = need (leb (length bytes) room) NoRoom (length bytes) (Ok bytes)
 
 -- Endings: sewing a job into an output of so many bytes gives the bytes written, or the refusal
 unfoldable pub sewn : Rules → List ℕ → ℕ → Outcome (List ℕ)
@@ -173,14 +172,14 @@ sewn rules job room = loaded job >>= λ j. rebuild rules j >>= λ b. fitting roo
 
 -- Endings: a refusal writes nothing; success fills the start, later bytes of the output stay
 abbrev pub written : Outcome (List ℕ) → List ℕ → List ℕ
-written (ok bytes) out = bytes ++ drop (length bytes) out
-written (refuse number place) out = out
+written (Ok bytes) out = bytes ++ drop (length bytes) out
+written (Err refusal) out = out
 
--- Endings: success gives the bytes written, a refusal its number and one place
-abbrev pub ended : Outcome (List ℕ) → Ending
-ended (ok bytes) = Written (length bytes)
-ended (refuse number place) = Refused number place
+-- Endings: success gives the number of bytes written, a refusal its number and one place
+abbrev pub ended : Outcome (List ℕ) → Outcome ℕ
+ended (Ok bytes) = Ok (length bytes)
+ended (Err refusal) = Err refusal
 
 -- Endings: an operation that found this outcome has this answer and leaves this output
-abbrev pub Ends : Outcome (List ℕ) → List ℕ → List ℕ → Ending → Type 0
+abbrev pub Ends : Outcome (List ℕ) → List ℕ → List ℕ → Outcome ℕ → Type 0
 Ends o before after answer = (answer ≡ ended o) × (after ≡ written o before)

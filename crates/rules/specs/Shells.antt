@@ -1,10 +1,11 @@
 -- Shells: outer or void, the outer shell that encloses each void, and lumps. Refusal 34.
 use Rattle.std.specs.Prelude.{ℕ, List, [], ◌∷◌, map, Bool, true, ◌&&◌, not, cond, get_or, eqb}
 use Rattle.lists.specs.Lists.{keep, positions, index_of}
-use Rattle.rules.specs.Outcome.{Outcome, ok, refuse, ◌>>=◌, for_each}
+use Rattle.rules.specs.Outcome.{Outcome, Ok, refuse, ◌>>=◌, for_each}
 use Rattle.rules.specs.Job.{Answer}
 use Rattle.rules.specs.Questions.{ask_yes}
 use Rattle.rules.specs.Groups.{label_of, lowest_members}
+use Rattle.rules.specs.declared.Fault.TheVariants.{NoOuterShell}
 
 -- a shell: its merged faces ascending, and whether it is outer
 pub record Shell : Type 0 where
@@ -27,8 +28,8 @@ all_shell_faces boundaries groups = map (shell_faces boundaries (lowest_members 
 unfoldable pub orient_shell : List Answer → ℕ → List ℕ → Outcome Shell
 orient_shell answers proven faces =
     let put = ask_yes answers 12 (lowest_face faces ∷ []) in
-    cond (eqb proven 1) (ok true) put >>= λ yes.
-    ok (record { faces = faces; outer = yes })
+    cond (eqb proven 1) (Ok true) put >>= λ yes.
+    Ok (record { faces = faces; outer = yes })
 
 -- Shells: asked in that order
 abbrev pub shells : List Answer → ℕ → List (List ℕ) → Outcome (List Shell)
@@ -45,21 +46,21 @@ pub data Taken : Type 0 where
 
 -- Shells: take one containing it, replace it by a later containing one that lies inside it
 abbrev pub innermost : List Answer → Taken → ℕ → Outcome Taken
-innermost answers none later = ok (shell later)
-innermost answers (shell now) later = shell_inside answers later now >>= λ yes. ok (shell (cond yes later now))
+innermost answers none later = Ok (shell later)
+innermost answers (shell now) later = shell_inside answers later now >>= λ yes. Ok (shell (cond yes later now))
 
 -- Shells: for each void, outer shells in order
 unfoldable pub enclosing_shell : List Answer → ℕ → List ℕ → Taken → Outcome Taken
-enclosing_shell answers void [] taken = ok taken
+enclosing_shell answers void [] taken = Ok taken
 enclosing_shell answers void (o ∷ os) taken =
     shell_inside answers void o >>= λ contains.
     let nearer = innermost answers taken o in
-    cond contains nearer (ok taken) >>= enclosing_shell answers void os
+    cond contains nearer (Ok taken) >>= enclosing_shell answers void os
 
 -- Endings, 34: a void without enclosing outer shell, at its lowest face
 abbrev pub or_refuse : Taken → ℕ → Outcome ℕ
-or_refuse none void = refuse 34 void
-or_refuse (shell o) void = ok o
+or_refuse none void = refuse NoOuterShell void
+or_refuse (shell o) void = Ok o
 
 -- the outer shells by their lowest faces
 abbrev pub outers : List Shell → List ℕ
@@ -75,8 +76,8 @@ unfoldable pub nest : List Answer → List ℕ → Shell → Outcome Nested
 nest answers os s =
     let low = lowest_face s.faces in
     let put = enclosing_shell answers low os none >>= λ taken. or_refuse taken low in
-    cond s.outer (ok low) put >>= λ o.
-    ok (record { shell = s; home = o })
+    cond s.outer (Ok low) put >>= λ o.
+    Ok (record { shell = s; home = o })
 
 -- nesting: every shell in order
 abbrev pub nested : List Answer → List Shell → Outcome (List Nested)

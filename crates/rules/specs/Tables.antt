@@ -1,7 +1,7 @@
 -- Tables of jobs with their expected endings, which antt computes.
 use Rattle.std.specs.Prelude.{List, [], ◌∷◌, Bool, true, false, ◌&&◌, eqb}
 use Rattle.lists.specs.Lists.{same}
-use Rattle.rules.specs.Outcome.{Outcome, ok, refuse}
+use Rattle.rules.specs.Outcome.{Outcome, Ok, Err, same_refusal}
 use Rattle.rules.specs.Frame.{Record, framed_all}
 use Rattle.rules.specs.Rules.{ordinary}
 use Rattle.rules.specs.Listing.{sewn_records}
@@ -21,10 +21,10 @@ same_records (a ∷ as') [] = false
 same_records (a ∷ as') (b ∷ bs) = same_record a b && same_records as' bs
 
 abbrev pub same_ending : Outcome (List Record) → Outcome (List Record) → Bool
-same_ending (ok a) (ok b) = same_records a b
-same_ending (ok a) (refuse n p) = false
-same_ending (refuse n p) (ok b) = false
-same_ending (refuse n p) (refuse m q) = eqb n m && eqb p q
+same_ending (Ok a) (Ok b) = same_records a b
+same_ending (Ok a) (Err q) = false
+same_ending (Err r) (Ok b) = false
+same_ending (Err r) (Err q) = same_refusal r q
 
 -- sewing the row's job ends as the row says
 abbrev pub right : Row → Bool

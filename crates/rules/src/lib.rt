@@ -1,12 +1,83 @@
-// The vocabulary that the definitions in specs/ and the code of every stage share. No code.
+// The vocabulary that the definitions in specs/ and the code of every stage share.
 
 #![tactic(auto)]
 
+ghost use Rattle.std.specs.Prelude.{◌≡◌};
+ghost use Rattle.rules.specs.Outcome.{fault_number};
+ghost use Rattle.rules.specs.Sense.{reverse};
+ghost use Rattle.rules.specs.Operation.{stage_number, stage_of, is_asked};
+
+use std::ops::Mul;
+
 // 0 Same, 1 Reversed.
-#[derive(Clone, Copy)]
+#[derive(Clone, Copy, PartialEq, Eq)]
 pub enum Sense {
     Same,
     Reversed,
+}
+
+impl Sense {
+    // The other sense.
+    pub fn reverse(self) -> Sense
+        ensures { result ≡ reverse self }
+    {
+        match self {
+            Sense::Same => Sense::Reversed,
+            Sense::Reversed => Sense::Same,
+        }
+    }
+}
+
+impl From<usize> for Sense {
+    ghost use Rattle.std.specs.Prelude.{◌≡◌};
+    ghost use Rattle.rules.specs.Sense.{sense_of};
+
+    ghost from_gives = { λ n sense. sense ≡ sense_of n };
+
+    fn from(n: usize) -> Self {
+        if n == 0 {
+            return Sense::Same;
+        }
+        Sense::Reversed
+    }
+}
+
+impl From<Sense> for usize {
+    ghost use Rattle.std.specs.Prelude.{◌≡◌, ◌<◌};
+    ghost use Rattle.rules.specs.Sense.{sense_number};
+
+    ghost from_gives = { λ sense n. (n ≡ sense_number sense) × (n < 2) };
+
+    fn from(sense: Sense) -> usize {
+        match sense {
+            Sense::Same => 0,
+            Sense::Reversed => 1,
+        }
+    }
+}
+
+// The product of two senses.
+impl Mul for Sense {
+    type Output = Sense;
+
+    ghost use Rattle.rules.specs.Sense.{FourAnswers};
+
+    ghost mul_gives = { FourAnswers };
+
+    // Case by case, to be held against ISO 10303-42: an oriented edge with orientation true (Same) runs along its edge, one
+    // with orientation false (Reversed) runs against it.
+    fn mul(self, other: Sense) -> Sense {
+        match self {
+            Sense::Same => match other {
+                Sense::Same => Sense::Same,
+                Sense::Reversed => Sense::Reversed,
+            },
+            Sense::Reversed => match other {
+                Sense::Same => Sense::Reversed,
+                Sense::Reversed => Sense::Same,
+            },
+        }
+    }
 }
 
 // The kinds of job records, 1 to 13; any other number is unknown.
@@ -28,6 +99,34 @@ pub enum Kind {
     Inside,
 }
 
+impl From<usize> for Kind {
+    ghost use Rattle.std.specs.Prelude.{◌≡◌};
+    ghost use Rattle.rules.specs.Kinds.{kind_of};
+
+    ghost from_gives = { λ k kind. kind ≡ kind_of k };
+
+    // The kind of a record.
+    #[tactic(auto, unfolding(crate::specs::Kinds::kind_of))]
+    fn from(k: usize) -> Self {
+        match k {
+            1 => Kind::Head,
+            2 => Kind::Vertex,
+            3 => Kind::EdgeRecord,
+            4 => Kind::FaceRecord,
+            5 => Kind::LoopRecord,
+            6 => Kind::VertexLoop,
+            7 => Kind::Radial,
+            8 => Kind::Surface,
+            9 => Kind::Points,
+            10 => Kind::Curves,
+            11 => Kind::Singular,
+            12 => Kind::Orientation,
+            13 => Kind::Inside,
+            _ => Kind::Unknown,
+        }
+    }
+}
+
 // What is answered to a question of kind 8, Surface.
 #[derive(Clone, Copy)]
 pub enum SurfaceAnswer {
@@ -38,12 +137,48 @@ pub enum SurfaceAnswer {
     Undecided,
 }
 
+impl From<usize> for SurfaceAnswer {
+    ghost use Rattle.std.specs.Prelude.{◌≡◌};
+    ghost use Rattle.rules.specs.Questions.{surface_answer};
+
+    ghost from_gives = { λ v answer. answer ≡ surface_answer v };
+
+    // The answer of kind 8 that has a number.
+    #[tactic(auto, unfolding(crate::specs::Questions::surface_answer, crate::specs::Questions::numbered, crate::specs::Questions::surface_number))]
+    fn from(v: usize) -> Self {
+        match v {
+            0 => SurfaceAnswer::Different,
+            1 => SurfaceAnswer::Agreeing,
+            2 => SurfaceAnswer::Opposed,
+            3 => SurfaceAnswer::Vanishing,
+            _ => SurfaceAnswer::Undecided,
+        }
+    }
+}
+
 // What is answered to a question of kinds 9 to 13.
 #[derive(Clone, Copy)]
 pub enum Verdict {
     No,
     Yes,
     Undecided,
+}
+
+impl From<usize> for Verdict {
+    ghost use Rattle.std.specs.Prelude.{◌≡◌};
+    ghost use Rattle.rules.specs.Questions.{verdict};
+
+    ghost from_gives = { λ v answer. answer ≡ verdict v };
+
+    // The answer of kinds 9 to 13 that has a number.
+    #[tactic(auto, unfolding(crate::specs::Questions::verdict, crate::specs::Questions::numbered, crate::specs::Questions::verdict_number))]
+    fn from(v: usize) -> Self {
+        match v {
+            0 => Verdict::No,
+            1 => Verdict::Yes,
+            _ => Verdict::Undecided,
+        }
+    }
 }
 
 // What has been loaded so far: the part reached (0 nothing, 1 Head, 2 vertices, 3 edges, 4 faces with their loops,
@@ -113,9 +248,111 @@ pub struct EdgeData {
     pub active: bool,
 }
 
-// How an operation ends: the number of bytes written, or a refusal's number and place.
-#[derive(Clone, Copy)]
-pub enum Ending {
-    Written(usize),
-    Refused(usize, usize),
+// A stage that can be asked for by itself. Each has the number by which packed answers name it.
+#[derive(Clone, Copy, PartialEq, Eq)]
+pub enum Stage {
+    Read = 1,
+    Pair = 2,
+    Merge = 3,
+    VertexLoops = 4,
+    Walk = 5,
+    Loops = 6,
+    Fans = 7,
+    Edges = 8,
+    Joining = 9,
+    Shells = 10,
+    Lumps = 11,
+}
+
+impl Stage {
+    // The stage with a number, if there is one.
+    #[tactic(auto, unfolding(crate::specs::Operation::stage_of, crate::specs::Operation::numbered_among, crate::specs::Operation::stage_number))]
+    pub fn numbered(n: usize) -> Option<Stage>
+        ensures { result ≡ stage_of n }
+    {
+        match n {
+            1 => Some(Stage::Read),
+            2 => Some(Stage::Pair),
+            3 => Some(Stage::Merge),
+            4 => Some(Stage::VertexLoops),
+            5 => Some(Stage::Walk),
+            6 => Some(Stage::Loops),
+            7 => Some(Stage::Fans),
+            8 => Some(Stage::Edges),
+            9 => Some(Stage::Joining),
+            10 => Some(Stage::Shells),
+            11 => Some(Stage::Lumps),
+            _ => None,
+        }
+    }
+
+    // The number of a stage.
+    #[tactic(auto, unfolding(crate::specs::Operation::stage_number))]
+    pub fn number(self) -> usize
+        ensures { result ≡ stage_number self }
+    {
+        self as usize
+    }
+
+    // This is the stage that is asked for; stages are told apart by number, as in the definitions.
+    #[tactic(auto, unfolding(crate::specs::Operation::is_asked))]
+    pub fn is_asked(self, stage: Option<Stage>) -> bool
+        ensures { result ≡ is_asked self stage }
+    {
+        match stage {
+            Some(s) => self.number() == s.number(),
+            None => false,
+        }
+    }
+}
+
+// Why a job is refused. Each has the number by which the programs and the C interface tell it.
+#[derive(Clone, Copy, PartialEq, Eq)]
+pub enum Fault {
+    TooLong = 1,
+    CutShort = 2,
+    Misplaced = 3,
+    FieldNotPermitted = 4,
+    LimitPassed = 5,
+    LoopJoints = 6,
+    AnsweredTwice = 7,
+    EqualSenses = 10,
+    OddUses = 11,
+    SamePredecessor = 12,
+    NoTwin = 13,
+    Unanswered = 20,
+    AnswerUndecided = 21,
+    NormalsVanish = 22,
+    NotRound = 23,
+    PairsInBoundary = 30,
+    FansInBoundary = 31,
+    FansInLump = 32,
+    PairsInLump = 33,
+    NoOuterShell = 34,
+    NoRoom = 40,
+    SelectedTwice = 45,
+}
+
+impl Fault {
+    // The number by which the programs and the C interface tell it.
+    #[tactic(auto, unfolding(crate::specs::Outcome::fault_number))]
+    pub fn number(self) -> usize
+        ensures { result ≡ fault_number self }
+    {
+        self as usize
+    }
+
+    // The refusal for this, with its place.
+    pub fn at(self, place: usize) -> Refusal
+        ensures { result ≡ record { fault = self; place = place } }
+    {
+        Refusal { fault: self, place }
+    }
+}
+
+// A refusal, with its one place: a byte, an edge, a use, a kind, a point, a face or a size, as its fault says.
+#[derive(Clone, Copy, PartialEq, Eq)]
+pub struct Refusal {
+    pub fault: Fault,
+    pub place: usize,
 }

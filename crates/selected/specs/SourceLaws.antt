@@ -1,5 +1,5 @@
 -- Chains of faces: none at first, a walk along one, one face more, and other records that change nothing.
-use Rattle.std.specs.Prelude.{ℕ, suc, ◌+◌, ◌-◌, ◌≤◌, ◌<◌, ◌≡◌, ◌≢◌, ◌%◌, refl, List, [], ◌∷◌, ◌++◌, Bool, true, false, ◌&&◌, ◌||◌, eqb, length, get_or, set, map, replicate}
+use Rattle.std.specs.Prelude.{ℕ, suc, ◌+◌, ◌-◌, ◌≤◌, ◌<◌, ◌≡◌, ◌≢◌, ◌%◌, refl, List, [], ◌∷◌, ◌++◌, false, ◌||◌, eqb, length, get_or, set, map, replicate}
 use Rattle.std.proofs.Common.{add-one, arith, sym, ap, ◌∙◌, mod-lt, ne_eqb}
 use Rattle.std.proofs.Math.Decide.{ℕ_discrete}
 use Rattle.std.proofs.Math.Bool.{or-false}
@@ -50,46 +50,23 @@ sourced_none bytes ix c none = record {
 
 -- A WALK
 
--- two faces compared by the fields that stand in the bytes
-pub same_fields : (bytes : List ℕ) (at place body source : ℕ) (hit : Bool) → body ≡ le32 bytes (at + 18) → source ≡ le32 bytes (at + 22)
-    → hit ≡ (eqb body (le32 bytes (place + 18)) && eqb source (le32 bytes (place + 22))) → hit ≡ same_source (face_in bytes at) (face_in bytes place)
-unfolding face_in
-same_fields bytes at place body source hit eb es h = h ∙ (λ i. eqb (eb i) (le32 bytes (place + 18)) && eqb (es i) (le32 bytes (place + 22)))
-
--- what is to be found is still to be found from an entry on
-abbrev pub Walking : List ℕ → List ℕ → List ℕ → Counts → Face → ℕ → Type 0
-Walking bytes ix t c f entry = found_from bytes ix t f entry ≡ some (same_source f) (faces_in bytes ix c)
-
-module _ (bytes ix t : List ℕ) (c : Counts) (f : Face) (S : Sourced bytes ix t c) (room : c.faces < 256) where
-  pub walk_start : (source entry : ℕ) → source ≡ f.source → entry ≡ get_or t (source % 256) 0 → Walking bytes ix t c f entry
+module _ {bytes ix t : List ℕ} {c : Counts} (S : Sourced bytes ix t c) (f : Face) where
+  -- it begins at the head of the face's bucket
+  pub walk_start : c.faces < 256 → found_from bytes ix t f (get_or t (f.source % 256) 0) ≡ some (same_source f) (faces_in bytes ix c)
   unfolding bucket_of
-  walk_start source entry s e = ap (found_from bytes ix t f) (e ∙ ap (λ n. get_or t (n % 256) 0) s) ∙ S.finds room f
+  walk_start room = S.finds room f
 
-  -- at the end of the chain
-  pub walk_end : (entry : ℕ) → entry ≤ 0 → Walking bytes ix t c f entry → false ≡ some (same_source f) (faces_in bytes ix c)
+  -- one face looked at, then those after it, which stand lower on its chain
+  pub walk_more : (entry : ℕ) → 0 < entry
+      → (found_from bytes ix t f entry ≡ (same_source f (face_in bytes (face_byte ix (entry - 1))) || found_from bytes ix t f (get_or t (256 + (entry - 1)) 0)))
+      × (get_or t (256 + (entry - 1)) 0 < entry)
+  unfolding some next_face
+  walk_more entry h = (ap (some (is_face bytes ix f)) (chain_more (next_face t) S.falling entry h), omega (arith, S.falling (entry - 1)))
+
+  -- the end of the chain
+  pub walk_end : found_from bytes ix t f 0 ≡ false
   unfolding some
-  walk_end entry h w =
-      let e : entry ≡ 0 = omega arith in
-      sym (ap (λ n. found_from bytes ix t f n) e ∙ ap (some (is_face bytes ix f)) (chain_end (next_face t))) ∙ w
-
-  -- one face looked at, at a byte, and whether it is the one
-  module _ (entry at : ℕ) (hit : Bool) (more : 0 < entry) (place : at ≡ face_byte ix (entry - 1)) (test : hit ≡ same_source f (face_in bytes at)) where
-    first : found_from bytes ix t f entry ≡ (hit || found_from bytes ix t f (next_face t (entry - 1)))
-    unfolding some
-    first =
-        ap (some (is_face bytes ix f)) (chain_more (next_face t) S.falling entry more)
-        ∙ ap (λ b. b || found_from bytes ix t f (next_face t (entry - 1))) (sym (test ∙ ap (λ p. same_source f (face_in bytes p)) place))
-
-    pub walk_found : hit ≡ true → Walking bytes ix t c f entry → true ≡ some (same_source f) (faces_in bytes ix c)
-    walk_found h w = sym (first ∙ ap (λ b. b || found_from bytes ix t f (next_face t (entry - 1))) h) ∙ w
-
-    pub walk_on : (after : ℕ) → hit ≡ false → after ≡ get_or t (256 + (entry - 1)) 0 → Walking bytes ix t c f entry
-        → Walking bytes ix t c f after × (after < entry)
-    unfolding next_face
-    walk_on after h e w = (
-      ap (found_from bytes ix t f) e ∙ sym (first ∙ ap (λ b. b || found_from bytes ix t f (next_face t (entry - 1))) h) ∙ w,
-      omega (arith, e, S.falling (entry - 1), more),
-    )
+  walk_end = ap (some (is_face bytes ix f)) (chain_end (next_face t))
 
 -- TWO TABLES THAT AGREE
 
@@ -115,15 +92,6 @@ sourced_same bytes ix iy t c d S count places faces = record {
 }
 
 -- ONE FACE MORE
-
--- the two stores that enter it
-pub two_stores : (bytes t u v : List ℕ) (k at source b head : ℕ) → source ≡ le32 bytes (at + 22) → b ≡ source % 256 → head ≡ get_or t b 0
-    → u ≡ set t (256 + k) head → v ≡ set u b ((k + 1) % 256) → v ≡ face_entered bytes t k at
-unfolding face_entered bucket_of
-two_stores bytes t u v k at source b head es eb eh eu ev =
-    let e : b ≡ le32 bytes (at + 22) % 256 = eb ∙ ap (λ n. n % 256) es in
-    let h : head ≡ get_or t (le32 bytes (at + 22) % 256) 0 = eh ∙ ap (λ n. get_or t n 0) e in
-    ev ∙ (λ i. set (eu i) (e i) ((k + 1) % 256)) ∙ (λ i. set (set t (256 + k) (h i)) (le32 bytes (at + 22) % 256) ((k + 1) % 256))
 
 module _ (bytes t : List ℕ) (k at : ℕ) (size : length t ≡ 512) (low : k < 256) where
   abbrev own : ℕ

@@ -28,10 +28,7 @@ fn is_face(job: &[u8], at: usize, body: usize, source: usize) -> bool
     requires { at < 4294967296 }
     ensures { result ≡ (eqb body (le32 job.now (at + 18)) && eqb source (le32 job.now (at + 22))) }
 {
-    if word(job, at + 22) != source {
-        return false;
-    }
-    word(job, at + 18) == body
+    word(job, at + 22) == source && word(job, at + 18) == body
 }
 
 // The face of the record at a byte is one of those selected before.
@@ -53,6 +50,7 @@ pub fn selected_before(job: &[u8], index: &[u32], sources: &[u8], c: Counts, at:
 }
 
 // Face k, whose record stands at a byte, is entered in front of its chain.
+#[tactic(auto, unfolding(crate::specs::Sources::face_entered, crate::specs::Sources::bucket_of))]
 pub fn enter(job: &[u8], sources: &mut [u8], k: usize, at: usize)
     requires { (k < 256) × (at < 4294967296) }
     ensures { sources.new ≡ face_entered job.now sources.old k at }

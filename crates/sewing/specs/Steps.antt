@@ -3,7 +3,7 @@ use Rattle.std.specs.Prelude.{ℕ, ◌*◌, ◌≤◌, ◌≡◌, List, Bool, le
 use Rattle.lists.specs.Lists.{keep, sum_of}
 use Rattle.rules.specs.declared.Counts.{Counts}
 use Rattle.rules.specs.declared.Use.{Use}
-use Rattle.rules.specs.Outcome.{ok}
+use Rattle.rules.specs.Outcome.{Ok}
 use Rattle.rules.specs.Job.{Job}
 use Rattle.rules.specs.Load.{loaded}
 use Rattle.rules.specs.Read.{uses_of}
@@ -55,7 +55,7 @@ pub record FacesOf (n : ℕ) (us : List Use) (ts groups : List ℕ) (joins : ℕ
 -- the vertex loops are kept
 pub record Kept (bytes ix : List ℕ) (c : Counts) (us : List Use) (ts : List ℕ) (m : Faces) (kept : List ℕ) (k : ℕ) : Type 0 where
   pub grouped : Grouped bytes ix c us ts m
-  pub vertices : vertex_loops (answers_in bytes ix c) (points_in bytes c) (numbers_in c m) (loops_in bytes ix c) ≡ ok (kept_in k kept)
+  pub vertices : vertex_loops (answers_in bytes ix c) (points_in bytes c) (numbers_in c m) (loops_in bytes ix c) ≡ Ok (kept_in k kept)
   pub few : k ≤ c.loops
 
 -- tables for the walks of n uses
@@ -82,4 +82,4 @@ pub record Walks (c : Counts) (m : Faces) (us : List Use) (rm : List Bool) (ss :
 
 -- what demand 3 promises of the walks of a job
 abbrev pub Promised : List ℕ → Type 0
-Promised bytes = (j : Job) (w : Walked) → loaded bytes ≡ ok j → Settled full_table j w → WalksHold w
+Promised bytes = (j : Job) (w : Walked) → loaded bytes ≡ Ok j → Settled full_table j w → WalksHold w

@@ -3,7 +3,8 @@
 
 #![tactic(auto)]
 
-ghost use Rattle.std.specs.Prelude.{◌≡◌, ◌*◌, ◌≤◌, length, take};
+ghost use Rattle.std.specs.Prelude.{◌≡◌, ◌*◌, ◌≤◌, length, take, false};
+ghost use Rattle.rules.specs.Operation.{is_asked};
 ghost use Rattle.rules.specs.Read.{uses_of};
 ghost use Rattle.rules.specs.Rules.{ordinary, full_table};
 ghost use Rattle.rules.specs.Groups.{Lowest};
@@ -21,18 +22,15 @@ ghost use Rattle.sewing.specs.Steps.{Blank, Read, Chained, FacesOf, Kept, WalkTa
 
 use body::put_empty;
 use edge_uses::link;
-use load::{Loaded, load};
-use merge_faces::{Merging, boundaries, merge_faces, number, remove};
-use pair::{pair, pair_small};
-use progress::{
-    BODY, EDGES, FANS, Faces, Figures, JOINING, LOOPS, LUMPS, MERGE, PAIR, SHELLS, VERTEX_LOOPS,
-    WALK,
-};
+use load::load;
+use merge_faces::{boundaries, merge_faces, number, remove};
+use pair::pair;
+use progress::{Faces, Figures};
 use read::read;
 use rebuild::rebuild;
-use rules::{Counts, Ending};
+use rules::{Counts, Refusal, Stage};
 use stages_out::{write_kept, write_loops, write_pairs, write_read, write_twins, write_walk};
-use vertex_loops::{Keeping, vertex_loops};
+use vertex_loops::vertex_loops;
 use walk::{loops, successors};
 
 // The stage `loops` of walks that are known by their successors.
@@ -43,7 +41,7 @@ fn put_loops(
     removed: &[bool],
     succ: &[u32],
     out: &mut [u8],
-) -> Ending
+) -> Result<usize, Refusal>
     requires { Walks c m (uses_in uses.now) removed.now succ.now }
     ensures { Staged (round_rows (uses_in uses.now) (numbers_in c m) (loops_of (circuits removed.now succ.now))) out.old out.new result }
 {
@@ -64,7 +62,7 @@ fn put_loops(
 
 // The loops, or what is built on the walks.
 fn on_walks(
-    stage: usize,
+    stage: Option<Stage>,
     job: &[u8],
     index: &[u32],
     c: Counts,
@@ -76,11 +74,11 @@ fn on_walks(
     kept: &[u32],
     g: Figures,
     out: &mut [u8],
-) -> Ending
-    requires { Settled job.now index.now c (uses_in uses.now) twins.now m removed.now succ.now kept.now g × (stage ≡ 5 → ⊥) }
+) -> Result<usize, Refusal>
+    requires { Settled job.now index.now c (uses_in uses.now) twins.now m removed.now succ.now kept.now g × (is_asked Stage.Walk stage ≡ false) }
     ensures { Ends (after_walks stage (job_in job.now index.now c) (length out.old) (walked_in c m (uses_in uses.now) twins.now removed.now g.kept kept.now)) out.old out.new result }
 {
-    if stage == LOOPS {
+    if Stage::Loops.is_asked(stage) {
         return put_loops(c, m, uses, removed, succ, out);
     }
     rebuild(
@@ -115,7 +113,7 @@ fn walks(
 
 // The walks in tables for all uses.
 fn walk_in(
-    stage: usize,
+    stage: Option<Stage>,
     job: &[u8],
     index: &[u32],
     c: Counts,
@@ -128,12 +126,13 @@ fn walk_in(
     succ: &mut [u32],
     passed: &mut [u32],
     out: &mut [u8],
-) -> Ending
+) -> Result<usize, Refusal>
     requires { Kept job.now index.now c (uses_in uses.now) twins.now m kept.now k × WalkTables c.uses removed.old succ.old passed.old }
-    ensures { Ends (after_walks stage (job_in job.now index.now c) (length out.old) (walked_in c m (uses_in uses.now) twins.now (removed_uses (uses_in uses.now) twins.now (groups_in c m)) k kept.now)) out.old out.new result }
+    ensures { Ends (after_walks stage (job_in job.now index.now c) (length out.old)
+        (walked_in c m (uses_in uses.now) twins.now (removed_uses (uses_in uses.now) twins.now (groups_in c m)) k kept.now)) out.old out.new result }
 {
     let g = walks(c, m, uses, twins, k, removed, succ, passed);
-    if stage == WALK {
+    if Stage::Walk.is_asked(stage) {
         return write_walk(removed, succ, passed, out);
     }
     on_walks(
@@ -141,9 +140,9 @@ fn walk_in(
     )
 }
 
-// The walks of a part with at most 64 uses: small tables are cleared sooner.
-fn walk_in_small_tables(
-    stage: usize,
+// The walks in tables for so many uses.
+fn walk_in_tables<const USES: usize>(
+    stage: Option<Stage>,
     job: &[u8],
     index: &[u32],
     c: Counts,
@@ -153,49 +152,14 @@ fn walk_in_small_tables(
     kept: &[u32],
     k: usize,
     out: &mut [u8],
-) -> Ending
-    requires { Kept job.now index.now c (uses_in uses.now) twins.now m kept.now k × (c.uses ≤ 64) }
-    ensures { Ends (after_walks stage (job_in job.now index.now c) (length out.old) (walked_in c m (uses_in uses.now) twins.now (removed_uses (uses_in uses.now) twins.now (groups_in c m)) k kept.now)) out.old out.new result }
+) -> Result<usize, Refusal>
+    requires { Kept job.now index.now c (uses_in uses.now) twins.now m kept.now k × (c.uses ≤ USES) × (USES ≤ 2048) }
+    ensures { Ends (after_walks stage (job_in job.now index.now c) (length out.old)
+        (walked_in c m (uses_in uses.now) twins.now (removed_uses (uses_in uses.now) twins.now (groups_in c m)) k kept.now)) out.old out.new result }
 {
-    let mut removed = [false; 64];
-    let mut succ = [0u32; 64];
-    let mut passed = [0u32; 64];
-    walk_in(
-        stage,
-        job,
-        index,
-        c,
-        m,
-        uses,
-        twins,
-        kept,
-        k,
-        &mut removed[..c.uses],
-        &mut succ[..c.uses],
-        &mut passed[..c.uses],
-        out,
-    )
-}
-
-// The walks of any part.
-fn walk_in_large_tables(
-    stage: usize,
-    job: &[u8],
-    index: &[u32],
-    c: Counts,
-    m: Faces,
-    uses: &[u32],
-    twins: &[u32],
-    kept: &[u32],
-    k: usize,
-    out: &mut [u8],
-) -> Ending
-    requires { Kept job.now index.now c (uses_in uses.now) twins.now m kept.now k × (c.uses ≤ 2048) }
-    ensures { Ends (after_walks stage (job_in job.now index.now c) (length out.old) (walked_in c m (uses_in uses.now) twins.now (removed_uses (uses_in uses.now) twins.now (groups_in c m)) k kept.now)) out.old out.new result }
-{
-    let mut removed = [false; 2048];
-    let mut succ = [0u32; 2048];
-    let mut passed = [0u32; 2048];
+    let mut removed = [false; USES];
+    let mut succ = [0u32; USES];
+    let mut passed = [0u32; USES];
     walk_in(
         stage,
         job,
@@ -215,7 +179,7 @@ fn walk_in_large_tables(
 
 // The walks, once the vertex loops are kept.
 fn on_kept(
-    stage: usize,
+    stage: Option<Stage>,
     job: &[u8],
     index: &[u32],
     c: Counts,
@@ -225,22 +189,24 @@ fn on_kept(
     kept: &[u32],
     k: usize,
     out: &mut [u8],
-) -> Ending
+) -> Result<usize, Refusal>
     requires { Kept job.now index.now c (uses_in uses.now) twins.now m kept.now k }
-    ensures { Ends (after_keeping stage (job_in job.now index.now c) (length out.old) (walked_in c m (uses_in uses.now) twins.now (removed_uses (uses_in uses.now) twins.now (groups_in c m)) k kept.now)) out.old out.new result }
+    ensures { Ends (after_keeping stage (job_in job.now index.now c) (length out.old)
+        (walked_in c m (uses_in uses.now) twins.now (removed_uses (uses_in uses.now) twins.now (groups_in c m)) k kept.now)) out.old out.new result }
 {
-    if stage == VERTEX_LOOPS {
+    if Stage::VertexLoops.is_asked(stage) {
         return write_kept(kept, k, out);
     }
     if c.uses <= 64 {
-        return walk_in_small_tables(stage, job, index, c, m, uses, twins, kept, k, out);
+        // small tables are cleared sooner
+        return walk_in_tables::<64>(stage, job, index, c, m, uses, twins, kept, k, out);
     }
-    walk_in_large_tables(stage, job, index, c, m, uses, twins, kept, k, out)
+    walk_in_tables::<2048>(stage, job, index, c, m, uses, twins, kept, k, out)
 }
 
 // The vertex loops, once the faces are merged.
 fn on_merged(
-    stage: usize,
+    stage: Option<Stage>,
     job: &[u8],
     index: &[u32],
     c: Counts,
@@ -249,21 +215,19 @@ fn on_merged(
     twins: &[u32],
     kept: &mut [u32],
     out: &mut [u8],
-) -> Ending
+) -> Result<usize, Refusal>
     requires { Grouped job.now index.now c (uses_in uses.now) twins.now m × (2 * c.loops ≤ length kept.old) }
-    ensures { Ends (after_merging stage (job_in job.now index.now c) (uses_in uses.now) twins.now (length out.old) (merged_in c m (removed_uses (uses_in uses.now) twins.now (groups_in c m)))) out.old out.new result }
+    ensures { Ends (after_merging stage (job_in job.now index.now c) (uses_in uses.now) twins.now (length out.old)
+        (merged_in c m (removed_uses (uses_in uses.now) twins.now (groups_in c m)))) out.old out.new result }
 {
-    if stage == MERGE {
+    if Stage::Merge.is_asked(stage) {
         let labels = m.boundaries;
         let groups = m.groups;
         return write_pairs(&labels[..c.faces], &groups[..c.faces], out);
     }
     let numbers = m.numbers;
-    let r = vertex_loops(job, index, c, &numbers[..c.faces], kept);
-    match r {
-        Keeping::Refused(n, p) => Ending::Refused(n, p),
-        Keeping::Done(k) => on_kept(stage, job, index, c, m, uses, twins, kept, k, out),
-    }
+    let k = vertex_loops(job, index, c, &numbers[..c.faces], kept)?;
+    on_kept(stage, job, index, c, m, uses, twins, kept, k, out)
 }
 
 // The boundaries, numbers and lowest members that belong to merged groups, which so many face joins made.
@@ -288,7 +252,7 @@ fn faces_of(n: usize, uses: &[u32], twins: &[u32], groups: [u32; 256], joins: us
 
 // The faces merged, once the uses are paired.
 fn on_paired(
-    stage: usize,
+    stage: Option<Stage>,
     job: &[u8],
     index: &[u32],
     c: Counts,
@@ -296,27 +260,22 @@ fn on_paired(
     twins: &[u32],
     kept: &mut [u32],
     out: &mut [u8],
-) -> Ending
+) -> Result<usize, Refusal>
     requires { Paired job.now index.now c (uses_in uses.now) twins.now × (2 * c.loops ≤ length kept.old) }
     ensures { Ends (after_pairing stage (job_in job.now index.now c) (uses_in uses.now) (length out.old) twins.now) out.old out.new result }
 {
-    if stage == PAIR {
+    if Stage::Pair.is_asked(stage) {
         return write_twins(twins, out);
     }
     let mut groups = [0u32; 256];
-    let r = merge_faces(job, index, c, uses, twins, &mut groups[..c.faces]);
-    match r {
-        Merging::Refused(n, p) => Ending::Refused(n, p),
-        Merging::Done(joins) => {
-            let m = faces_of(c.faces, uses, twins, groups, joins);
-            on_merged(stage, job, index, c, m, uses, twins, kept, out)
-        }
-    }
+    let joins = merge_faces(job, index, c, uses, twins, &mut groups[..c.faces])?;
+    let m = faces_of(c.faces, uses, twins, groups, joins);
+    on_merged(stage, job, index, c, m, uses, twins, kept, out)
 }
 
-// The uses of a part with at most 64 uses paired.
-fn pair_in_small_table(
-    stage: usize,
+// The uses paired in a table for so many.
+fn pair_in_table<const USES: usize>(
+    stage: Option<Stage>,
     job: &[u8],
     index: &[u32],
     c: Counts,
@@ -325,44 +284,17 @@ fn pair_in_small_table(
     nexts: &[u32],
     kept: &mut [u32],
     out: &mut [u8],
-) -> Ending
-    requires { Chained job.now index.now c (uses_in uses.now) firsts.now nexts.now kept.old × (c.uses ≤ 64) }
+) -> Result<usize, Refusal>
+    requires { Chained job.now index.now c (uses_in uses.now) firsts.now nexts.now kept.old × (c.uses ≤ USES) × (USES ≤ 2048) }
     ensures { Ends (after_reading stage (job_in job.now index.now c) (length out.old) (uses_in uses.now)) out.old out.new result }
 {
-    let p = pair_small(job, index, c, uses, firsts, nexts);
-    if p.refusal != 0 {
-        return Ending::Refused(p.refusal, p.place);
-    }
-    let twins = p.twins;
-    on_paired(stage, job, index, c, uses, &twins[..c.uses], kept, out)
-}
-
-// The uses of any part paired.
-fn pair_in_large_table(
-    stage: usize,
-    job: &[u8],
-    index: &[u32],
-    c: Counts,
-    uses: &[u32],
-    firsts: &[u32],
-    nexts: &[u32],
-    kept: &mut [u32],
-    out: &mut [u8],
-) -> Ending
-    requires { Chained job.now index.now c (uses_in uses.now) firsts.now nexts.now kept.old × (c.uses ≤ 2048) }
-    ensures { Ends (after_reading stage (job_in job.now index.now c) (length out.old) (uses_in uses.now)) out.old out.new result }
-{
-    let p = pair(job, index, c, uses, firsts, nexts);
-    if p.refusal != 0 {
-        return Ending::Refused(p.refusal, p.place);
-    }
-    let twins = p.twins;
+    let twins: [u32; USES] = pair(job, index, c, uses, firsts, nexts)?;
     on_paired(stage, job, index, c, uses, &twins[..c.uses], kept, out)
 }
 
 // The uses paired, once they are read.
 fn on_read(
-    stage: usize,
+    stage: Option<Stage>,
     job: &[u8],
     index: &[u32],
     c: Counts,
@@ -371,20 +303,20 @@ fn on_read(
     nexts: &mut [u32],
     kept: &mut [u32],
     out: &mut [u8],
-) -> Ending
+) -> Result<usize, Refusal>
     requires { Read job.now index.now c (uses_in uses.now) × Blank c firsts.old nexts.old kept.old }
     ensures { Ends (after_reading stage (job_in job.now index.now c) (length out.old) (uses_in uses.now)) out.old out.new result }
 {
     link(uses, firsts, nexts);
     if c.uses <= 64 {
-        return pair_in_small_table(stage, job, index, c, uses, firsts, nexts, kept, out);
+        return pair_in_table::<64>(stage, job, index, c, uses, firsts, nexts, kept, out);
     }
-    pair_in_large_table(stage, job, index, c, uses, firsts, nexts, kept, out)
+    pair_in_table::<2048>(stage, job, index, c, uses, firsts, nexts, kept, out)
 }
 
 // The uses read in tables for all uses, edges and loops.
 fn read_in(
-    stage: usize,
+    stage: Option<Stage>,
     job: &[u8],
     index: &[u32],
     c: Counts,
@@ -393,7 +325,7 @@ fn read_in(
     nexts: &mut [u32],
     kept: &mut [u32],
     out: &mut [u8],
-) -> Ending
+) -> Result<usize, Refusal>
     requires { Opened job.now index.now c × (length uses.old ≡ 4 * c.uses) × Blank c firsts.old nexts.old kept.old }
     ensures { Ends (after_reading stage (job_in job.now index.now c) (length out.old) (uses_of (job_in job.now index.now c))) out.old out.new result }
 {
@@ -401,49 +333,21 @@ fn read_in(
     on_read(stage, job, index, c, uses, firsts, nexts, kept, out)
 }
 
-// The uses of a part with at most 64 uses, edges and loops: small tables are cleared sooner.
-fn read_in_small_tables(
-    stage: usize,
+// The uses read in tables for so many uses, of four fields each, edges, and twice the loops.
+fn read_in_tables<const USES: usize, const FIELDS: usize, const EDGES: usize, const ENDS: usize>(
+    stage: Option<Stage>,
     job: &[u8],
     index: &[u32],
     c: Counts,
     out: &mut [u8],
-) -> Ending
-    requires { Opened job.now index.now c × (c.uses ≤ 64) × (c.edges ≤ 64) × (c.loops ≤ 64) }
+) -> Result<usize, Refusal>
+    requires { Opened job.now index.now c × (c.uses ≤ USES) × (4 * USES ≤ FIELDS) × (FIELDS ≤ 8192) × (c.edges ≤ EDGES) × (EDGES ≤ 1024) × (2 * c.loops ≤ ENDS) × (ENDS ≤ 2048) }
     ensures { Ends (after_reading stage (job_in job.now index.now c) (length out.old) (uses_of (job_in job.now index.now c))) out.old out.new result }
 {
-    let mut uses = [0u32; 256];
-    let mut firsts = [0u32; 64];
-    let mut nexts = [0u32; 64];
-    let mut kept = [0u32; 128];
-    read_in(
-        stage,
-        job,
-        index,
-        c,
-        &mut uses[..4 * c.uses],
-        &mut firsts[..c.edges],
-        &mut nexts[..c.uses],
-        &mut kept[..2 * c.loops],
-        out,
-    )
-}
-
-// The uses of any part.
-fn read_in_large_tables(
-    stage: usize,
-    job: &[u8],
-    index: &[u32],
-    c: Counts,
-    out: &mut [u8],
-) -> Ending
-    requires { Opened job.now index.now c × (c.uses ≤ 2048) × (c.edges ≤ 1024) × (c.loops ≤ 1024) }
-    ensures { Ends (after_reading stage (job_in job.now index.now c) (length out.old) (uses_of (job_in job.now index.now c))) out.old out.new result }
-{
-    let mut uses = [0u32; 8192];
-    let mut firsts = [0u32; 1024];
-    let mut nexts = [0u32; 2048];
-    let mut kept = [0u32; 2048];
+    let mut uses = [0u32; FIELDS];
+    let mut firsts = [0u32; EDGES];
+    let mut nexts = [0u32; USES];
+    let mut kept = [0u32; ENDS];
     read_in(
         stage,
         job,
@@ -458,30 +362,33 @@ fn read_in_large_tables(
 }
 
 // The uses read, once the job is loaded.
-fn on_loaded(stage: usize, job: &[u8], index: &[u32], c: Counts, out: &mut [u8]) -> Ending
+fn on_loaded(
+    stage: Option<Stage>,
+    job: &[u8],
+    index: &[u32],
+    c: Counts,
+    out: &mut [u8],
+) -> Result<usize, Refusal>
     requires { Opened job.now index.now c }
     ensures { Ends (after_reading stage (job_in job.now index.now c) (length out.old) (uses_of (job_in job.now index.now c))) out.old out.new result }
 {
     if c.uses <= 64 && c.edges <= 64 && c.loops <= 64 {
-        return read_in_small_tables(stage, job, index, c, out);
+        return read_in_tables::<64, 256, 64, 128>(stage, job, index, c, out);
     }
-    read_in_large_tables(stage, job, index, c, out)
+    read_in_tables::<2048, 8192, 1024, 2048>(stage, job, index, c, out)
 }
 
 // The stages in order, up to the one that is asked for.
-fn run(stage: usize, job: &[u8], out: &mut [u8]) -> Ending
+fn run(stage: Option<Stage>, job: &[u8], out: &mut [u8]) -> Result<usize, Refusal>
     ensures { Ends (staged stage job.now (length out.old)) out.old out.new result }
 {
     let mut index = [0u32; 7424];
-    let r = load(job, &mut index);
-    match r {
-        Loaded::Refused(n, p) => Ending::Refused(n, p),
-        Loaded::Done(c) => on_loaded(stage, job, &index, c, out),
-    }
+    let c = load(job, &mut index)?;
+    on_loaded(stage, job, &index, c, out)
 }
 
 // The uses of a loaded job, read and written.
-fn write_loaded(job: &[u8], index: &[u32], c: Counts, out: &mut [u8]) -> Ending
+fn write_loaded(job: &[u8], index: &[u32], c: Counts, out: &mut [u8]) -> Result<usize, Refusal>
     requires { Opened job.now index.now c }
     ensures { Ends (read_stage job.now (length out.old)) out.old out.new result }
 {
@@ -492,107 +399,109 @@ fn write_loaded(job: &[u8], index: &[u32], c: Counts, out: &mut [u8]) -> Ending
 
 // The stage `read`. It hands nothing on, and goes a way of its own, so that the records that it makes of the uses take no
 // stack of sewing.
-pub fn read_stage(job: &[u8], out: &mut [u8]) -> Ending
+pub fn read_stage(job: &[u8], out: &mut [u8]) -> Result<usize, Refusal>
     ensures { Ends (read_stage job.now (length out.old)) out.old out.new result }
 {
     let mut index = [0u32; 7424];
-    let r = load(job, &mut index);
-    match r {
-        Loaded::Refused(n, p) => Ending::Refused(n, p),
-        Loaded::Done(c) => write_loaded(job, &index, c, out),
-    }
+    let c = load(job, &mut index)?;
+    write_loaded(job, &index, c, out)
 }
 
 // The stage `pair`.
-pub fn pair_stage(job: &[u8], out: &mut [u8]) -> Ending
+#[tactic(auto, using(progress::specs::StageLaws::stage_pair))]
+pub fn pair_stage(job: &[u8], out: &mut [u8]) -> Result<usize, Refusal>
     ensures { Ends (pair_stage job.now (length out.old)) out.old out.new result }
 {
-    run(PAIR, job, out)
+    run(Some(Stage::Pair), job, out)
 }
 
 // The stage `merge`.
-pub fn merge_stage(job: &[u8], out: &mut [u8]) -> Ending
+#[tactic(auto, using(progress::specs::StageLaws::stage_merge))]
+pub fn merge_stage(job: &[u8], out: &mut [u8]) -> Result<usize, Refusal>
     ensures { Ends (merge_stage ordinary job.now (length out.old)) out.old out.new result }
 {
-    run(MERGE, job, out)
+    run(Some(Stage::Merge), job, out)
 }
 
 // The stage `vertex-loops`.
-pub fn vertex_loop_stage(job: &[u8], out: &mut [u8]) -> Ending
+#[tactic(auto, using(progress::specs::StageLaws::stage_vertex_loops))]
+pub fn vertex_loop_stage(job: &[u8], out: &mut [u8]) -> Result<usize, Refusal>
     ensures { Ends (vertex_loop_stage ordinary job.now (length out.old)) out.old out.new result }
 {
-    run(VERTEX_LOOPS, job, out)
+    run(Some(Stage::VertexLoops), job, out)
 }
 
 // The stage `walk`. Its walks are those of which demand 3 speaks, so what it says of walks holds of them.
-pub fn walk_stage(job: &[u8], out: &mut [u8]) -> Ending
+pub fn walk_stage(job: &[u8], out: &mut [u8]) -> Result<usize, Refusal>
     ensures { Ends (walk_stage ordinary job.now (length out.old)) out.old out.new result × Promised job.now }
 {
-    run(WALK, job, out)
+    run(Some(Stage::Walk), job, out)
 }
 
 // The stage `loops`.
-pub fn loop_stage(job: &[u8], out: &mut [u8]) -> Ending
+pub fn loop_stage(job: &[u8], out: &mut [u8]) -> Result<usize, Refusal>
     ensures { Ends (loop_stage ordinary job.now (length out.old)) out.old out.new result × Promised job.now }
 {
-    run(LOOPS, job, out)
+    run(Some(Stage::Loops), job, out)
 }
 
 // The stage `fans`.
-pub fn fan_stage(job: &[u8], out: &mut [u8]) -> Ending
+#[tactic(auto, using(progress::specs::StageLaws::stage_fans))]
+pub fn fan_stage(job: &[u8], out: &mut [u8]) -> Result<usize, Refusal>
     ensures { Ends (fan_stage ordinary job.now (length out.old)) out.old out.new result }
 {
-    run(FANS, job, out)
+    run(Some(Stage::Fans), job, out)
 }
 
 // The stage `edges`.
-pub fn edge_stage(job: &[u8], out: &mut [u8]) -> Ending
+#[tactic(auto, using(progress::specs::StageLaws::stage_edges))]
+pub fn edge_stage(job: &[u8], out: &mut [u8]) -> Result<usize, Refusal>
     ensures { Ends (edge_stage ordinary job.now (length out.old)) out.old out.new result }
 {
-    run(EDGES, job, out)
+    run(Some(Stage::Edges), job, out)
 }
 
 // The stage `joining`.
-pub fn joining_stage(job: &[u8], out: &mut [u8]) -> Ending
+#[tactic(auto, using(progress::specs::StageLaws::stage_joining))]
+pub fn joining_stage(job: &[u8], out: &mut [u8]) -> Result<usize, Refusal>
     ensures { Ends (joining_stage ordinary job.now (length out.old)) out.old out.new result }
 {
-    run(JOINING, job, out)
+    run(Some(Stage::Joining), job, out)
 }
 
 // The stage `shells`.
-pub fn shell_stage(job: &[u8], out: &mut [u8]) -> Ending
+#[tactic(auto, using(progress::specs::StageLaws::stage_shells))]
+pub fn shell_stage(job: &[u8], out: &mut [u8]) -> Result<usize, Refusal>
     ensures { Ends (shell_stage ordinary job.now (length out.old)) out.old out.new result }
 {
-    run(SHELLS, job, out)
+    run(Some(Stage::Shells), job, out)
 }
 
 // The stage `lumps`.
-pub fn lump_stage(job: &[u8], out: &mut [u8]) -> Ending
+#[tactic(auto, using(progress::specs::StageLaws::stage_lumps))]
+pub fn lump_stage(job: &[u8], out: &mut [u8]) -> Result<usize, Refusal>
     ensures { Ends (lump_stage ordinary job.now (length out.old)) out.old out.new result }
 {
-    run(LUMPS, job, out)
+    run(Some(Stage::Lumps), job, out)
 }
 
 // The body of a loaded job; one that selects no face is Empty.
-fn sew_loaded(job: &[u8], index: &[u32], c: Counts, out: &mut [u8]) -> Ending
+fn sew_loaded(job: &[u8], index: &[u32], c: Counts, out: &mut [u8]) -> Result<usize, Refusal>
     requires { Opened job.now index.now c }
     ensures { Ends (sewn_by job.now (length out.old)) out.old out.new result }
 {
     if c.faces == 0 {
         return put_empty(out);
     }
-    on_loaded(BODY, job, index, c, out)
+    on_loaded(None, job, index, c, out)
 }
 
 // Sewing: the body's records from the output's start on, or a refusal and the output untouched. What demand 3 says holds
 // of the job.
-pub fn sew(job: &[u8], out: &mut [u8]) -> Ending
+pub fn sew(job: &[u8], out: &mut [u8]) -> Result<usize, Refusal>
     ensures { Ends (sewn ordinary job.now (length out.old)) out.old out.new result × Promises full_table job.now }
 {
     let mut index = [0u32; 7424];
-    let r = load(job, &mut index);
-    match r {
-        Loaded::Refused(n, p) => Ending::Refused(n, p),
-        Loaded::Done(c) => sew_loaded(job, &index, c, out),
-    }
+    let c = load(job, &mut index)?;
+    sew_loaded(job, &index, c, out)
 }

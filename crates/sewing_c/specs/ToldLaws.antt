@@ -1,86 +1,117 @@
 -- What is told follows from the ending.
-use Rattle.std.specs.Prelude.{ℕ, ◌-◌, ◌<◌, ◌≡◌, refl, List, true, cond, length, take}
+use Rattle.std.specs.Prelude.{ℕ, ◌+◌, ◌-◌, ◌<◌, ◌≤◌, ◌≡◌, refl, List, true, cond, length, take}
 use Rattle.std.proofs.Common.{arith, sym, ap, ◌∙◌, subst, length-take, take_all, eq-eqb, ne_eqb}
 use Rattle.std.proofs.lemmas.Bool.{false≢true}
+use mathlib.Core.List.{flat_map}
 use Rattle.lists.specs.Lists.{has}
-use Rattle.rules.specs.declared.Ending.{Ending}
-use Rattle.rules.specs.declared.Ending.TheVariants.{Written, Refused as Stopped}
-use Rattle.rules.specs.Outcome.{Outcome, ok, refuse}
+use Rattle.rules.specs.declared.Refusal.{Refusal}
+use Rattle.rules.specs.declared.Fault.{Fault}
+use Rattle.rules.specs.declared.Fault.TheVariants.{TooLong, CutShort, Misplaced, LimitPassed, FieldNotPermitted, LoopJoints, AnsweredTwice, SelectedTwice, EqualSenses, OddUses, SamePredecessor, NoTwin, Unanswered, AnswerUndecided, NormalsVanish, NotRound, PairsInBoundary, FansInBoundary, FansInLump, PairsInLump, NoOuterShell, NoRoom}
 use Rattle.rules.specs.Job.{Stretch}
 use Rattle.rules.specs.Rules.{full_table, ordinary}
 use Rattle.rules.specs.Sew.{ended, Ends, sewn}
-use Rattle.load.specs.declared.Stretched.{Stretched}
-use Rattle.load.specs.declared.Stretched.TheVariants.{Refused, At}
-use Rattle.rules.specs.Listing.{listing_of, sewn_records}
-use Rattle.load.specs.Stretches.{stretch_of, Within}
+use Rattle.rules.specs.Outcome.{Outcome, Ok, Err, fault_number}
+use Rattle.rules.specs.Listing.{line_of, refusal_line, listing_of, sewn_records}
 use Rattle.fields.specs.Wrote.{Wrote}
-use Rattle.lines.specs.Text.{recorded}
+use Rattle.lines.specs.Text.{records_in, recorded}
 use Rattle.lines.specs.Writing.{wrote_same}
 use Rattle.lines.specs.Listed.{recorded_listing}
-use Rattle.sewing_c.specs.Told.{is_number, end_number, end_value, ending_of, Numbered, number_of, value_of, Tells, ListsAnswer, Inside, TellsLoop}
+use Rattle.sewing_c.specs.Told.{is_number, Numbered, number_of, end_value, value_of, Tells, answer_text, ListsAnswer, Inside, TellsLoop}
 
-number_is : (o : Outcome (List ℕ)) → end_number (ended o) ≡ number_of o
-number_is (ok bytes) = refl
-number_is (refuse number place) = refl
+-- NUMBERS
+
+-- the number of each fault is one of them
+fault_listed : (f : Fault) → is_number (fault_number f) ≡ true
+unfolding is_number has fault_number
+fault_listed TooLong = refl
+fault_listed CutShort = refl
+fault_listed Misplaced = refl
+fault_listed FieldNotPermitted = refl
+fault_listed LimitPassed = refl
+fault_listed LoopJoints = refl
+fault_listed AnsweredTwice = refl
+fault_listed EqualSenses = refl
+fault_listed OddUses = refl
+fault_listed SamePredecessor = refl
+fault_listed NoTwin = refl
+fault_listed Unanswered = refl
+fault_listed AnswerUndecided = refl
+fault_listed NormalsVanish = refl
+fault_listed NotRound = refl
+fault_listed PairsInBoundary = refl
+fault_listed FansInBoundary = refl
+fault_listed FansInLump = refl
+fault_listed PairsInLump = refl
+fault_listed NoOuterShell = refl
+fault_listed NoRoom = refl
+fault_listed SelectedTwice = refl
+
+pub numbered : {A : Type 0} (o : Outcome A) → Numbered o
+numbered o = record { listed = λ r e. fault_listed r.fault }
+
+not_zero : (n : ℕ) → is_number n ≡ true → n ≡ 0 → ⊥
+unfolding is_number has
+not_zero n t e = false≢true (ap is_number (sym e) ∙ t)
+
+-- ENDINGS
+
+number_is : (o : Outcome (List ℕ)) → number_of (ended o) ≡ number_of o
+number_is (Ok bytes) = refl
+number_is (Err refusal) = refl
 
 value_is : (o : Outcome (List ℕ)) → end_value (ended o) ≡ value_of o
-value_is (ok bytes) = refl
-value_is (refuse number place) = refl
+value_is (Ok bytes) = refl
+value_is (Err refusal) = refl
 
 -- an operation's ending, told
-pub told : (o : Outcome (List ℕ)) (before after : List ℕ) (e : Ending) (number value : ℕ) → Ends o before after e → (number ≡ end_number e) × (value ≡ end_value e) → Numbered o →
-    Tells o before after value number
-told o before after e number value E t h = (t.0 ∙ ap end_number E.0 ∙ number_is o, t.1 ∙ ap end_value E.0 ∙ value_is o, E.1, h)
+pub told : (o : Outcome (List ℕ)) (before after : List ℕ) (e : Outcome ℕ) (number value : ℕ) → Ends o before after e → (number ≡ number_of e) × (value ≡ end_value e) → Tells o before after value number
+told o before after e number value E t = (t.0 ∙ ap number_of E.0 ∙ number_is o, t.1 ∙ ap end_value E.0 ∙ value_is o, E.1, numbered o)
 
--- an ending by what was told
-pub ending_written : (number value : ℕ) → number ≡ 0 → Written value ≡ ending_of number value
-ending_written number value e = sym (ap (λ t. cond t (Written value) (Stopped number value)) (eq-eqb number 0 e))
+-- THE LOOP REQUEST
 
-pub ending_refused : (number value : ℕ) → (number ≡ 0 → ⊥) → Stopped number value ≡ ending_of number value
-ending_refused number value n = sym (ap (λ t. cond t (Written value) (Stopped number value)) (ne_eqb number 0 n))
+-- a stretch, told
+pub loop_told : (job : List ℕ) (o : Outcome Stretch) (a z : ℕ) → Ok (record { start = a; size = z - a }) ≡ o → (a < z) × (z ≤ length job) → TellsLoop o a (z - a) 0 × Inside job o
+loop_told job o a z e inside =
+    subst (λ x. TellsLoop x a (z - a) 0 × Inside job x) e
+    ((refl, refl, refl, numbered (Ok (record { start = a; size = z - a }))), (omega (arith, inside.0), omega (arith, inside.0, inside.1)))
 
--- a request's stretch, told
-module _ (job : List ℕ) (o : Outcome Stretch) (r : Stretched) (e : stretch_of r ≡ o) (h : Numbered o) where
-  numbers : (x : Outcome Stretch) → x ≡ o → Numbered x
-  numbers x q = subst Numbered (sym q) h
+pub loop_refused : (job : List ℕ) (o : Outcome Stretch) (r : Refusal) (n : ℕ) → Err r ≡ o → n ≡ fault_number r.fault → TellsLoop o 0 r.place n × Inside job o
+loop_refused job o r n e en = subst (λ x. TellsLoop x 0 r.place n × Inside job x) e ((en, refl, refl, numbered (Err r)), tt)
 
-  pub loop_refused : (n p : ℕ) → r ≡ Refused n p → TellsLoop o 0 p n × Inside job o
-  loop_refused n p q =
-      let is = sym (ap stretch_of q) ∙ e in
-      subst (λ x. TellsLoop x 0 p n × Inside job x) is ((refl, refl, refl, numbers (refuse n p) is), tt)
+-- THE LISTING
 
-  pub loop_told : (a z : ℕ) → Within job r → r ≡ At a z → TellsLoop o a (z - a) 0 × Inside job o
-  loop_told a z w q =
-      let is = sym (ap stretch_of q) ∙ e in
-      let inside = subst (Within job) q w in
-      subst (λ x. TellsLoop x a (z - a) 0 × Inside job x) is ((refl, refl, refl, numbers (stretch_of (At a z)) is), (omega (arith, inside.0), omega (arith, inside.0, inside.1)))
+-- the text by number and value
+pub text_written : (number value : ℕ) (out : List ℕ) → number ≡ 0 → listing_of (recorded out (Ok value)) ≡ answer_text number value out
+text_written number value out e = sym (ap (λ t. cond t (flat_map line_of (records_in (take value out))) (refusal_line number value)) (eq-eqb number 0 e))
+
+pub text_refused : (number value : ℕ) (out : List ℕ) → (number ≡ 0 → ⊥) → refusal_line number value ≡ answer_text number value out
+text_refused number value out n = sym (ap (λ t. cond t (flat_map line_of (records_in (take value out))) (refusal_line number value)) (ne_eqb number 0 n))
+
+-- what was told is an ending, and its text is that
+abbrev Answered : Outcome (List ℕ) → List ℕ → List ℕ → ℕ → ℕ → Type 0
+Answered o before out number value = (e : Outcome ℕ) × Ends o before out e × (answer_text number value out ≡ listing_of (recorded out e))
+
+answered : (o : Outcome (List ℕ)) (before out : List ℕ) (number value : ℕ) → Tells o before out value number → Answered o before out number value
+answered (Ok bytes) before out number value T = (Ok value, (ap Ok T.1, T.2), sym (text_written number value out T.0))
+answered (Err r) before out number value T =
+    let other : number ≡ 0 → ⊥ = λ z. not_zero (fault_number r.fault) (T.3.listed r refl) (sym T.0 ∙ z) in
+    (Err r, (refl, T.2), sym (text_refused number value out other) ∙ (λ i. refusal_line (T.0 i) (T.1 i)))
 
 -- the first bytes of a body are few
 pub few_bytes : (out body : List ℕ) → body ≡ take 4294967295 out → length body < 4294967296
 few_bytes out body e = omega (arith, ap length e ∙ length-take 4294967295 out)
 
 -- the listing by what was told
-pub listed : (page after out body : List ℕ) (e told : Ending) (n : ℕ) → body ≡ out → told ≡ e → Wrote page 0 (listing_of (recorded body told)) after n → Wrote page 0
-    (listing_of (recorded out e)) after n
-listed page after out body e told n p q w = subst (λ x. Wrote page 0 (listing_of (recorded x e)) after n) p (subst (λ x. Wrote page 0 (listing_of (recorded body x)) after n) q w)
+pub listed : (page after out body text : List ℕ) (number value n : ℕ) → body ≡ out → text ≡ answer_text number value body → Wrote page 0 text after n
+    → Wrote page 0 (answer_text number value out) after n
+listed page after out body text number value n p q w = wrote_same page after text (answer_text number value out) 0 n (q ∙ ap (answer_text number value) p) w
 
--- what was told is the ending
-not_zero : (n : ℕ) → is_number n ≡ true → n ≡ 0 → ⊥
-unfolding is_number has
-not_zero n t e = false≢true (ap is_number (sym e) ∙ t)
-
-pub ends_told : (o : Outcome (List ℕ)) (before after : List ℕ) (number value : ℕ) → Tells o before after value number → Ends o before after (ending_of number value)
-ends_told (ok bytes) before after number value T = (sym (ending_written number value T.0) ∙ ap Written T.1, T.2)
-ends_told (refuse n p) before after number value T =
-    (sym (ending_refused number value (λ z. not_zero n (T.3.listed n p refl) (sym T.0 ∙ z))) ∙ (λ i. Stopped (T.0 i) (T.1 i)), T.2)
-
-pub lists_answer : (number value : ℕ) (out page printed : List ℕ) (r : ℕ) → Wrote page 0 (listing_of (recorded (take 4294967295 out) (ending_of number value))) printed r →
-    ListsAnswer number value out page printed r
+pub lists_answer : (number value : ℕ) (out page printed : List ℕ) (r : ℕ) → Wrote page 0 (answer_text number value (take 4294967295 out)) printed r → ListsAnswer number value out page printed r
 lists_answer number value out page printed r w = record {
   text = w;
   records = λ job before bytes few same T.
       let all : take 4294967295 out ≡ out = take_all 4294967295 out (omega (arith, few, same)) in
-      wrote_same page printed _ (listing_of (sewn_records ordinary job (length before))) 0 r
-      (ap (λ l. listing_of (recorded l (ending_of number value))) all
-      ∙ recorded_listing full_table job before out (ending_of number value) bytes few (ends_told (sewn ordinary job (length before)) before out number value T)) w;
+      let a = answered (sewn ordinary job (length before)) before out number value T in
+      wrote_same page printed (answer_text number value (take 4294967295 out)) (listing_of (sewn_records ordinary job (length before))) 0 r
+      (ap (answer_text number value) all ∙ a.2 ∙ recorded_listing full_table job before out a.0 bytes few a.1) w;
 }

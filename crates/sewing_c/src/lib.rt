@@ -11,38 +11,27 @@ ghost use Rattle.rules.specs.Stage.{read_stage, pair_stage, merge_stage, vertex_
 ghost use Rattle.theorems.specs.Promises.{Promises};
 ghost use Rattle.lines.specs.Listed.{Lists};
 ghost use Rattle.sewing.specs.Steps.{Promised};
-ghost use Rattle.sewing_c.specs.Told.{end_number, end_value, ending_of, Tells, ListsAnswer, Inside, TellsLoop};
+ghost use Rattle.sewing_c.specs.Told.{number_of, end_value, Tells, ListsAnswer, Inside, TellsLoop};
 
-use load::Stretched;
-use rules::Ending;
+use rules::Refusal;
 
 // The longest body of which a listing is made.
 const BODY: usize = 4294967295;
 
 // An ending in numbers: 0 with the bytes written, or a refusal's number with its place.
-fn tell(ending: Ending, value: &mut usize) -> usize
-    ensures { (result ≡ end_number ending) × (value.new ≡ end_value ending) }
+fn tell(ending: Result<usize, Refusal>, value: &mut usize) -> usize
+    ensures { (result ≡ number_of ending) × (value.new ≡ end_value ending) }
 {
     match ending {
-        Ending::Written(n) => {
+        Ok(n) => {
             *value = n;
             0
         }
-        Ending::Refused(number, place) => {
-            *value = place;
-            number
+        Err(refusal) => {
+            *value = refusal.place;
+            refusal.fault.number()
         }
     }
-}
-
-// The ending of which these numbers were told.
-fn ending_of(number: usize, value: usize) -> Ending
-    ensures { result ≡ ending_of number value }
-{
-    if number == 0 {
-        return Ending::Written(value);
-    }
-    Ending::Refused(number, value)
 }
 
 // Sewing: 0 with the bytes written, or a refusal's number with its place and the output untouched. What demand 3 says
@@ -173,17 +162,16 @@ pub extern "C" fn zaxclover_loop(
 ) -> usize
     ensures { TellsLoop (requested job.now n) start.new value.new result × Inside job.now (requested job.now n) }
 {
-    let s = load::loop_stretch(job, n);
-    match s {
-        Stretched::Refused(number, place) => {
-            *start = 0;
-            *value = place;
-            number
-        }
-        Stretched::At(from, end) => {
-            *start = from;
-            *value = end - from;
+    match load::loop_stretch(job, n) {
+        Ok(bytes) => {
+            *start = bytes.start;
+            *value = bytes.end - bytes.start;
             0
+        }
+        Err(refusal) => {
+            *start = 0;
+            *value = refusal.place;
+            refusal.fault.number()
         }
     }
 }
@@ -202,8 +190,10 @@ pub extern "C" fn zaxclover_listing(
     ensures { ListsAnswer number value out.now page.old page.new result }
 {
     let body = lines::front(out, BODY);
-    let ending = ending_of(number, value);
-    lines::put_listing(page, body, ending)
+    if number == 0 {
+        return lines::put_listing(page, body, Ok(value));
+    }
+    lines::put_refusal(page, number, value)
 }
 
 // The listing of a job, sewn into 65,536 bytes. Gives the length of the text, which is at most 196,608; what the page has

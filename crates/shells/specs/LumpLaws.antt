@@ -53,7 +53,8 @@ module _ (boundaries t labels : List ℕ) (count f : ℕ) (s : LabelsAt boundari
         within = omega arith;
         count_is = omega (arith, s.count_is, ap length (keep_below_yes (is_lowest boundaries) f lowest), length-append (keep (is_lowest boundaries) (below f)) (f ∷ []));
         values = λ j. rw ea
-            (set_each (λ k x. k < f + 1 → x ≡ lump_of_face boundaries t k) labels f home 0 (omega (arith, s.size)) (λ h. eh ∙ ap (λ k. get_or t (4 * k + 3) 0) place) j (λ ne h. s.values j (omega arith)));
+            (set_each (λ k x. k < f + 1 → x ≡ lump_of_face boundaries t k) labels f home 0 (omega (arith, s.size)) (λ h. eh ∙ ap (λ k. get_or t (4 * k + 3) 0) place) j
+            (λ ne h. s.values j (omega arith)));
       }
 
   -- another face of its boundary was labelled before
@@ -68,13 +69,15 @@ module _ (boundaries t labels : List ℕ) (count f : ℕ) (s : LabelsAt boundari
         count_is = s.count_is ∙ sym (ap length (keep_below_no (is_lowest boundaries) f (ne_eqb (label_of boundaries f) f (λ e. other (eb ∙ e)))));
         values = λ j. rw ea
             (set_each (λ k x. k < f + 1 → x ≡ lump_of_face boundaries t k) labels f home 0 (omega (arith, s.size))
-            (λ h. eh ∙ s.values b (omega arith) ∙ ap (λ x. get_or t (4 * index_of x (lowest_members boundaries) + 3) 0) (ap (label_of boundaries) eb ∙ s.lowest.stands f lt)) j (λ ne h. s.values j (omega arith)));
+            (λ h. eh ∙ s.values b (omega arith) ∙ ap (λ x. get_or t (4 * index_of x (lowest_members boundaries) + 3) 0) (ap (label_of boundaries) eb ∙ s.lowest.stands f lt)) j
+            (λ ne h. s.values j (omega arith)));
       }
 
 -- the homes of the nested shells stand in the table
 home_at : (boundaries members : List ℕ) (n : ℕ) (t : List ℕ) (k : ℕ) → k < n → get_or (map (λ x. x.home) (nested_in boundaries members n t)) k 0 ≡ get_or t (4 * k + 3) 0
 unfolding nested_in
-home_at boundaries members n t k h = get_or_map (λ x. x.home) (map (nested_one boundaries members t) (below n)) k 0 (nested_one boundaries members t 0) (omega (arith, length_table (nested_one boundaries members t) n))
+home_at boundaries members n t k h =
+    get_or_map (λ x. x.home) (map (nested_one boundaries members t) (below n)) k 0 (nested_one boundaries members t 0) (omega (arith, length_table (nested_one boundaries members t) n))
     ∙ ap (λ x. x.home) (get_or_table (nested_one boundaries members t) n k (nested_one boundaries members t 0) h)
 
 pub labels_end : (boundaries t labels : List ℕ) (count f : ℕ) → LabelsAt boundaries t labels count f → length boundaries ≤ f

@@ -1,5 +1,6 @@
--- Laws of making shells: the lowest faces, one shell more, and all of them.
-use Rattle.std.specs.Prelude.{ℕ, suc, ◌+◌, ◌*◌, ◌-◌, ◌≤◌, ◌<◌, ◌≡◌, refl, Bool, true, List, [], ◌∷◌, ◌++◌, map, set, drop, replicate}
+-- Laws of making shells: the lowest faces, outer or void, one shell stored, and one shell more.
+use Rattle.std.specs.Prelude.{ℕ, suc, ◌+◌, ◌*◌, ◌-◌, ◌≤◌, ◌<◌, ◌≡◌, refl, Bool, true, false, List, [], ◌∷◌, ◌++◌, map, set, drop, replicate}
+use Rattle.std.specs.Int.{from_bool}
 use native.Mathlib.Omega.{arith}
 use Rattle.std.proofs.Math.Path.{sym, ap}
 use Rattle.std.proofs.Common.{◌∙◌, drop_of_length-le, drop-cons, eq-eqb, ne_eqb}
@@ -8,22 +9,20 @@ use Rattle.std.proofs.Math.ListN.{length, get_or, length-set, length-replicate}
 use Rattle.std.proofs.Math.Seq.{get_or-set_same, get_or-set_other}
 use Rattle.std.proofs.Math.Dec.{eqb}
 use Rattle.lists.specs.Lists.{from, below, keep, positions}
-use Rattle.lists.specs.Tests.{equal_or_not, cond_true, cond_false}
+use Rattle.lists.specs.Tests.{equal_or_not}
 use Rattle.lists.specs.Constants.{get_or_constant}
 use Rattle.lists.specs.Runs.{from_first, length_below, length_table}
 use Rattle.lists.specs.Members.{keep_yes, keep_append, keep_length, map_append}
 use Rattle.lists.specs.Prefixes.{below_split, keep_below_yes, keep_below_no}
 use Rattle.lists.specs.TableMore.{table_more}
-use Rattle.rules.specs.Outcome.{ok, refuse, for_each}
+use Rattle.rules.specs.declared.Refusal.{Refusal}
+use Rattle.rules.specs.Outcome.{Outcome, Ok, Err, for_each}
 use Rattle.rules.proofs.OutcomeLaws.{bind_on, bind_stop, each_none}
 use Rattle.rules.specs.Job.{Answer}
 use Rattle.rules.specs.Groups.{label_of, is_lowest, lowest_members}
-use Rattle.rules.specs.Questions.{ask_yes}
-use Rattle.rules.specs.Shells.{lowest_face, shell_faces, orient_shell, shells}
-use Rattle.shells.specs.declared.Nesting.{Nesting}
-use Rattle.shells.specs.declared.Nesting.TheVariants.{Done, Refused}
+use Rattle.rules.specs.Shells.{Shell, lowest_face, shell_faces, orient_shell, shells}
 use Rattle.shells.specs.Table.{boundary_in, shell_in, shells_in, Shelled}
-use Rattle.shells.specs.Steps.{LowFaces, outer_by, stored}
+use Rattle.shells.specs.Steps.{outer_by, stored}
 use Rattle.shells.specs.Each.{each_more, each_stop}
 
 -- no more shells than selected faces
@@ -80,35 +79,25 @@ module _ (boundaries members : List ℕ) where
             ∙ ap (λ s. lowest_face (positions (λ r. eqb (label_of boundaries r) b) g s)) (sym split);
       }
 
-  pub low_end : (lows : List ℕ) (f : ℕ) → LowFrom boundaries members lows f → f ≤ 0 → LowFaces boundaries members lows
-  low_end lows f h le b lt = let z : f ≡ 0 = omega arith in h.lowest b lt ∙ ap (λ k. lowest_face (positions (λ r. eqb (label_of boundaries r) b) k (drop k members))) z
-
 -- OUTER OR VOID
 
-pub outer_proven : (answers : List Answer) (proven head low : ℕ) → head ≡ proven → head ≡ 1 → ok true ≡ outer_by answers proven low
-unfolding outer_by
-outer_proven answers proven head low e one = sym (cond_true (eqb proven 1) _ _ (eq-eqb proven 1 (sym e ∙ one)))
-
-pub outer_asked : (answers : List Answer) (proven head low : ℕ) → head ≡ proven → (head ≡ 1 → ⊥) → ask_yes answers 12 (low ∷ []) ≡ outer_by answers proven low
-unfolding outer_by
-outer_asked answers proven head low e n = sym (cond_false (eqb proven 1) _ _ (ne_eqb proven 1 (λ z. n (e ∙ z))))
-
 module _ (answers : List Answer) (proven : ℕ) (faces : List ℕ) where
-  oriented : (o : Bool) → outer_by answers proven (lowest_face faces) ≡ ok o → orient_shell answers proven faces ≡ ok (record { faces = faces; outer = o })
+  oriented : (o : Bool) → outer_by answers proven (lowest_face faces) ≡ Ok o → orient_shell answers proven faces ≡ Ok (record { faces = faces; outer = o })
   unfolding orient_shell outer_by
   oriented o e = bind_on _ e
 
-  orient_stop : (n p : ℕ) → outer_by answers proven (lowest_face faces) ≡ refuse n p → orient_shell answers proven faces ≡ refuse n p
+  orient_stop : {r : Refusal} → outer_by answers proven (lowest_face faces) ≡ Err r → orient_shell answers proven faces ≡ Err r
   unfolding orient_shell outer_by
-  orient_stop n p e = bind_stop _ e
+  orient_stop e = bind_stop _ e
 
 -- ONE SHELL STORED
 
-pub stored_as : (t t₁ t₂ t₃ : List ℕ) (k b low outer : ℕ) → t₁ ≡ set t (4 * k) b → t₂ ≡ set t₁ (4 * k + 1) low → t₃ ≡ set t₂ (4 * k + 2) outer → t₃ ≡ stored t k b low outer
-unfolding stored
-stored_as t t₁ t₂ t₃ k b low outer e₁ e₂ e₃ = e₃ ∙ ap (λ s. set s (4 * k + 2) outer) (e₂ ∙ ap (λ s. set s (4 * k + 1) low) e₁)
+-- the flag that stands for outer reads as it
+flag_is : (o : Bool) → eqb (from_bool o) 1 ≡ o
+flag_is true = refl
+flag_is false = refl
 
-module _ (t : List ℕ) (k b low outer : ℕ) where
+module _ (t : List ℕ) (k b low : ℕ) (outer : Bool) where
   one : List ℕ
   one = set t (4 * k) b
 
@@ -119,28 +108,25 @@ module _ (t : List ℕ) (k b low outer : ℕ) where
   unfolding one two
   two_size = length-set one (4 * k + 1) low ∙ length-set t (4 * k) b
 
-  pub stored_size : length (stored t k b low outer) ≡ length t
-  unfolding stored one two
-  stored_size = length-set two (4 * k + 2) outer ∙ two_size
-
   stored_before : (p : ℕ) → p < 4 * k → get_or (stored t k b low outer) p 0 ≡ get_or t p 0
   unfolding stored one two
   stored_before p h =
-      get_or-set_other two (4 * k + 2) p outer 0 (λ e. omega arith) ∙ get_or-set_other one (4 * k + 1) p low 0 (λ e. omega arith) ∙ get_or-set_other t (4 * k) p b 0 (λ e. omega arith)
+      get_or-set_other two (4 * k + 2) p (from_bool outer) 0 (λ e. omega arith) ∙ get_or-set_other one (4 * k + 1) p low 0 (λ e. omega arith) ∙ get_or-set_other t (4 * k) p b 0 (λ e. omega arith)
 
   module _ (room : 4 * k + 2 < length t) where
-    stored_outer : get_or (stored t k b low outer) (4 * k + 2) 0 ≡ outer
+    stored_outer : eqb (get_or (stored t k b low outer) (4 * k + 2) 0) 1 ≡ outer
     unfolding stored one two
-    stored_outer = get_or-set_same two (4 * k + 2) outer 0 (omega (arith, two_size))
+    stored_outer = ap (λ v. eqb v 1) (get_or-set_same two (4 * k + 2) (from_bool outer) 0 (omega (arith, two_size))) ∙ flag_is outer
 
     stored_low : get_or (stored t k b low outer) (4 * k + 1) 0 ≡ low
     unfolding stored one two
-    stored_low = get_or-set_other two (4 * k + 2) (4 * k + 1) outer 0 (λ e. omega arith) ∙ get_or-set_same one (4 * k + 1) low 0 (omega (arith, length-set t (4 * k) b))
+    stored_low = get_or-set_other two (4 * k + 2) (4 * k + 1) (from_bool outer) 0 (λ e. omega arith) ∙ get_or-set_same one (4 * k + 1) low 0 (omega (arith, length-set t (4 * k) b))
 
     stored_label : get_or (stored t k b low outer) (4 * k) 0 ≡ b
     unfolding stored one two
     stored_label =
-        get_or-set_other two (4 * k + 2) (4 * k) outer 0 (λ e. omega arith) ∙ get_or-set_other one (4 * k + 1) (4 * k) low 0 (λ e. omega arith) ∙ get_or-set_same t (4 * k) b 0 (omega arith)
+        get_or-set_other two (4 * k + 2) (4 * k) (from_bool outer) 0 (λ e. omega arith) ∙ get_or-set_other one (4 * k + 1) (4 * k) low 0 (λ e. omega arith)
+        ∙ get_or-set_same t (4 * k) b 0 (omega arith)
 
 -- ONE SHELL MORE
 
@@ -150,12 +136,12 @@ pub record ShellsAt (answers : List Answer) (proven : ℕ) (boundaries members t
   pub few : count ≤ b
   pub labels : map (boundary_in t) (below count) ≡ keep (is_lowest boundaries) (below b)
   pub lows : (k : ℕ) → k < count → get_or t (4 * k + 1) 0 ≡ lowest_face (shell_faces boundaries members (boundary_in t k))
-  pub made : for_each (orient_shell answers proven) (map (shell_faces boundaries members) (keep (is_lowest boundaries) (below b))) ≡ ok (shells_in boundaries members count t)
+  pub made : for_each (orient_shell answers proven) (map (shell_faces boundaries members) (keep (is_lowest boundaries) (below b))) ≡ Ok (shells_in boundaries members count t)
 
 -- the same after a step, or the refusal of all
-abbrev pub ShellsTo : List Answer → ℕ → List ℕ → List ℕ → List ℕ → Nesting → ℕ → Type 0
-ShellsTo answers proven boundaries members t (Done count) b = ShellsAt answers proven boundaries members t count b
-ShellsTo answers proven boundaries members t (Refused n p) b = refuse n p ≡ shells answers proven (map (shell_faces boundaries members) (lowest_members boundaries))
+abbrev pub ShellsTo : List Answer → ℕ → List ℕ → List ℕ → List ℕ → Outcome ℕ → ℕ → Type 0
+ShellsTo answers proven boundaries members t (Ok count) b = ShellsAt answers proven boundaries members t count b
+ShellsTo answers proven boundaries members t (Err r) b = ◌≡◌ {A = Outcome (List Shell)} (Err r) (shells answers proven (map (shell_faces boundaries members) (lowest_members boundaries)))
 
 pub shells_start : (answers : List Answer) (proven : ℕ) (boundaries members t : List ℕ) → ShellsAt answers proven boundaries members t 0 0
 unfolding from keep shells_in
@@ -181,33 +167,34 @@ module _ (answers : List Answer) (proven : ℕ) (boundaries members t : List ℕ
       }
 
   module _ (own : label ≡ b) (low : ℕ) (elow : low ≡ lowest_face (shell_faces boundaries members b)) (s : ShellsAt answers proven boundaries members t count b) where
-    pub shells_stop : (n p : ℕ) → outer_by answers proven low ≡ refuse n p → refuse n p ≡ shells answers proven (map (shell_faces boundaries members) (lowest_members boundaries))
-    shells_stop n p e =
+    pub shells_stop : {r : Refusal} → outer_by answers proven low ≡ Err r → Err r ≡ shells answers proven (map (shell_faces boundaries members) (lowest_members boundaries))
+    shells_stop e =
         let q = is_lowest boundaries in
         let later = keep q (from (suc b) (length boundaries - b - 1)) in
         let split : lowest_members boundaries ≡ keep q (below b) ++ (b ∷ later) =
-        ap (keep q) (below_split b (length boundaries) (omega arith) ∙ ap (λ l. below b ++ l) (from_first b (length boundaries - b) (omega arith))) ∙ keep_append q (below b) (b ∷ from (suc b) (length boundaries - b - 1))
+        ap (keep q) (below_split b (length boundaries) (omega arith) ∙ ap (λ l. below b ++ l) (from_first b (length boundaries - b) (omega arith)))
+        ∙ keep_append q (below b) (b ∷ from (suc b) (length boundaries - b - 1))
         ∙ ap (λ l. keep q (below b) ++ l) (keep_yes q b (from (suc b) (length boundaries - b - 1)) (eq-eqb (label_of boundaries b) b (sym el ∙ own))) in
         let faces = shell_faces boundaries members in
         sym
         (ap (λ l. for_each (orient_shell answers proven) (map faces l)) split
         ∙ ap (for_each (orient_shell answers proven)) (map_append faces (keep q (below b)) (b ∷ later))
-        ∙ each_stop (orient_shell answers proven) (map faces (keep q (below b))) (faces b) (map faces later) (shells_in boundaries members count t) n p s.made
-        (orient_stop answers proven (faces b) n p (ap (outer_by answers proven) (sym elow) ∙ e)))
+        ∙ each_stop (orient_shell answers proven) (map faces (keep q (below b))) (faces b) (map faces later) (shells_in boundaries members count t) s.made
+        (orient_stop answers proven (faces b) (ap (outer_by answers proven) (sym elow) ∙ e)))
 
-    pub shells_more : (o : Bool) (number : ℕ) (after : List ℕ) → length t ≡ 1024 → length boundaries ≤ 256 → outer_by answers proven low ≡ ok o → eqb number 1 ≡ o → after ≡ stored t count b low number
+    pub shells_more : (o : Bool) (after : List ℕ) → length t ≡ 1024 → length boundaries ≤ 256 → outer_by answers proven low ≡ Ok o → after ≡ stored t count b low o
         → ShellsAt answers proven boundaries members after (count + 1) (b + 1)
     unfolding shells_in
-    shells_more o number after size few e eo ea =
+    shells_more o after size few e ea =
         let old = s.few in
         let room : 4 * count + 2 < length t = omega arith in
         let faces = shell_faces boundaries members in
         let kept = keep_below_yes (is_lowest boundaries) b (eq-eqb (label_of boundaries b) b (sym el ∙ own)) in
-        let before : (p : ℕ) → p < 4 * count → get_or after p 0 ≡ get_or t p 0 = λ p h. ap (λ l. get_or l p 0) ea ∙ stored_before t count b low number p h in
+        let before : (p : ℕ) → p < 4 * count → get_or after p 0 ≡ get_or t p 0 = λ p h. ap (λ l. get_or l p 0) ea ∙ stored_before t count b low o p h in
         let label_same : (k : ℕ) → k < count → boundary_in after k ≡ boundary_in t k = λ k h. before (4 * k) (omega arith) in
-        let label_new : boundary_in after count ≡ b = ap (λ l. get_or l (4 * count) 0) ea ∙ stored_label t count b low number room in
-        let low_new : get_or after (4 * count + 1) 0 ≡ low = ap (λ l. get_or l (4 * count + 1) 0) ea ∙ stored_low t count b low number room in
-        let outer_new : eqb (get_or after (4 * count + 2) 0) 1 ≡ o = ap (λ l. eqb (get_or l (4 * count + 2) 0) 1) ea ∙ ap (λ v. eqb v 1) (stored_outer t count b low number room) ∙ eo in
+        let label_new : boundary_in after count ≡ b = ap (λ l. get_or l (4 * count) 0) ea ∙ stored_label t count b low o room in
+        let low_new : get_or after (4 * count + 1) 0 ≡ low = ap (λ l. get_or l (4 * count + 1) 0) ea ∙ stored_low t count b low o room in
+        let outer_new : eqb (get_or after (4 * count + 2) 0) 1 ≡ o = ap (λ l. eqb (get_or l (4 * count + 2) 0) 1) ea ∙ stored_outer t count b low o room in
         let shell_same : (k : ℕ) → k < count → shell_in boundaries members after k ≡ shell_in boundaries members t k = λ k h i.
         record { faces = faces (label_same k h i); outer = eqb (before (4 * k + 2) (omega arith) i) 1 } in
         let shell_new : shell_in boundaries members after count ≡ record { faces = faces b; outer = o } = λ i. record { faces = faces (label_new i); outer = outer_new i } in
@@ -221,16 +208,7 @@ module _ (answers : List Answer) (proven : ℕ) (boundaries members t : List ℕ
               (equal_or_not k count);
           made = ap (λ l. for_each (orient_shell answers proven) (map faces l)) kept
               ∙ ap (for_each (orient_shell answers proven)) (map_append faces (keep (is_lowest boundaries) (below b)) (b ∷ []))
-              ∙ each_more (orient_shell answers proven) (map faces (keep (is_lowest boundaries) (below b))) (faces b) (shells_in boundaries members count t) (record { faces = faces b; outer = o }) s.made
-              (oriented answers proven (faces b) o (ap (outer_by answers proven) (sym elow) ∙ e))
-              ∙ ap ok (sym (table_more (shell_in boundaries members t) (shell_in boundaries members after) count (record { faces = faces b; outer = o }) shell_same shell_new));
+              ∙ each_more (orient_shell answers proven) (map faces (keep (is_lowest boundaries) (below b))) (faces b) (shells_in boundaries members count t)
+              (record { faces = faces b; outer = o }) s.made (oriented answers proven (faces b) o (ap (outer_by answers proven) (sym elow) ∙ e))
+              ∙ ap Ok (sym (table_more (shell_in boundaries members t) (shell_in boundaries members after) count (record { faces = faces b; outer = o }) shell_same shell_new));
         }
-
--- all of them
-pub shells_end : (answers : List Answer) (proven : ℕ) (boundaries members t : List ℕ) (count b : ℕ) → ShellsAt answers proven boundaries members t count b → length boundaries ≤ b → length t ≡ 1024
-    → (ok (shells_in boundaries members count t) ≡ shells answers proven (map (shell_faces boundaries members) (lowest_members boundaries))) × Shelled boundaries members count t
-shells_end answers proven boundaries members t count b s le size =
-    let e : b ≡ length boundaries = omega (arith, s.within) in (
-      sym s.made ∙ ap (λ k. for_each (orient_shell answers proven) (map (shell_faces boundaries members) (keep (is_lowest boundaries) (below k)))) e,
-      record { size = size; labels = s.labels ∙ ap (λ k. keep (is_lowest boundaries) (below k)) e; lows = s.lows },
-    )

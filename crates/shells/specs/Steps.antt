@@ -1,15 +1,11 @@
 -- What each function that makes shells or nests them answers.
-use Rattle.std.specs.Prelude.{ℕ, ◌+◌, ◌*◌, ◌<◌, ◌≡◌, List, [], ◌∷◌, map, Bool, true, cond, get_or, set, eqb, ltb}
+use Rattle.std.specs.Prelude.{ℕ, ◌+◌, ◌*◌, ◌<◌, ◌≡◌, List, [], ◌∷◌, map, Bool, true, cond, get_or, set, eqb, Option, None, Some}
+use Rattle.std.specs.Int.{from_bool}
 use Rattle.lists.specs.Lists.{below, keep}
-use Rattle.rules.specs.Outcome.{Outcome, ok, refuse, ◌>>=◌}
+use Rattle.rules.specs.Outcome.{Outcome, Ok, ◌>>=◌}
 use Rattle.rules.specs.Job.{Answer}
 use Rattle.rules.specs.Questions.{ask_yes}
 use Rattle.rules.specs.Shells.{shell_faces, lowest_face, shell_inside, Taken, none, shell, innermost, enclosing_shell, or_refuse}
-use Rattle.ask.specs.declared.Asked.{Asked}
-use Rattle.ask.specs.declared.Asked.TheVariants.{Value, Refused as AskedRefused}
-use Rattle.shells.specs.declared.Nesting.{Nesting}
-use Rattle.shells.specs.declared.Nesting.TheVariants.{Done, Refused}
-use Rattle.shells.specs.Table.{Shelled}
 
 -- the lowest merged face of each boundary, by the boundary's label
 abbrev pub LowFaces : List ℕ → List ℕ → List ℕ → Type 0
@@ -19,11 +15,11 @@ LowFaces boundaries members lows = (b : ℕ) → b < 256 → get_or lows b 0 ≡
 unfoldable pub outer_by : List Answer → ℕ → ℕ → Outcome Bool
 outer_by answers proven low =
     let put = ask_yes answers 12 (low ∷ []) in
-    cond (eqb proven 1) (ok true) put
+    cond (eqb proven 1) (Ok true) put
 
 -- shell k stored without the outer shell of its lump
-unfoldable pub stored : List ℕ → ℕ → ℕ → ℕ → ℕ → List ℕ
-stored t k b low outer = set (set (set t (4 * k) b) (4 * k + 1) low) (4 * k + 2) outer
+unfoldable pub stored : List ℕ → ℕ → ℕ → ℕ → Bool → List ℕ
+stored t k b low outer = set (set (set t (4 * k) b) (4 * k + 1) low) (4 * k + 2) (from_bool outer)
 
 -- the lowest merged face of shell k
 abbrev pub low_in : List ℕ → ℕ → ℕ
@@ -37,40 +33,26 @@ outer_in t k = eqb (get_or t (4 * k + 2) 0) 1
 unfoldable pub outers_in : List ℕ → ℕ → List ℕ
 outers_in t n = map (low_in t) (keep (outer_in t) (below n))
 
--- the outer shell taken for a void, by its place among the first n shells; n or more stands for none
-unfoldable pub taken_in : List ℕ → ℕ → ℕ → Taken
-taken_in t n k = cond (ltb k n) (shell (low_in t k)) none
-
--- the outer shell taken, or the refusal
-abbrev pub taken_of : List ℕ → ℕ → Asked → Outcome Taken
-taken_of t n (Value k) = ok (taken_in t n k)
-taken_of t n (AskedRefused number place) = refuse number place
+-- the outer shell taken for a void so far
+abbrev pub taken_of : Option ℕ → Taken
+taken_of None = none
+taken_of (Some o) = shell o
 
 -- the outer shell taken after an outer shell
 unfoldable pub taken_after : List Answer → ℕ → ℕ → Taken → Outcome Taken
 taken_after answers void o taken =
     shell_inside answers void o >>= λ contains.
     let nearer = innermost answers taken o in
-    cond contains nearer (ok taken)
+    cond contains nearer (Ok taken)
 
 -- the outer shell taken after a shell, which may be outer
 unfoldable pub taken_next : List Answer → ℕ → Bool → ℕ → Taken → Outcome Taken
 taken_next answers void outer o taken =
     let after = taken_after answers void o taken in
-    cond outer after (ok taken)
+    cond outer after (Ok taken)
 
 -- the outer shell of a shell's lump
 unfoldable pub home_of : List Answer → List ℕ → ℕ → Bool → Outcome ℕ
 home_of answers os low outer =
     let put = enclosing_shell answers low os none >>= λ taken. or_refuse taken low in
-    cond outer (ok low) put
-
--- the value is one that the table can hold
-abbrev pub Asked32 : Asked → Type 0
-Asked32 (Value v) = v < 4294967296
-Asked32 (AskedRefused number place) = Unit {0}
-
--- after nesting the table has the same n shells
-abbrev pub StillShelled : List ℕ → List ℕ → ℕ → List ℕ → Nesting → Type 0
-StillShelled boundaries members n t (Done m) = (m ≡ n) × Shelled boundaries members n t
-StillShelled boundaries members n t (Refused number place) = Unit {0}
+    cond outer (Ok low) put

@@ -2,11 +2,8 @@
 -- lowest merged face of the outer shell of its lump.
 use Rattle.std.specs.Prelude.{ℕ, ◌+◌, ◌*◌, ◌<◌, ◌≡◌, List, map, length, get_or, eqb}
 use Rattle.lists.specs.Lists.{below}
-use Rattle.rules.specs.Outcome.{Outcome, ok, refuse}
 use Rattle.rules.specs.Groups.{lowest_members}
 use Rattle.rules.specs.Shells.{Shell, shell_faces, lowest_face, Nested}
-use Rattle.shells.specs.declared.Nesting.{Nesting}
-use Rattle.shells.specs.declared.Nesting.TheVariants.{Done, Refused}
 
 -- the label of the boundary that shell k is
 abbrev pub boundary_in : List ℕ → ℕ → ℕ
@@ -33,18 +30,3 @@ pub record Shelled (boundaries members : List ℕ) (n : ℕ) (t : List ℕ) : Ty
   pub size : length t ≡ 1024
   pub labels : map (boundary_in t) (below n) ≡ lowest_members boundaries
   pub lows : (k : ℕ) → k < n → get_or t (4 * k + 1) 0 ≡ lowest_face (shell_faces boundaries members (boundary_in t k))
-
--- the shells of the table, or the refusal
-abbrev pub shells_of : List ℕ → List ℕ → List ℕ → Nesting → Outcome (List Shell)
-shells_of boundaries members t (Done n) = ok (shells_in boundaries members n t)
-shells_of boundaries members t (Refused number place) = refuse number place
-
--- the nested shells of the table, or the refusal
-abbrev pub nested_of : List ℕ → List ℕ → List ℕ → Nesting → Outcome (List Nested)
-nested_of boundaries members t (Done n) = ok (nested_in boundaries members n t)
-nested_of boundaries members t (Refused number place) = refuse number place
-
--- a table that was made is one for each boundary
-abbrev pub Standing : List ℕ → List ℕ → List ℕ → Nesting → Type 0
-Standing boundaries members t (Done n) = Shelled boundaries members n t
-Standing boundaries members t (Refused number place) = Unit {0}

@@ -4,30 +4,22 @@
 
 #![tactic(auto)]
 
-ghost use Rattle.std.specs.Prelude.{◌≡◌, ℕ, ◌+◌, ◌*◌, ◌<◌, ◌≤◌, ◌^◌, List, map, length, get_or, replicate, eqb};
+ghost use Rattle.std.specs.Prelude.{◌≡◌, ℕ, ◌+◌, ◌*◌, ◌<◌, ◌≤◌, ◌^◌, List, map, length, get_or, replicate, eqb, Ok, IfOk, OnOk, IfSome};
+ghost use Rattle.rules.specs.Outcome.{◌>>=◌ as ◌and_then◌};
 ghost use Rattle.rules.specs.Fields.{le32};
 ghost use Rattle.rules.specs.Groups.{lowest_members, Lowest};
-ghost use Rattle.rules.specs.Shells.{shell_faces, shells as shells_by, nested, innermost, enclosing_shell, none, lump_labels};
+ghost use Rattle.rules.specs.Shells.{shell_faces, shells as shells_by, nested, innermost, enclosing_shell, none, shell, lump_labels};
 ghost use Rattle.job.specs.Lists.{answers_in};
 ghost use Rattle.answers.specs.Index.{Indexed};
-ghost use Rattle.ask.specs.Told.{asked_of, told_of};
-ghost use Rattle.shells.specs.Table.{shells_in, nested_in, Shelled, shells_of, nested_of, Standing};
-ghost use Rattle.shells.specs.Steps.{LowFaces, outer_by, stored, low_in, outer_in, outers_in, taken_in, taken_of, taken_after, taken_next, home_of, Asked32, StillShelled};
+ghost use Rattle.shells.specs.Table.{shells_in, nested_in, Shelled};
+ghost use Rattle.shells.specs.Steps.{LowFaces, outer_by, stored, low_in, outer_in, outers_in, taken_of, taken_after, taken_next, home_of};
 ghost use Rattle.shells.specs.ShellLaws.{ShellsAt, ShellsTo};
 ghost use Rattle.shells.specs.LumpLaws.{LabelsAt};
 
-use ask::{Asked, Told};
 use fields::{get, put, word};
-use rules::Counts;
+use rules::{Counts, Fault, Refusal};
 
-// How many shells there are, or the refusal.
-#[derive(Clone, Copy)]
-pub enum Nesting {
-    Done(usize),
-    Refused(usize, usize),
-}
-
-// THE TABLE
+// THE TABLE: a reader for each of the four numbers, since a number for the column would say less at a call.
 
 // The label of the boundary that shell k is.
 pub fn shell_boundary(table: &[u32], k: usize) -> usize
@@ -62,13 +54,14 @@ pub fn shell_home(table: &[u32], k: usize) -> usize
 }
 
 // A shell stored as shell k; the outer shell of its lump is not known yet.
-fn put_shell(table: &mut [u32], k: usize, b: usize, low: usize, outer: usize)
-    requires { (k < 2 ^ 60) × (b < 4294967296) × (low < 4294967296) × (outer < 4294967296) }
+#[tactic(auto, unfolding(crate::specs::Steps::stored))]
+fn put_shell(table: &mut [u32], k: usize, b: usize, low: usize, outer: bool)
+    requires { (k < 2 ^ 60) × (b < 4294967296) × (low < 4294967296) }
     ensures { table.new ≡ stored table.old k b low outer }
 {
     put(table, 4 * k, b);
     put(table, 4 * k + 1, low);
-    put(table, 4 * k + 2, outer);
+    put(table, 4 * k + 2, usize::from(outer));
 }
 
 // SHELLS
@@ -78,21 +71,20 @@ fn low_faces(boundaries: &[u32], members: &[u32], lows: &mut [u32])
     requires { (length members.now ≤ 256) × (lows.old ≡ replicate 256 0) }
     ensures { LowFaces boundaries.now members.now lows.new }
 {
-    let mut f = members.len();
-    while 0 < f {
-        f -= 1;
+    for f in (0..members.len()).rev() {
         put(lows, get(boundaries, get(members, f)), f);
     }
 }
 
 // Outer if Head says so or by kind 12, for the shell's lowest face.
-fn is_outer(job: &[u8], index: &[u32], c: Counts, low: usize) -> Told
+#[tactic(auto, unfolding(crate::specs::Steps::outer_by))]
+fn is_outer(job: &[u8], index: &[u32], c: Counts, low: usize) -> Result<bool, Refusal>
     requires { Indexed job.now index.now c × (low < 4294967296) }
-    ensures { told_of result ≡ outer_by (answers_in job.now index.now c) (le32 job.now 6) low }
+    ensures { result ≡ outer_by (answers_in job.now index.now c) (le32 job.now 6) low }
 {
     let proven = word(job, 6);
     if proven == 1 {
-        return Told::Yes;
+        return Ok(true);
     }
     ask::ask_outer(job, index, c, low)
 }
@@ -107,27 +99,20 @@ fn next_shell(
     table: &mut [u32],
     count: usize,
     b: usize,
-) -> Nesting
+) -> Result<usize, Refusal>
     requires { Indexed job.now index.now c × (length table.old ≡ 1024) × (length boundaries.now ≤ 256) × (b < length boundaries.now) × (count ≤ b) }
-    ensures { (members : List ℕ) → LowFaces boundaries.now members lows.now → ShellsAt (answers_in job.now index.now c) (le32 job.now 6) boundaries.now members table.old count b → ShellsTo (answers_in job.now index.now c) (le32 job.now 6) boundaries.now members table.new result (b + 1) }
+    ensures { (members : List ℕ) → LowFaces boundaries.now members lows.now
+        → ShellsAt (answers_in job.now index.now c) (le32 job.now 6) boundaries.now members table.old count b
+        → ShellsTo (answers_in job.now index.now c) (le32 job.now 6) boundaries.now members table.new result (b + 1) }
 {
     let label = get(boundaries, b);
     if label != b {
-        return Nesting::Done(count);
+        return Ok(count);
     }
     let low = get(lows, b);
-    let t = is_outer(job, index, c, low);
-    match t {
-        Told::Refused(n, p) => Nesting::Refused(n, p),
-        Told::Yes => {
-            put_shell(table, count, b, low, 1);
-            Nesting::Done(count + 1)
-        }
-        Told::No => {
-            put_shell(table, count, b, low, 0);
-            Nesting::Done(count + 1)
-        }
-    }
+    let outer = is_outer(job, index, c, low)?;
+    put_shell(table, count, b, low, outer);
+    Ok(count + 1)
 }
 
 // The shells in the order of their boundaries' lowest faces, each asked about in that order. `members` has the lowest
@@ -139,101 +124,84 @@ pub fn shells(
     boundaries: &[u32],
     members: &[u32],
     table: &mut [u32],
-) -> Nesting
+) -> Result<usize, Refusal>
     requires { Indexed job.now index.now c × (length table.old ≡ 1024) × (length boundaries.now ≤ 256) × (length members.now ≤ 256) }
-    ensures { (shells_of boundaries.now members.now table.new result ≡ shells_by (answers_in job.now index.now c) (le32 job.now 6) (map (shell_faces boundaries.now members.now) (lowest_members boundaries.now))) × Standing boundaries.now members.now table.new result }
+    ensures { ((result and_then λ n. Ok (shells_in boundaries.now members.now n table.new))
+        ≡ shells_by (answers_in job.now index.now c) (le32 job.now 6) (map (shell_faces boundaries.now members.now) (lowest_members boundaries.now)))
+        × IfOk result (λ n. Shelled boundaries.now members.now n table.new) }
 {
     let mut lows = [0u32; 256];
     low_faces(boundaries, members, &mut lows);
-    let mut count: usize = 0;
-    let mut b: usize = 0;
-    while b < boundaries.len() {
-        let r = next_shell(job, index, c, boundaries, &lows, table, count, b);
-        match r {
-            Nesting::Refused(n, p) => {
-                return Nesting::Refused(n, p);
-            }
-            Nesting::Done(more) => {
-                count = more;
-            }
-        }
-        b += 1;
+    let mut count = 0;
+    for b in 0..boundaries.len() {
+        count = next_shell(job, index, c, boundaries, &lows, table, count, b)?;
     }
-    Nesting::Done(count)
+    Ok(count)
 }
 
-// NESTING
+// NESTING: a shell is told by its lowest merged face.
 
-// The outer shell now taken for a void, n where there is none, after shell k, which contains the void: replaced by a
-// later one that lies inside it.
+// The outer shell taken for a void after a later one that contains it: replaced by the later one if that lies inside.
 fn nearer(
     job: &[u8],
     index: &[u32],
     c: Counts,
-    table: &[u32],
-    n: usize,
-    taken: usize,
-    k: usize,
-) -> Asked
-    requires { Indexed job.now index.now c × (n ≤ 256) × (k < n) }
-    ensures { taken_of table.now n result ≡ innermost (answers_in job.now index.now c) (taken_in table.now n taken) (low_in table.now k) }
+    taken: Option<usize>,
+    later: usize,
+) -> Result<usize, Refusal>
+    requires { Indexed job.now index.now c × IfSome taken (λ o. o < 4294967296) × (later < 4294967296) }
+    ensures { ((result and_then λ o. Ok (shell o)) ≡ innermost (answers_in job.now index.now c) (taken_of taken) later)
+        × IfOk result (λ o. o < 4294967296) }
 {
-    if n <= taken {
-        return Asked::Value(k);
-    }
-    let later = shell_low(table, k);
-    let t = ask::ask_inside(job, index, c, later, shell_low(table, taken));
-    match t {
-        Told::Refused(m, p) => Asked::Refused(m, p),
-        Told::Yes => Asked::Value(k),
-        Told::No => Asked::Value(taken),
-    }
+    let Some(now) = taken else {
+        return Ok(later);
+    };
+    let inside = ask::ask_inside(job, index, c, later, now)?;
+    Ok(if inside { later } else { now })
 }
 
-// The outer shell taken for a void after shell k, which is outer.
+// The outer shell taken for a void after the outer shell o.
+#[tactic(auto, unfolding(crate::specs::Steps::taken_after))]
 fn taken_after(
     job: &[u8],
     index: &[u32],
     c: Counts,
-    table: &[u32],
-    n: usize,
     void: usize,
-    taken: usize,
-    k: usize,
-) -> Asked
-    requires { Indexed job.now index.now c × (n ≤ 256) × (k < n) × (void < 4294967296) }
-    ensures { taken_of table.now n result ≡ taken_after (answers_in job.now index.now c) void (low_in table.now k) (taken_in table.now n taken) }
+    taken: Option<usize>,
+    o: usize,
+) -> Result<Option<usize>, Refusal>
+    requires { Indexed job.now index.now c × (void < 4294967296) × IfSome taken (λ o. o < 4294967296) × (o < 4294967296) }
+    ensures { ((result and_then λ t. Ok (taken_of t)) ≡ taken_after (answers_in job.now index.now c) void o (taken_of taken))
+        × IfOk result (λ t. IfSome t (λ o. o < 4294967296)) }
 {
-    let o = shell_low(table, k);
-    let t = ask::ask_inside(job, index, c, void, o);
-    match t {
-        Told::Refused(m, p) => Asked::Refused(m, p),
-        Told::Yes => nearer(job, index, c, table, n, taken, k),
-        Told::No => Asked::Value(taken),
+    if ask::ask_inside(job, index, c, void, o)? {
+        return Ok(Some(nearer(job, index, c, taken, o)?));
     }
+    Ok(taken)
 }
 
-// The outer shell taken for a void after shell k.
+// The outer shell taken for a void after shell k of the table.
+#[tactic(auto, unfolding(crate::specs::Steps::taken_next))]
 fn enclosing_next(
     job: &[u8],
     index: &[u32],
     c: Counts,
     table: &[u32],
-    n: usize,
     void: usize,
-    taken: usize,
+    taken: Option<usize>,
     k: usize,
-) -> Asked
-    requires { Indexed job.now index.now c × (n ≤ 256) × (k < n) × (void < 4294967296) }
-    ensures { taken_of table.now n result ≡ taken_next (answers_in job.now index.now c) void (outer_in table.now k) (low_in table.now k) (taken_in table.now n taken) }
+) -> Result<Option<usize>, Refusal>
+    requires { Indexed job.now index.now c × (void < 4294967296) × IfSome taken (λ o. o < 4294967296) × (k < 256) }
+    ensures { ((result and_then λ t. Ok (taken_of t)) ≡ taken_next (answers_in job.now index.now c) void (outer_in table.now k) (low_in table.now k) (taken_of taken))
+        × IfOk result (λ t. IfSome t (λ o. o < 4294967296)) }
 {
     if shell_outer(table, k) {
-        return taken_after(job, index, c, table, n, void, taken, k);
+        return taken_after(job, index, c, void, taken, shell_low(table, k));
     }
-    Asked::Value(taken)
+    Ok(taken)
 }
 
-// The innermost of the outer shells that contain a void, among the first n shells in order; n where there is none.
+// The innermost of the outer shells that contain a void, among the first n shells in order.
 fn enclosing_shell(
     job: &[u8],
     index: &[u32],
@@ -241,68 +209,59 @@ fn enclosing_shell(
     table: &[u32],
     n: usize,
     void: usize,
-) -> Asked
+) -> Result<Option<usize>, Refusal>
     requires { Indexed job.now index.now c × (n ≤ 256) × (void < 4294967296) }
-    ensures { taken_of table.now n result ≡ enclosing_shell (answers_in job.now index.now c) void (outers_in table.now n) none }
+    ensures { ((result and_then λ t. Ok (taken_of t)) ≡ enclosing_shell (answers_in job.now index.now c) void (outers_in table.now n) none)
+        × IfOk result (λ t. IfSome t (λ o. o < 4294967296)) }
 {
-    let mut taken = n;
-    let mut k: usize = 0;
-    while k < n {
-        let r = enclosing_next(job, index, c, table, n, void, taken, k);
-        match r {
-            Asked::Refused(m, p) => {
-                return Asked::Refused(m, p);
-            }
-            Asked::Value(next) => {
-                taken = next;
-            }
-        }
-        k += 1;
+    let mut taken = None;
+    for k in 0..n {
+        taken = enclosing_next(job, index, c, table, void, taken, k)?;
     }
-    Asked::Value(taken)
+    Ok(taken)
 }
 
-// The lowest merged face of the outer shell of shell k's lump: of itself, or of the one that encloses it; 34 where none
-// does.
-fn home(job: &[u8], index: &[u32], c: Counts, table: &[u32], n: usize, k: usize) -> Asked
+// The outer shell of shell k's lump: itself, or the one that encloses it; 34 where none does.
+#[tactic(auto, unfolding(crate::specs::Steps::home_of))]
+fn home(
+    job: &[u8],
+    index: &[u32],
+    c: Counts,
+    table: &[u32],
+    n: usize,
+    k: usize,
+) -> Result<usize, Refusal>
     requires { Indexed job.now index.now c × (n ≤ 256) × (k < n) }
-    ensures { (asked_of result ≡ home_of (answers_in job.now index.now c) (outers_in table.now n) (low_in table.now k) (outer_in table.now k)) × Asked32 result }
+    ensures { (result ≡ home_of (answers_in job.now index.now c) (outers_in table.now n) (low_in table.now k) (outer_in table.now k))
+        × IfOk result (λ o. o < 4294967296) }
 {
     let low = shell_low(table, k);
     if shell_outer(table, k) {
-        return Asked::Value(low);
+        return Ok(low);
     }
-    let r = enclosing_shell(job, index, c, table, n, low);
-    match r {
-        Asked::Refused(m, p) => Asked::Refused(m, p),
-        Asked::Value(taken) => {
-            if n <= taken {
-                return Asked::Refused(34, low);
-            }
-            Asked::Value(shell_low(table, taken))
-        }
-    }
+    let Some(outer) = enclosing_shell(job, index, c, table, n, low)? else {
+        return Err(Fault::NoOuterShell.at(low));
+    };
+    Ok(outer)
 }
 
 // The outer shell of each shell's lump, for n shells in order.
-pub fn nest(job: &[u8], index: &[u32], c: Counts, table: &mut [u32], n: usize) -> Nesting
+pub fn nest(
+    job: &[u8],
+    index: &[u32],
+    c: Counts,
+    table: &mut [u32],
+    n: usize,
+) -> Result<(), Refusal>
     requires { Indexed job.now index.now c × (length table.old ≡ 1024) × (n ≤ 256) }
-    ensures { (boundaries members : List ℕ) → Shelled boundaries members n table.old → (nested_of boundaries members table.new result ≡ nested (answers_in job.now index.now c) (shells_in boundaries members n table.old)) × StillShelled boundaries members n table.new result }
+    ensures { (boundaries members : List ℕ) → Shelled boundaries members n table.old
+        → ((result and_then λ _. Ok (nested_in boundaries members n table.new)) ≡ nested (answers_in job.now index.now c) (shells_in boundaries members n table.old))
+        × OnOk result (Shelled boundaries members n table.new) }
 {
-    let mut k: usize = 0;
-    while k < n {
-        let r = home(job, index, c, table, n, k);
-        match r {
-            Asked::Refused(m, p) => {
-                return Nesting::Refused(m, p);
-            }
-            Asked::Value(h) => {
-                put(table, 4 * k + 3, h);
-            }
-        }
-        k += 1;
+    for k in 0..n {
+        put(table, 4 * k + 3, home(job, index, c, table, n, k)?);
     }
-    Nesting::Done(n)
+    Ok(())
 }
 
 // LUMPS
@@ -329,14 +288,13 @@ fn label_face(
 }
 
 // The selected faces labelled by lump, each by the lowest merged face of its outer shell.
+#[tactic(auto, using(crate::specs::LumpLaws::labels_start, crate::specs::LumpLaws::labels_end))]
 pub fn lump_labels(boundaries: &[u32], table: &[u32], labels: &mut [u32])
     requires { Lowest boundaries.now × (length labels.old ≡ length boundaries.now) × (length boundaries.now ≤ 256) }
     ensures { (members : List ℕ) (n : ℕ) → Shelled boundaries.now members n table.now → labels.new ≡ lump_labels boundaries.now (nested_in boundaries.now members n table.now) }
 {
-    let mut count: usize = 0;
-    let mut f: usize = 0;
-    while f < boundaries.len() {
+    let mut count = 0;
+    for f in 0..boundaries.len() {
         count = label_face(boundaries, table, labels, count, f);
-        f += 1;
     }
 }

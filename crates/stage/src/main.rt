@@ -4,6 +4,7 @@
 #![tactic(auto)]
 
 use programs::Program;
+use rules::Stage;
 use std::rt::Env;
 
 // One byte more than a job may have: a longer job is refused by its length.
@@ -15,20 +16,20 @@ const OUT: usize = 131072;
 // Each field of the output has at most eleven characters, with the blank or the line's end after it.
 const PAGE: usize = 360448;
 
-// The number of the stage that the first word names; 0 if it names none.
-fn stage_named(rt: &impl Env) -> usize {
+// The stage that the first word names, if it names one.
+fn stage_named(rt: &impl Env) -> Option<Stage> {
     let mut name = [0u8; 16];
     match rt.arg(1, &mut name) {
-        Ok(length) => lines::stage_number(&name[..length]),
-        Err(_) => 0,
+        Ok(length) => lines::stage_named(&name[..length]),
+        Err(_) => None,
     }
 }
 
 // Runs a stage on a job and prints its lines.
-fn print_stage(rt: &(impl Print + Eprint), program: Program<'_>, stage: usize, job: &[u8]) {
+fn print_stage(rt: &(impl Print + Eprint), program: Program<'_>, stage: Stage, job: &[u8]) {
     let mut out = [0u8; OUT];
     let mut page = [0u8; PAGE];
-    let length = programs::list_stage(stage, job, &mut out, &mut page);
+    let length = programs::list_stage(Some(stage), job, &mut out, &mut page);
     programs::print(rt, program, lines::front(&page, length));
 }
 
@@ -37,11 +38,10 @@ fn main(rt: HostRuntime) {
         name: "stage",
         usage: "stage NAME [FILE]: NAME is read, pair, merge, vertex-loops, walk, loops, fans, edges, joining, shells or lumps; without FILE the job is read from standard input",
     };
-    let stage = stage_named(&rt);
-    if stage == 0 {
+    let Some(stage) = stage_named(&rt) else {
         programs::explain(&rt, program);
         return;
-    }
+    };
     let mut job = [0u8; JOB];
     let Some(n) = programs::read_job(&rt, program, 2, &mut job) else {
         return;

@@ -1,12 +1,13 @@
 -- The fields of the single stages through the loops, over plain lists, and how a stage ends that has them.
-use Rattle.std.specs.Prelude.{ℕ, zero, suc, ◌+◌, ◌*◌, ◌≡◌, refl, Bool, length, get_or}
+use Rattle.std.specs.Prelude.{ℕ, zero, suc, ◌+◌, ◌*◌, ◌≡◌, refl, Bool, length, get_or, leb}
 use Rattle.std.proofs.Common.{sym, ap}
 use mathlib.Core.List.{List, [], ◌∷◌, map, flat_map}
 use Rattle.lists.specs.Lists.{below}
 use Rattle.lists.specs.Rows.{flat_map_map}
+use Rattle.rules.specs.declared.Fault.TheVariants.{NoRoom}
 use Rattle.rules.specs.declared.Use.{Use}
 use Rattle.rules.specs.declared.KeptVertexLoop.{KeptVertexLoop}
-use Rattle.rules.specs.declared.Ending.{Ending}
+use Rattle.rules.specs.Outcome.{Outcome, Ok, need}
 use Rattle.rules.specs.Groups.{label_of}
 use Rattle.rules.specs.Merge.{Merged, merged_faces, merged_face_of}
 use Rattle.rules.specs.Walk.{successor}
@@ -14,8 +15,12 @@ use Rattle.rules.specs.Sew.{Walked, Ends}
 use Rattle.rules.specs.Stage.{group_fields, kept_fields, kept_uses, walk_fields, loop_fields, stage_bytes, use_fields}
 use Rattle.rules.specs.Read.{use_at}
 
+-- an output with so much room has room for the bytes needed
+abbrev pub fits : ℕ → ℕ → Outcome (Unit {0})
+fits room needed = need (leb needed room) NoRoom needed (Ok tt)
+
 -- a stage with these fields: its ending, and what the output holds after it
-abbrev pub Staged : List ℕ → List ℕ → List ℕ → Ending → Type 0
+abbrev pub Staged : List ℕ → List ℕ → List ℕ → Outcome ℕ → Type 0
 Staged fields before after r = Ends (stage_bytes (length before) fields) before after r
 
 -- walk: use, successor and passed count of each kept use

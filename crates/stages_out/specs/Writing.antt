@@ -1,22 +1,24 @@
 -- Laws of fields written row by row from the output's start on, and of the ending of a stage.
-use Rattle.std.specs.Prelude.{ℕ, ◌+◌, ◌*◌, ◌<◌, ◌≤◌, ◌≡◌, refl, length, drop, leb}
-use Rattle.std.proofs.Common.{mul-suc, add-one, sym, ap, subst, ◌∙◌, le-leb}
+use Rattle.std.specs.Prelude.{ℕ, ◌+◌, ◌*◌, ◌≤◌, ◌≡◌, refl, Bool, true, false, length, drop, leb}
+use Rattle.std.proofs.Common.{mul-suc, add-one, sym, ap, subst, ◌∙◌}
 use native.Mathlib.Omega.{arith}
 use mathlib.Core.List.{List, [], ◌∷◌, ◌++◌, flat_map, append-nil}
 use Rattle.std.proofs.lemmas.List.Edits.{sets-eq}
 use Rattle.std.proofs.Math.Seq.{length-sets}
-use Rattle.std.proofs.lemmas.Bool.{lt-leb}
+use Rattle.std.proofs.lemmas.Bool.{leb-true}
 use Rattle.lists.specs.Lists.{from, below}
 use Rattle.lists.specs.Members.{flat_map_append}
 use Rattle.lists.specs.Rows.{rows_more}
-use Rattle.rules.specs.declared.Ending.TheVariants.{Written, Refused}
-use Rattle.rules.specs.Outcome.{ok, refuse, need}
+use Rattle.rules.specs.declared.Refusal.{Refusal}
+use Rattle.rules.specs.Outcome.{Outcome, Ok, Err, ◌>>=◌, need}
+use Rattle.std.specs.Result.{IsErrAnd}
+use Rattle.rules.proofs.OutcomeLaws.{hands_on, need_ok}
 use Rattle.rules.specs.Fields.{bytes32, field_bytes}
-use Rattle.rules.specs.Sew.{written, ended}
 use Rattle.rules.specs.Stage.{stage_bytes}
 use Rattle.fields.specs.Wrote.{Wrote, wrote_none, wrote_more}
 use Rattle.fields.specs.Tabled.{length_field_bytes}
-use Rattle.stages_out.specs.Rows.{Staged}
+use Rattle.stages_out.specs.Rows.{Staged, fits}
+use Rattle.rules.specs.declared.Fault.TheVariants.{NoRoom}
 
 -- FIELDS
 
@@ -61,31 +63,36 @@ module _ (f : ℕ → List ℕ) (most : ℕ) (before : List ℕ) where
     small = let e : most * (i + 1) ≡ most * i + most = ap (λ k. most * k) (add-one i) ∙ mul-suc most i in omega (arith, place_after_lem (f i) mid after p q w, R.small);
   }
 
+-- all rows
+pub rowed_all : {f : ℕ → List ℕ} {most : ℕ} (fs before after : List ℕ) (p i : ℕ) → Rowed f most before after p i → flat_map f (below i) ≡ fs → Wrote before 0 (field_bytes fs) after p
+rowed_all fs before after p i R e = wrote_same _ fs before after 0 p e R.wrote
+
 -- THE ENDING
 
-whole_need : (bytes : List ℕ) (room : ℕ) → length bytes ≤ room → need (leb (length bytes) room) 40 (length bytes) (ok bytes) ≡ ok bytes
+fits_then : {A : Type 0} (room needed : ℕ) (a : A) → need (leb needed room) NoRoom needed (Ok a) ≡ (fits room needed >>= λ _. Ok a)
 unfolding need
-whole_need bytes room le = rw (le-leb (length bytes) room le)
+fits_then room needed a = go (leb needed room)
+  where
+    go : (b : Bool) → need b NoRoom needed (Ok a) ≡ (need b NoRoom needed (Ok (tt {0})) >>= λ _. Ok a)
+    go true = refl
+    go false = refl
 
-short_need : (bytes : List ℕ) (room : ℕ) → room < length bytes → need (leb (length bytes) room) 40 (length bytes) (ok bytes) ≡ refuse 40 (length bytes)
-unfolding need
-short_need bytes room lt = rw (lt-leb (length bytes) room lt)
+-- where the bytes needed fit, fields are written from the start on; else they are refused with the bytes needed
+module _ (fs before : List ℕ) (needed : ℕ) {o : Outcome (Unit {0})} (room : o ≡ fits (length before) needed) (four_each : needed ≡ 4 * length fs) where
+  size : length (field_bytes fs) ≡ needed
+  size = length_field_bytes fs ∙ sym four_each
 
--- fields that fit are written from the start on
-pub staged_written : (fs before after : List ℕ) (needed p : ℕ) → needed ≡ 4 * length fs → needed ≤ length before → Wrote before 0 (field_bytes fs) after p → Staged fs before after (Written needed)
-staged_written fs before after needed p e fits w =
-    let n : length (field_bytes fs) ≡ needed = length_field_bytes fs ∙ sym e in
-    let z : 0 + length (field_bytes fs) ≡ length (field_bytes fs) = omega arith in
-    let q : stage_bytes (length before) fs ≡ ok (field_bytes fs) = whole_need (field_bytes fs) (length before) (omega arith) in (
-      ap Written (sym n) ∙ sym (ap ended q),
-      w.0 ∙ sets-eq (field_bytes fs) before 0 (omega arith) ∙ ap (λ k. field_bytes fs ++ drop k before) z ∙ sym (ap (λ o. written o before) q),
-    )
+  ending : stage_bytes (length before) fs ≡ (o >>= λ _. Ok (field_bytes fs))
+  ending = rw size (fits_then (length before) needed (field_bytes fs) ∙ ap (λ x. x >>= λ _. Ok (field_bytes fs)) (sym room))
 
--- fields that do not fit are refused with the bytes needed
-pub staged_short : (fs before : List ℕ) (needed : ℕ) → needed ≡ 4 * length fs → length before < needed → Staged fs before before (Refused 40 needed)
-staged_short fs before needed e short =
-    let n : length (field_bytes fs) ≡ needed = length_field_bytes fs ∙ sym e in
-    let q : stage_bytes (length before) fs ≡ refuse 40 (length (field_bytes fs)) = short_need (field_bytes fs) (length before) (omega arith) in (
-      ap (Refused 40) (sym n) ∙ sym (ap ended q),
-      sym (ap (λ o. written o before) q),
-    )
+  ended_as : {r : Outcome (Unit {0})} → o ≡ r → stage_bytes (length before) fs ≡ (r >>= λ _. Ok (field_bytes fs))
+  ended_as e = ending ∙ ap (λ x. x >>= λ _. Ok (field_bytes fs)) e
+
+  pub staged_written : {u : Unit {0}} (after : List ℕ) (p : ℕ) → o ≡ Ok u → Wrote before 0 (field_bytes fs) after p → Staged fs before after (Ok p)
+  staged_written after p e w =
+      let enough : needed ≤ length before = leb-true _ _ (need_ok _ _ _ _ _ (sym room ∙ e)).0 in
+      let z : 0 + length (field_bytes fs) ≡ length (field_bytes fs) = omega arith in
+      rw (ended_as e, w.1, w.0, z) (refl, sets-eq (field_bytes fs) before 0 (omega (arith, size)) ∙ ap (λ k. field_bytes fs ++ drop k before) z)
+
+  pub staged_short : {r : Refusal} (answer : Outcome ℕ) → o ≡ Err r → IsErrAnd answer (λ x. x ≡ r) → Staged fs before before answer
+  staged_short answer e h = rw (ended_as e) (hands_on answer h, refl)

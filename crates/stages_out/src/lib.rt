@@ -1,5 +1,5 @@
-// What the single stages through the loops write: four-byte fields from the output's start on, or nothing and refusal 40
-// with the bytes needed where the output is too short.
+// What the single stages through the loops write: four-byte fields from the output's start on, or nothing and the refusal
+// `NoRoom` with the bytes needed where the output is too short.
 
 #![tactic(auto)]
 
@@ -13,11 +13,11 @@ ghost use Rattle.uses.specs.Table.{uses_in};
 ghost use Rattle.walk.specs.Walks.{loops_in, Following};
 ghost use Rattle.stages_out.specs.Rows.{use_row};
 ghost use Rattle.stages_out.specs.Writing.{Rowed};
-ghost use Rattle.stages_out.specs.Rows.{Staged, walk_row, walk_rows, pair_rows, kept_rows, round_row, round_rows, end_of};
+ghost use Rattle.stages_out.specs.Rows.{Staged, walk_row, walk_rows, pair_rows, kept_rows, round_row, round_rows, end_of, fits};
 
 use fields::{get, is_set, put_table, put_word};
-use rules::{Ending, Use};
-use uses::{count, records_of, use_at, use_face};
+use rules::{Fault, Refusal, Use};
+use uses::{count, records_of, use_face};
 use walk::successor;
 
 // Two numbers as fields at a place; gives the place after them.
@@ -29,81 +29,67 @@ pub fn put_two(out: &mut [u8], at: usize, a: usize, b: usize) -> usize
     put_word(out, p, b)
 }
 
-// A number as wide as a place.
-fn wide(v: u32) -> usize
-    ensures { result ≡ v }
-{
-    v as usize
-}
-
 // The fields of one use; gives the place after them.
 fn put_use(out: &mut [u8], at: usize, u: Use) -> usize
     requires { at < 2 ^ 58 }
     ensures { Wrote out.old at (field_bytes (use_fields u)) out.new result }
 {
     let sense = u.sense;
-    let p = put_two(out, at, wide(u.edge), wide(u.face));
-    put_two(out, p, job::sense_number(sense), wide(u.next))
+    let p = put_two(out, at, u.edge as usize, u.face as usize);
+    put_two(out, p, usize::from(sense), u.next as usize)
 }
 
-// The fields of the first n uses of the job, which are lent as a slice of records; gives the place after them.
-fn put_records(records: [Use; 2048], n: usize, out: &mut [u8]) -> usize
-    requires { n ≤ 2048 }
-    ensures { Rowed (use_row records) 4 out.old out.new result n }
+// The fields of uses, which are lent as a slice of records; gives the place after them.
+fn put_records(records: &[Use], out: &mut [u8]) -> usize
+    requires { length records.now ≤ 2048 }
+    ensures { Wrote out.old 0 (field_bytes (flat_map use_fields records.now)) out.new result }
 {
-    let mut p: usize = 0;
-    let mut h: usize = 0;
-    while h < n {
-        let u = use_at(&records, h);
-        p = put_use(out, p, u);
-        h += 1;
+    let mut p = 0;
+    for u in records {
+        p = put_use(out, p, *u);
     }
     p
 }
 
-// The fields of each use; gives the place after them.
+// The fields of each use of the job; gives the place after them.
 fn put_uses(uses: &[u32], out: &mut [u8]) -> usize
     requires { length (uses_in uses.now) ≤ 2048 }
     ensures { Wrote out.old 0 (field_bytes (flat_map use_fields (uses_in uses.now))) out.new result }
 {
     let records = records_of(uses);
-    put_records(records, count(uses), out)
+    put_records(&records[..count(uses)], out)
+}
+
+// The output has room for the bytes needed.
+#[tactic(auto, unfolding(rules::specs::Outcome::need))]
+pub fn fits(out: &[u8], needed: usize) -> Result<(), Refusal>
+    ensures { result ≡ fits (length out.now) needed }
+{
+    if out.len() < needed {
+        return Err(Refusal {
+            fault: Fault::NoRoom,
+            place: needed,
+        });
+    }
+    Ok(())
 }
 
 // The stage `read`: edge, selected face, sense and old successor of each use.
-pub fn write_read(uses: &[u32], out: &mut [u8]) -> Ending
+pub fn write_read(uses: &[u32], out: &mut [u8]) -> Result<usize, Refusal>
     requires { length (uses_in uses.now) ≤ 2048 }
     ensures { Staged (flat_map use_fields (uses_in uses.now)) out.old out.new result }
 {
-    let needed = 16 * count(uses);
-    if out.len() < needed {
-        return Ending::Refused(40, needed);
-    }
-    put_uses(uses, out);
-    Ending::Written(needed)
+    fits(out, 16 * count(uses))?;
+    Ok(put_uses(uses, out))
 }
 
 // The stage `pair`: the twin of each use.
-pub fn write_twins(twins: &[u32], out: &mut [u8]) -> Ending
+pub fn write_twins(twins: &[u32], out: &mut [u8]) -> Result<usize, Refusal>
     requires { length twins.now ≤ 2048 }
     ensures { Staged twins.now out.old out.new result }
 {
-    let needed = 4 * twins.len();
-    if out.len() < needed {
-        return Ending::Refused(40, needed);
-    }
-    put_table(out, 0, twins);
-    Ending::Written(needed)
-}
-
-// 1 for a kept use, 0 for a removed one.
-fn kept_one(removed: &[bool], h: usize) -> usize
-    ensures { (result ≡ cond (not (is_removed removed.now h)) 1 0) × (result ≤ 1) }
-{
-    if is_set(removed, h) {
-        return 0;
-    }
-    1
+    fits(out, 4 * twins.len())?;
+    Ok(put_table(out, 0, twins))
 }
 
 // How many uses are kept.
@@ -111,13 +97,7 @@ fn kept_count(removed: &[bool]) -> usize
     requires { length removed.now ≤ 2048 }
     ensures { (result ≡ length (kept_uses removed.now)) × (result ≤ 2048) }
 {
-    let mut k: usize = 0;
-    let mut h: usize = 0;
-    while h < removed.len() {
-        k += kept_one(removed, h);
-        h += 1;
-    }
-    k
+    removed.iter().filter(|gone| !**gone).count()
 }
 
 // The fields of a kept use at a place, none for a removed one; gives the place after them.
@@ -146,26 +126,25 @@ fn put_walks(removed: &[bool], succ: &[u32], passed: &[u32], out: &mut [u8]) -> 
     requires { length removed.now ≤ 2048 }
     ensures { Wrote out.old 0 (field_bytes (walk_rows removed.now succ.now passed.now)) out.new result }
 {
-    let mut p: usize = 0;
-    let mut h: usize = 0;
-    while h < removed.len() {
+    let mut p = 0;
+    for h in 0..removed.len() {
         p = put_walked(removed, succ, passed, h, out, p);
-        h += 1;
     }
     p
 }
 
 // The stage `walk`: use, successor and passed count of each kept use.
-pub fn write_walk(removed: &[bool], succ: &[u32], passed: &[u32], out: &mut [u8]) -> Ending
+pub fn write_walk(
+    removed: &[bool],
+    succ: &[u32],
+    passed: &[u32],
+    out: &mut [u8],
+) -> Result<usize, Refusal>
     requires { length removed.now ≤ 2048 }
     ensures { Staged (walk_rows removed.now succ.now passed.now) out.old out.new result }
 {
-    let needed = 12 * kept_count(removed);
-    if out.len() < needed {
-        return Ending::Refused(40, needed);
-    }
-    put_walks(removed, succ, passed, out);
-    Ending::Written(needed)
+    fits(out, 12 * kept_count(removed))?;
+    Ok(put_walks(removed, succ, passed, out))
 }
 
 // The entries of two tables, side by side; gives the place after them.
@@ -173,28 +152,22 @@ fn put_pairs(boundaries: &[u32], groups: &[u32], out: &mut [u8]) -> usize
     requires { length boundaries.now ≤ 2048 }
     ensures { Wrote out.old 0 (field_bytes (pair_rows boundaries.now groups.now)) out.new result }
 {
-    let mut p: usize = 0;
-    let mut f: usize = 0;
-    while f < boundaries.len() {
+    let mut p = 0;
+    for f in 0..boundaries.len() {
         let b = get(boundaries, f);
         let g = get(groups, f);
         p = put_two(out, p, b, g);
-        f += 1;
     }
     p
 }
 
 // The stage `merge`: lowest face of the boundary and of the merged group of each selected face.
-pub fn write_pairs(boundaries: &[u32], groups: &[u32], out: &mut [u8]) -> Ending
+pub fn write_pairs(boundaries: &[u32], groups: &[u32], out: &mut [u8]) -> Result<usize, Refusal>
     requires { length boundaries.now ≤ 2048 }
     ensures { Staged (pair_rows boundaries.now groups.now) out.old out.new result }
 {
-    let needed = 8 * boundaries.len();
-    if out.len() < needed {
-        return Ending::Refused(40, needed);
-    }
-    put_pairs(boundaries, groups, out);
-    Ending::Written(needed)
+    fits(out, 8 * boundaries.len())?;
+    Ok(put_pairs(boundaries, groups, out))
 }
 
 // The first k pairs of a table; gives the place after them.
@@ -202,28 +175,22 @@ fn put_kept(kept: &[u32], k: usize, out: &mut [u8]) -> usize
     requires { k ≤ 2048 }
     ensures { Wrote out.old 0 (field_bytes (kept_rows kept.now k)) out.new result }
 {
-    let mut p: usize = 0;
-    let mut i: usize = 0;
-    while i < k {
+    let mut p = 0;
+    for i in 0..k {
         let f = get(kept, 2 * i);
         let v = get(kept, 2 * i + 1);
         p = put_two(out, p, f, v);
-        i += 1;
     }
     p
 }
 
 // The stage `vertex-loops`: merged face and point of each of the k kept vertex loops.
-pub fn write_kept(kept: &[u32], k: usize, out: &mut [u8]) -> Ending
+pub fn write_kept(kept: &[u32], k: usize, out: &mut [u8]) -> Result<usize, Refusal>
     requires { k ≤ 2048 }
     ensures { Staged (kept_rows kept.now k) out.old out.new result }
 {
-    let needed = 8 * k;
-    if out.len() < needed {
-        return Ending::Refused(40, needed);
-    }
-    put_kept(kept, k, out);
-    Ending::Written(needed)
+    fits(out, 8 * k)?;
+    Ok(put_kept(kept, k, out))
 }
 
 // The place where the uses of the first k loops end.
@@ -261,13 +228,11 @@ fn put_loops(
     requires { Following k ways.now stretches.now × (k ≤ 2048) × (length ways.now ≤ 2048) }
     ensures { Wrote out.old 0 (field_bytes (round_rows (uses_in uses.now) numbers.now (loops_in k ways.now stretches.now))) out.new result }
 {
-    let mut p: usize = 0;
-    let mut i: usize = 0;
-    while i < k {
+    let mut p = 0;
+    for i in 0..k {
         let a = get(stretches, 2 * i);
         let e = get(stretches, 2 * i + 1);
         p = put_loop(uses, numbers, &ways[a..e], out, p);
-        i += 1;
     }
     p
 }
@@ -280,15 +245,11 @@ pub fn write_loops(
     stretches: &[u32],
     k: usize,
     out: &mut [u8],
-) -> Ending
+) -> Result<usize, Refusal>
     requires { Following k ways.now stretches.now × (k ≤ 2048) × (length ways.now ≤ 2048) }
     ensures { Staged (round_rows (uses_in uses.now) numbers.now (loops_in k ways.now stretches.now)) out.old out.new result }
 {
     let end = end_of(stretches, k);
-    let needed = 8 * k + 4 * end;
-    if out.len() < needed {
-        return Ending::Refused(40, needed);
-    }
-    put_loops(uses, numbers, ways, stretches, k, out);
-    Ending::Written(needed)
+    fits(out, 8 * k + 4 * end)?;
+    Ok(put_loops(uses, numbers, ways, stretches, k, out))
 }

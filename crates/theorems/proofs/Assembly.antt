@@ -5,7 +5,7 @@ use Rattle.lists.specs.Lists.{below, ◌∈◌, Nodup, keep}
 use Rattle.lists.specs.Runs.{length_below, pigeon_below}
 use Rattle.lists.specs.Members.{keep_length}
 use Rattle.lists.specs.Counts.{keep_places}
-use Rattle.rules.specs.Outcome.{ok}
+use Rattle.rules.specs.Outcome.{Ok}
 use Rattle.rules.specs.Frame.{framed_all}
 use Rattle.rules.specs.Job.{unset, Job}
 use Rattle.rules.specs.Load.{loaded}
@@ -63,7 +63,7 @@ empty_begins bytes e =
     subst (λ b. Begins b empty_body.totals) (sym e)
     (begins_body empty_body (record { uses = omega arith; removed = omega arith; passed = omega arith; joins = omega arith; rings = omega arith; face_joins = omega arith }))
 
-module _ (t : Table) (job : List ℕ) (j : Job) (w : Walked) (l : loaded job ≡ ok j) (s : Settled t j w) where
+module _ (t : Table) (job : List ℕ) (j : Job) (w : Walked) (l : loaded job ≡ Ok j) (s : Settled t j w) where
   abbrev G : Ground j w
   G = ground t job j w l s
 
@@ -94,7 +94,7 @@ module _ (t : Table) (job : List ℕ) (j : Job) (w : Walked) (l : loaded job ≡
     pub rings : ending.rings ≡ rings_of changes
     pub few : joins_of changes + rings_of changes ≤ length w.uses
 
-  ran : (ending : Joining) → maximal_edges j.answers fan.starts fan.names (length fan.names) start ≡ ok ending → Ran ending
+  ran : (ending : Joining) → maximal_edges j.answers fan.starts fan.names (length fan.names) start ≡ Ok ending → Ran ending
   ran ending e =
       let r = runs_to_end j.answers fan start ending fan_facts.0 names_below e in
       let c = no_counts_lem j fan in
@@ -109,7 +109,7 @@ module _ (t : Table) (job : List ℕ) (j : Job) (w : Walked) (l : loaded job ≡
       }
 
   -- what holds of joining, but for the body's report
-  holds : (bytes : List ℕ) (ending : Joining) → through_joining (with_table t) j ≡ ok (record { fan = fans_of j w; joining = ending })
+  holds : (bytes : List ℕ) (ending : Joining) → through_joining (with_table t) j ≡ Ok (record { fan = fans_of j w; joining = ending })
       → (R : Ran ending) → Reports j w R.changes bytes → JoiningHolds t j w bytes
   holds bytes ending e R reports =
       let E : EdgesHold j w = edges_hold j w G F in
@@ -125,7 +125,7 @@ module _ (t : Table) (job : List ℕ) (j : Job) (w : Walked) (l : loaded job ≡
       }
 
   -- the loops are sound where joining ends
-  pub joining_sound : (ending : Joining) → maximal_edges j.answers fan.starts fan.names (length fan.names) start ≡ ok ending → SoundLoops ending
+  pub joining_sound : (ending : Joining) → maximal_edges j.answers fan.starts fan.names (length fan.names) start ≡ Ok ending → SoundLoops ending
   joining_sound ending e =
       let R : Ran ending = ran ending e in
       (run_places j.answers fan start ending R.changes (starts_sound j w G F (edges_hold j w G F)) R.run).1
@@ -158,7 +158,7 @@ module _ (t : Table) (job : List ℕ) (j : Job) (w : Walked) (l : loaded job ≡
       })
 
   -- the totals are small
-  pub totals_small : (ending : Joining) → maximal_edges j.answers fan.starts fan.names (length fan.names) start ≡ ok ending → Small (totals_of w ending)
+  pub totals_small : (ending : Joining) → maximal_edges j.answers fan.starts fan.names (length fan.names) start ≡ Ok ending → Small (totals_of w ending)
   totals_small ending e =
       let R : Ran ending = ran ending e in
       let passed = passed_total t j w G.linked.size s in
@@ -172,7 +172,7 @@ module _ (t : Table) (job : List ℕ) (j : Job) (w : Walked) (l : loaded job ≡
       }
 
   -- the bytes of a body begin with the totals of its walks and its joining
-  pub solid_begins : (bytes : List ℕ) (x : Joined) (ns : List Nested) → through_joining (with_table t) j ≡ ok x → bytes ≡ framed_all (body_records (body_of j x ns))
+  pub solid_begins : (bytes : List ℕ) (x : Joined) (ns : List Nested) → through_joining (with_table t) j ≡ Ok x → bytes ≡ framed_all (body_records (body_of j x ns))
       → Begins bytes (totals_of w x.joining)
   solid_begins bytes x ns q e =
       let r = through_joined t j w x (settled_walked t j w s) q in
@@ -182,7 +182,7 @@ module _ (t : Table) (job : List ℕ) (j : Job) (w : Walked) (l : loaded job ≡
       subst₂ Begins (sym e) T (begins_body (body_of j x ns) (subst Small (ap (totals_of w) (sym same) ∙ sym T) (totals_small r.0 r.2)))
 
   -- a job with faces
-  solid_holds : (bytes : List ℕ) (x : Joined) (ns : List Nested) → eqb (length j.faces) 0 ≡ false → through_joining (with_table t) j ≡ ok x
+  solid_holds : (bytes : List ℕ) (x : Joined) (ns : List Nested) → eqb (length j.faces) 0 ≡ false → through_joining (with_table t) j ≡ Ok x
       → bytes ≡ framed_all (body_records (body_of j x ns)) → JoiningHolds t j w bytes
   solid_holds bytes x ns f q e =
       let r = through_joined t j w x (settled_walked t j w s) q in
@@ -190,7 +190,7 @@ module _ (t : Table) (job : List ℕ) (j : Job) (w : Walked) (l : loaded job ≡
       let R : Ran ending = ran ending r.2 in
       let passed = passed_total t j w G.linked.size s in
       let B : Begins bytes (totals_of w ending) = subst (λ (y : Joined). Begins bytes (totals_of w y.joining)) r.1 (solid_begins bytes x ns q e) in
-      holds bytes ending (q ∙ ap ok r.1) R
+      holds bytes ending (q ∙ ap Ok r.1) R
       (record {
         kind = B.kind;
         solid = B.solid ∙ sym (ap (λ b. body_kind (not b)) f);
@@ -201,7 +201,7 @@ module _ (t : Table) (job : List ℕ) (j : Job) (w : Walked) (l : loaded job ≡
         rings = B.rings ∙ R.rings;
       })
 
-  accepted_holds : (room : ℕ) (bytes : List ℕ) → sewn (with_table t) job room ≡ ok bytes → JoiningHolds t j w bytes
+  accepted_holds : (room : ℕ) (bytes : List ℕ) → sewn (with_table t) job room ≡ Ok bytes → JoiningHolds t j w bytes
   accepted_holds room bytes e =
       let a = sewn_body (with_table t) job room bytes j l e in
       ⊎_elim

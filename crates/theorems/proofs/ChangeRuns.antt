@@ -5,7 +5,7 @@ use Rattle.lists.specs.Lists.{◌∈◌, Nodup}
 use Rattle.lists.specs.Tests.{both_ways}
 use Rattle.lists.specs.Members.{keep_length, keep_both}
 use Rattle.lists.specs.KeepCounts.{keep_none, keep_cons}
-use Rattle.rules.specs.Outcome.{ok}
+use Rattle.rules.specs.Outcome.{Ok}
 use Rattle.rules.proofs.OutcomeLaws.{ok_one, bind_ok, bind_on}
 use Rattle.rules.specs.Job.{unset, Answer}
 use Rattle.rules.specs.Fans.{fan_point}
@@ -32,7 +32,7 @@ run_steps answers f s t (c ∷ cs) r =
 -- THE NUMBER OF CHANGES
 
 -- where no fan has exactly two ends a sweep changes nothing
-sweep_still : (answers : List Answer) (starts : List ℕ) (s : Joining) (names : List ℕ) → twos s names ≡ 0 → sweep answers starts s names ≡ ok unchanged
+sweep_still : (answers : List Answer) (starts : List ℕ) (s : Joining) (names : List ℕ) → twos s names ≡ 0 → sweep answers starts s names ≡ Ok unchanged
 unfolding sweep
 sweep_still answers starts s [] h = refl
 sweep_still answers starts s (v ∷ vs) h =
@@ -47,15 +47,15 @@ sweep_still answers starts s (v ∷ vs) h =
 
 -- a budget of as many changes as fans with exactly two ends suffices
 runs_from : (answers : List Answer) (f : Fanned) → Nodup f.names → ((v : ℕ) → v ∈ f.names → v < unset) → (most : ℕ) (s t : Joining)
-    → twos s f.names ≤ most → maximal_edges answers f.starts f.names most s ≡ ok t → (cs : List Change) × Run answers f s cs t
+    → twos s f.names ≤ most → maximal_edges answers f.starts f.names most s ≡ Ok t → (cs : List Change) × Run answers f s cs t
 unfolding maximal_edges
 runs_from answers f nodup fans zero s t h e = ([], (sweep_still answers f.starts s f.names (omega arith), ok_one e))
 runs_from answers f nodup fans (suc most) s t h e =
     let r = bind_ok (sweep answers f.starts s f.names) (λ u. after_sweep u s (maximal_edges answers f.starts f.names most)) t e in
     go r.0 r.1 r.2 (λ u. runs_from answers f nodup fans most u t)
   where
-    go : (u : Tried) → sweep answers f.starts s f.names ≡ ok u → after_sweep u s (maximal_edges answers f.starts f.names most) ≡ ok t
-        → ((x : Joining) → twos x f.names ≤ most → maximal_edges answers f.starts f.names most x ≡ ok t → (cs : List Change) × Run answers f x cs t)
+    go : (u : Tried) → sweep answers f.starts s f.names ≡ Ok u → after_sweep u s (maximal_edges answers f.starts f.names most) ≡ Ok t
+        → ((x : Joining) → twos x f.names ≤ most → maximal_edges answers f.starts f.names most x ≡ Ok t → (cs : List Change) × Run answers f x cs t)
         → (cs : List Change) × Run answers f s cs t
     go unchanged q z ih = ([], (q, ok_one z))
     go (changed x) q z ih =
@@ -65,7 +65,7 @@ runs_from answers f nodup fans (suc most) s t h e =
 
 -- edge joining ends a run
 pub runs_to_end : (answers : List Answer) (f : Fanned) (s t : Joining) → Nodup f.names → ((v : ℕ) → v ∈ f.names → v < unset)
-    → maximal_edges answers f.starts f.names (length f.names) s ≡ ok t → (cs : List Change) × Run answers f s cs t
+    → maximal_edges answers f.starts f.names (length f.names) s ≡ Ok t → (cs : List Change) × Run answers f s cs t
 runs_to_end answers f s t nodup fans e = runs_from answers f nodup fans (length f.names) s t (keep_length (two_ends s.edges) f.names) e
 
 steps_twos : (names : List ℕ) → Nodup names → ((v : ℕ) → v ∈ names → v < unset) → (s t : Joining) (cs : List Change) → Steps names s cs t

@@ -5,7 +5,7 @@ use Rattle.std.proofs.Common.{sym, ap, ◌∙◌, subst, inl, inr, ⊎_elim, ari
 use mathlib.Core.List.Memᴰ
 use Rattle.std.proofs.lemmas.Bool.{eqb-false}
 use Rattle.lists.specs.Lists.{◌∈◌}
-use Rattle.rules.specs.Outcome.{Outcome, ok, refuse, ◌>>=◌}
+use Rattle.rules.specs.Outcome.{Outcome, Ok, ◌>>=◌, Err}
 use Rattle.rules.proofs.OutcomeLaws.{refuse_ok, ok_one, bind_ok, cond_ok}
 use Rattle.rules.specs.Job.{Answer}
 use Rattle.rules.specs.Fans.{fan_point}
@@ -22,9 +22,9 @@ changed_one : {s t : Joining} → changed s ≡ changed t → s ≡ t
 changed_one e = cc
 
 -- a change that a question allows is that change
-changed_if_lem : (question : Outcome Bool) (s t : Joining) → changed_if question s ≡ ok (changed t) → t ≡ s
+changed_if_lem : (question : Outcome Bool) (s t : Joining) → changed_if question s ≡ Ok (changed t) → t ≡ s
 changed_if_lem question s t e =
-    let r = bind_ok question (λ yes. ok (cond yes (changed s) unchanged)) (changed t) e in
+    let r = bind_ok question (λ yes. Ok (cond yes (changed s) unchanged)) (changed t) e in
     go r.0 (ok_one r.2)
   where
     go : (yes : Bool) → cond yes (changed s) unchanged ≡ changed t → t ≡ s
@@ -32,7 +32,7 @@ changed_if_lem question s t e =
     go false q = absurd (unchanged_changed q)
 
 corner_made : (answers : List Answer) (point : ℕ) (s : Joining) (v : ℕ) (t : Joining) (l : List ℕ) → ends_at s.edges v ≡ l
-    → at_corner answers point s v l ≡ ok (changed t) → Made s v t
+    → at_corner answers point s v l ≡ Ok (changed t) → Made s v t
 unfolding at_corner
 corner_made answers point s v t [] i e = absurd (unchanged_changed (ok_one e))
 corner_made answers point s v t (a ∷ []) i e = absurd (unchanged_changed (ok_one e))
@@ -53,7 +53,7 @@ corner_made answers point s v t (a ∷ b ∷ []) i e =
 corner_made answers point s v t (a ∷ b ∷ c ∷ more) i e = absurd (unchanged_changed (ok_one e))
 
 -- a corner without exactly two ends is left unchanged
-pub corner_still : (answers : List Answer) (point : ℕ) (s : Joining) (v : ℕ) (l : List ℕ) → eqb (length l) 2 ≡ false → at_corner answers point s v l ≡ ok unchanged
+pub corner_still : (answers : List Answer) (point : ℕ) (s : Joining) (v : ℕ) (l : List ℕ) → eqb (length l) 2 ≡ false → at_corner answers point s v l ≡ Ok unchanged
 unfolding at_corner
 corner_still answers point s v [] h = refl
 corner_still answers point s v (a ∷ []) h = refl
@@ -61,7 +61,7 @@ corner_still answers point s v (a ∷ b ∷ []) h = absurd (eqb-false 2 2 h refl
 corner_still answers point s v (a ∷ b ∷ c ∷ more) h = refl
 
 -- a sweep that makes a change makes it at one corner, among the fans
-pub sweep_made : (answers : List Answer) (starts : List ℕ) (s t : Joining) (names : List ℕ) → sweep answers starts s names ≡ ok (changed t)
+pub sweep_made : (answers : List Answer) (starts : List ℕ) (s t : Joining) (names : List ℕ) → sweep answers starts s names ≡ Ok (changed t)
     → (v : ℕ) × (changed_corner answers starts s names ≡ v ∷ []) × (v ∈ names) × Made s v t
 unfolding sweep changed_corner
 sweep_made answers starts s t [] e = absurd (unchanged_changed (ok_one e))
@@ -70,19 +70,19 @@ sweep_made answers starts s t (v ∷ vs) e = go (tried v) refl e (λ q. sweep_ma
     tried : ℕ → Outcome Tried
     tried v = at_corner answers (fan_point starts v) s v (ends_at s.edges v)
 
-    go : (o : Outcome Tried) → tried v ≡ o → (o >>= λ u. or_else u (sweep answers starts s vs)) ≡ ok (changed t)
-        → (sweep answers starts s vs ≡ ok (changed t) → (x : ℕ) × (changed_corner answers starts s vs ≡ x ∷ []) × (x ∈ vs) × Made s x t)
+    go : (o : Outcome Tried) → tried v ≡ o → (o >>= λ u. or_else u (sweep answers starts s vs)) ≡ Ok (changed t)
+        → (sweep answers starts s vs ≡ Ok (changed t) → (x : ℕ) × (changed_corner answers starts s vs ≡ x ∷ []) × (x ∈ vs) × Made s x t)
         → (x : ℕ) × (corner_if (tried v) v (changed_corner answers starts s vs) ≡ x ∷ []) × (x ∈ (v ∷ vs)) × Made s x t
-    go (ok unchanged) q z ih =
+    go (Ok unchanged) q z ih =
         let r = ih z in
         (r.0, ap (λ o. corner_if o v (changed_corner answers starts s vs)) q ∙ r.1, Memᴰ.tail r.2, r.3)
-    go (ok (changed u)) q z ih =
+    go (Ok (changed u)) q z ih =
         (v, ap (λ o. corner_if o v (changed_corner answers starts s vs)) q, Memᴰ.head refl, corner_made answers (fan_point starts v) s v t (ends_at s.edges v) refl (q ∙ z))
-    go (refuse n p) q z ih = absurd (refuse_ok z)
+    go (Err r) q z ih = absurd (refuse_ok z)
 
 -- what a change is
 pub change_made : (answers : List Answer) (starts : List ℕ) (s t : Joining) (names : List ℕ) (v : ℕ)
-    → changed_corner answers starts s names ≡ v ∷ [] → sweep answers starts s names ≡ ok (changed t) → (v ∈ names) × Made s v t
+    → changed_corner answers starts s names ≡ v ∷ [] → sweep answers starts s names ≡ Ok (changed t) → (v ∈ names) × Made s v t
 change_made answers starts s t names v c e =
     let r = sweep_made answers starts s t names e in
     let same : r.0 ≡ v = ap (λ l. get_or l 0 0) (sym r.1 ∙ c) in
@@ -97,14 +97,14 @@ join_is c r = ap (λ l. eqb (get_or l 0 0) (get_or l 1 0)) r.ends ∙ ne_eqb r.f
 
 -- what every change at a fan keeps, joining keeps
 pub joining_keeps : (answers : List Answer) (starts names : List ℕ) (P : Joining → Type 0) → ((s t : Joining) (v : ℕ) → v ∈ names → Made s v t → P s → P t)
-    → (most : ℕ) (s t : Joining) → maximal_edges answers starts names most s ≡ ok t → P s → P t
+    → (most : ℕ) (s t : Joining) → maximal_edges answers starts names most s ≡ Ok t → P s → P t
 unfolding maximal_edges
 joining_keeps answers starts names P keeps zero s t e h = subst P (ok_one e) h
 joining_keeps answers starts names P keeps (suc most) s t e h =
     let r = bind_ok (sweep answers starts s names) (λ u. after_sweep u s (maximal_edges answers starts names most)) t e in
     go r.0 r.1 r.2 (λ u. joining_keeps answers starts names P keeps most u t)
   where
-    go : (u : Tried) → sweep answers starts s names ≡ ok u → after_sweep u s (maximal_edges answers starts names most) ≡ ok t
-        → ((x : Joining) → maximal_edges answers starts names most x ≡ ok t → P x → P t) → P t
+    go : (u : Tried) → sweep answers starts s names ≡ Ok u → after_sweep u s (maximal_edges answers starts names most) ≡ Ok t
+        → ((x : Joining) → maximal_edges answers starts names most x ≡ Ok t → P x → P t) → P t
     go unchanged q z later = subst P (ok_one z) h
     go (changed x) q z later = let m = sweep_made answers starts s x names q in later x z (keeps s x m.0 m.2 m.3 h)

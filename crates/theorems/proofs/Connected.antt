@@ -13,7 +13,7 @@ use Rattle.lists.specs.Runs.{in_below, below_in, length_below}
 use Rattle.lists.specs.Members.{foldl_keeps}
 use Rattle.rules.specs.declared.Edge.{Edge}
 use Rattle.rules.specs.declared.Use.{Use}
-use Rattle.rules.specs.Outcome.{Outcome, ok, throughout}
+use Rattle.rules.specs.Outcome.{Outcome, Ok, throughout}
 use Rattle.rules.proofs.OutcomeLaws.{ok_one, bind_ok}
 use Rattle.rules.specs.Read.{face_of_use}
 use Rattle.rules.specs.Groups.{alone, label_of, joined, Grouping, join_groups, lowest_members, Lowest}
@@ -212,8 +212,8 @@ module _ {A : Type 0} (test : A → Bool) (left right : A → ℕ) where
         label_least closed_all.lowest i k (omega arith) ((joined_all_connected i k hi hk).1 c)
 
 -- steps that give, where they refuse nothing, what a plain step gives
-pub through_fold : {A S : Type 0} (step : A → S → Outcome S) (f : S → A → S) → ((x : A) (u v : S) → step x u ≡ ok v → v ≡ f u x)
-    → (xs : List A) (s t : S) → throughout step xs s ≡ ok t → t ≡ foldl f s xs
+pub through_fold : {A S : Type 0} (step : A → S → Outcome S) (f : S → A → S) → ((x : A) (u v : S) → step x u ≡ Ok v → v ≡ f u x)
+    → (xs : List A) (s t : S) → throughout step xs s ≡ Ok t → t ≡ foldl f s xs
 unfolding throughout
 through_fold step f gives [] s t e = sym (ok_one e)
 through_fold step f gives (x ∷ xs) s t e =

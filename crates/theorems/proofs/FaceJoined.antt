@@ -8,7 +8,7 @@ use Rattle.lists.specs.Counts.{keep_map_length, keep_nothing}
 use Rattle.rules.specs.declared.Use.{Use}
 use Rattle.rules.specs.declared.Face.{Face}
 use Rattle.rules.specs.declared.KeptVertexLoop.{KeptVertexLoop}
-use Rattle.rules.specs.Outcome.{ok}
+use Rattle.rules.specs.Outcome.{Ok}
 use Rattle.rules.proofs.OutcomeLaws.{ok_one}
 use Rattle.rules.specs.Frame.{Record, framed_all}
 use Rattle.rules.specs.Job.{Job}
@@ -92,9 +92,9 @@ solid_faces j x ns = length_body_faces j.faces x.fan.walk.merge.groups _ x.joini
 
 -- AN ACCEPTED JOB
 
-module _ (t : Table) (job : List ℕ) (j : Job) (l : loaded job ≡ ok j) where
+module _ (t : Table) (job : List ℕ) (j : Job) (l : loaded job ≡ Ok j) where
   -- a job without faces
-  empty_told : (b : Body) (bytes : List ℕ) → rebuild (with_table t) j ≡ ok b → bytes ≡ framed_all (body_records b) → length j.faces ≡ 0 → b ≡ empty_body → FacesTold t j bytes
+  empty_told : (b : Body) (bytes : List ℕ) → rebuild (with_table t) j ≡ Ok b → bytes ≡ framed_all (body_records b) → length j.faces ≡ 0 → b ≡ empty_body → FacesTold t j bytes
   empty_told b bytes r e n z =
       let B : Begins bytes empty_body.totals = empty_begins bytes (e ∙ ap (λ x. framed_all (body_records x)) z) in
       let none : faces_written (body_records b) ≡ 0 = body_faces_lem b ∙ ap (λ (x : Body). length x.faces) z in
@@ -108,7 +108,7 @@ module _ (t : Table) (job : List ℕ) (j : Job) (l : loaded job ≡ ok j) where
       }
 
   -- a job with faces
-  solid_told : (b : Body) (bytes : List ℕ) → rebuild (with_table t) j ≡ ok b → bytes ≡ framed_all (body_records b) → Solid (with_table t) j b → FacesTold t j bytes
+  solid_told : (b : Body) (bytes : List ℕ) → rebuild (with_table t) j ≡ Ok b → bytes ≡ framed_all (body_records b) → Solid (with_table t) j b → FacesTold t j bytes
   solid_told b bytes r e S =
       let x : Joined = S.joined in
       let walk = joined_walks t j x S.joining in
@@ -128,7 +128,7 @@ module _ (t : Table) (job : List ℕ) (j : Job) (l : loaded job ≡ ok j) where
         empty = λ z. absurd (omega (arith, B.solid, z));
       }
 
-  told : (room : ℕ) (bytes : List ℕ) → sewn (with_table t) job room ≡ ok bytes → FacesTold t j bytes
+  told : (room : ℕ) (bytes : List ℕ) → sewn (with_table t) job room ≡ Ok bytes → FacesTold t j bytes
   told room bytes e =
       let a = sewn_body (with_table t) job room bytes j l e in
       ⊎_elim

@@ -9,7 +9,7 @@ use Rattle.lists.specs.Members.{keep_append, map_in}
 use Rattle.rules.specs.declared.Use.{Use}
 use Rattle.rules.specs.declared.Face.{Face}
 use Rattle.rules.specs.declared.KeptVertexLoop.{KeptVertexLoop}
-use Rattle.rules.specs.Outcome.{ok}
+use Rattle.rules.specs.Outcome.{Ok}
 use Rattle.rules.proofs.OutcomeLaws.{ok_one}
 use Rattle.rules.specs.Frame.{Record, framed_all}
 use Rattle.rules.specs.Job.{Job}
@@ -105,9 +105,9 @@ none_behind g e = ap (λ n. map (members_of g) (keep (is_lowest g) (below n))) (
 
 -- AN ACCEPTED JOB
 
-module _ (t : Table) (job : List ℕ) (j : Job) (l : loaded job ≡ ok j) where
+module _ (t : Table) (job : List ℕ) (j : Job) (l : loaded job ≡ Ok j) where
   -- the merged groups are of the selected faces, each with the label of its lowest member
-  grouped : (w : Walked) → walked (with_table t) j ≡ ok w → Lowest w.merge.groups × (length w.merge.groups ≡ length j.faces)
+  grouped : (w : Walked) → walked (with_table t) j ≡ Ok w → Lowest w.merge.groups × (length w.merge.groups ≡ length j.faces)
   grouped w e =
       let s : Settled t j w = walked_settled t j w e in
       let S : Sound j = loaded_sound job j l in
@@ -123,7 +123,7 @@ module _ (t : Table) (job : List ℕ) (j : Job) (l : loaded job ≡ ok j) where
   named i k h m e = faces_distinct job j l i k h m (ap (λ x. x.body) e) (ap (λ x. x.source) e)
 
   -- a job without faces
-  empty_told : (b : Body) (bytes : List ℕ) → rebuild (with_table t) j ≡ ok b → bytes ≡ framed_all (body_records b) → length j.faces ≡ 0 → b ≡ empty_body → MembersTold t j bytes
+  empty_told : (b : Body) (bytes : List ℕ) → rebuild (with_table t) j ≡ Ok b → bytes ≡ framed_all (body_records b) → length j.faces ≡ 0 → b ≡ empty_body → MembersTold t j bytes
   empty_told b bytes r e n z = record {
     body = b;
     rebuilt = r;
@@ -138,7 +138,7 @@ module _ (t : Table) (job : List ℕ) (j : Job) (l : loaded job ≡ ok j) where
   }
 
   -- a job with faces
-  solid_told : (b : Body) (bytes : List ℕ) → rebuild (with_table t) j ≡ ok b → bytes ≡ framed_all (body_records b) → Solid (with_table t) j b → MembersTold t j bytes
+  solid_told : (b : Body) (bytes : List ℕ) → rebuild (with_table t) j ≡ Ok b → bytes ≡ framed_all (body_records b) → Solid (with_table t) j b → MembersTold t j bytes
   solid_told b bytes r e S =
       let x : Joined = S.joined in
       let walk = joined_walks t j x S.joining in
@@ -164,7 +164,7 @@ module _ (t : Table) (job : List ℕ) (j : Job) (l : loaded job ≡ ok j) where
         named = named;
       }
 
-  told : (room : ℕ) (bytes : List ℕ) → sewn (with_table t) job room ≡ ok bytes → MembersTold t j bytes
+  told : (room : ℕ) (bytes : List ℕ) → sewn (with_table t) job room ≡ Ok bytes → MembersTold t j bytes
   told room bytes e =
       let a = sewn_body (with_table t) job room bytes j l e in
       ⊎_elim

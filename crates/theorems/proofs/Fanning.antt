@@ -8,7 +8,7 @@ use Rattle.lists.specs.Lists.{below, iterate}
 use Rattle.lists.specs.Tests.{both_ways, and_both, both_and, not_is}
 use Rattle.lists.specs.Runs.{in_below, below_in, below_nodup}
 use Rattle.lists.specs.Members.{in_keep, keep_in, keep_nodup, get_or_map}
-use Rattle.rules.specs.Outcome.{ok}
+use Rattle.rules.specs.Outcome.{Ok}
 use Rattle.rules.specs.Sense.{reverse}
 use Rattle.rules.specs.Job.{Job, edge_at, ring, start_by, end_by, point_at}
 use Rattle.rules.specs.Load.{loaded}
@@ -164,7 +164,7 @@ module _ (j : Job) (w : Walked) (G : Ground j w) where
   }
 
 -- for every job that loads and pairs, merges and walks
-pub fan_starts_lem : (t : Table) (job : List ℕ) (j : Job) (w : Walked) → loaded job ≡ ok j → Settled t j w → OneStart j w
+pub fan_starts_lem : (t : Table) (job : List ℕ) (j : Job) (w : Walked) → loaded job ≡ Ok j → Settled t j w → OneStart j w
 fan_starts_lem t job j w l s h k e f one =
     let G = ground t job j w l s in
     let F = fans_hold j w G in

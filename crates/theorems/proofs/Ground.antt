@@ -2,7 +2,7 @@
 use Rattle.std.specs.Prelude.{ℕ, ◌<◌, ◌≤◌, ◌≡◌, refl, List, false, length}
 use Rattle.std.proofs.Common.{arith, sym, ap, ◌∙◌, subst}
 use Rattle.rules.specs.declared.Use.{Use}
-use Rattle.rules.specs.Outcome.{ok}
+use Rattle.rules.specs.Outcome.{Ok}
 use Rattle.rules.proofs.OutcomeLaws.{ok_one, bind_ok, bind_on}
 use Rattle.rules.specs.Job.{Job, ring, point_at}
 use Rattle.rules.specs.Load.{loaded}
@@ -28,12 +28,12 @@ use Rattle.theorems.specs.Ground.{Ground}
 
 -- REACHING THE WALKS
 
-pub settled_walked : (t : Table) (j : Job) (w : Walked) → Settled t j w → walked (with_table t) j ≡ ok w
+pub settled_walked : (t : Table) (j : Job) (w : Walked) → Settled t j w → walked (with_table t) j ≡ Ok w
 unfolding walked
 settled_walked t j w s =
-    bind_on _ s.pairs ∙ bind_on _ s.surfaces ∙ bind_on _ s.vertices ∙ ap ok (sym s.walks)
+    bind_on _ s.pairs ∙ bind_on _ s.surfaces ∙ bind_on _ s.vertices ∙ ap Ok (sym s.walks)
 
-pub walked_settled : (t : Table) (j : Job) (w : Walked) → walked (with_table t) j ≡ ok w → Settled t j w
+pub walked_settled : (t : Table) (j : Job) (w : Walked) → walked (with_table t) j ≡ Ok w → Settled t j w
 unfolding walked walks_of
 walked_settled t j w e =
     let us = uses_of j in
@@ -49,7 +49,7 @@ pub settled_uses : (t : Table) (j : Job) (w : Walked) → Settled t j w → uses
 unfolding walks_of
 settled_uses t j w s = sym (ap (λ (x : Walked). x.uses) s.walks)
 
-pub ground : (t : Table) (job : List ℕ) (j : Job) (w : Walked) → loaded job ≡ ok j → Settled t j w → Ground j w
+pub ground : (t : Table) (job : List ℕ) (j : Job) (w : Walked) → loaded job ≡ Ok j → Settled t j w → Ground j w
 ground t job j w l s =
     let us : List Use = uses_of j in
     let S : Sound j = loaded_sound job j l in

@@ -8,7 +8,7 @@ use Rattle.lists.specs.Tests.{both_ways, and_both}
 use Rattle.lists.specs.OneMore.{snoc_members}
 use Rattle.lists.specs.Sums.{sum_nil}
 use Rattle.rules.specs.declared.Counts.{Counts}
-use Rattle.rules.specs.Outcome.{ok}
+use Rattle.rules.specs.Outcome.{Ok}
 use Rattle.rules.proofs.OutcomeLaws.{ok_one, bind_ok, need_ok, through_keeps}
 use Rattle.rules.specs.Frame.{Frame, frames}
 use Rattle.rules.specs.Job.{Job}
@@ -33,7 +33,7 @@ FitLoading : Loading → Type 0
 FitLoading s = Fit s.counts s.job
 
 -- a record that loading takes
-pub record_taken : (f : Frame) (s t : Loading) → load_record f s ≡ ok t → RecordTaken f s t
+pub record_taken : (f : Frame) (s t : Loading) → load_record f s ≡ Ok t → RecordTaken f s t
 unfolding load_record
 record_taken f s t e =
     let whole = need_ok f.whole _ _ _ t e in
@@ -52,8 +52,8 @@ record_taken f s t e =
     }
 
 -- what each record of a job that loading takes keeps holds when all are taken
-pub loading_keeps : (job : List ℕ) (P : Loading → Type 0) (s : Loading) → ((f : Frame) (u v : Loading) → f ∈ frames job → P u → load_record f u ≡ ok v → P v) → P nothing_loaded
-    → loading job ≡ ok s → P s
+pub loading_keeps : (job : List ℕ) (P : Loading → Type 0) (s : Loading) → ((f : Frame) (u v : Loading) → f ∈ frames job → P u → load_record f u ≡ Ok v → P v) → P nothing_loaded
+    → loading job ≡ Ok s → P s
 unfolding loading
 loading_keeps job P s keeps none e =
     let small = need_ok _ _ _ _ s e in
@@ -79,7 +79,7 @@ fit_nothing = record {
 }
 
 -- what is loaded when a job's records are all taken is fit
-pub loading_fit : (job : List ℕ) (s : Loading) → loading job ≡ ok s → Fit s.counts s.job
+pub loading_fit : (job : List ℕ) (s : Loading) → loading job ≡ Ok s → Fit s.counts s.job
 unfolding FitLoading
 loading_fit job s =
     loading_keeps job FitLoading s
@@ -87,22 +87,22 @@ loading_fit job s =
     fit_nothing
 
 -- the counts of a loaded job are the lengths of its lists, within the limits
-pub loading_counted : (job : List ℕ) (s : Loading) → loading job ≡ ok s → Counted s.counts s.job × Limited s.counts
+pub loading_counted : (job : List ℕ) (s : Loading) → loading job ≡ Ok s → Counted s.counts s.job × Limited s.counts
 loading_counted job s e = let F = loading_fit job s e in (F.counted, F.limited)
 
 -- a loaded job is within the limits
-pub loaded_limits : (job : List ℕ) (j : Job) → loaded job ≡ ok j → (c : Counts) × Counted c j × Limited c
+pub loaded_limits : (job : List ℕ) (j : Job) → loaded job ≡ Ok j → (c : Counts) × Counted c j × Limited c
 loaded_limits job j e =
     let r = bind_ok (loading job) _ j e in
     let F = loading_counted job r.0 r.1 in
     (r.0.counts, subst (Counted r.0.counts) (ok_one r.2) F.0, F.1)
 
 -- it has at most 256 faces
-pub faces_few : (job : List ℕ) (j : Job) → loaded job ≡ ok j → length j.faces ≤ 256
+pub faces_few : (job : List ℕ) (j : Job) → loaded job ≡ Ok j → length j.faces ≤ 256
 faces_few job j e = let c = loaded_limits job j e in omega (arith, c.1.faces, c.2.faces)
 
 -- a loaded job is sound
-pub loaded_sound : (job : List ℕ) (j : Job) → loaded job ≡ ok j → Sound j
+pub loaded_sound : (job : List ℕ) (j : Job) → loaded job ≡ Ok j → Sound j
 loaded_sound job j e =
     let r = bind_ok (loading job) _ j e in
     subst Sound (ok_one r.2) (loading_fit job r.0 r.1).sound
@@ -112,7 +112,7 @@ pub faces_distinct : (job : List ℕ) → FacesDistinct job
 faces_distinct job j e = (loaded_sound job j e).distinct
 
 -- without faces there is no use
-pub no_face_no_use : (job : List ℕ) (j : Job) → loaded job ≡ ok j → length j.faces ≡ 0 → length (uses_of j) ≡ 0
+pub no_face_no_use : (job : List ℕ) (j : Job) → loaded job ≡ Ok j → length j.faces ≡ 0 → length (uses_of j) ≡ 0
 no_face_no_use job j e none =
     ⊎_elim (λ t. absurd (omega (arith, use_face_below j (loaded_sound job j e) 0 (ltb-true 0 (length (uses_of j)) t))))
     (λ t. omega (arith, ltb-false 0 (length (uses_of j)) t))

@@ -11,7 +11,7 @@ use Rattle.lists.specs.Tests.{both_ways, or_none, and_both, equal_or_not, eqb_sw
 use Rattle.lists.specs.Runs.{in_below, below_in, length_table, get_or_table}
 use Rattle.rules.specs.declared.Face.{Face}
 use Rattle.rules.specs.declared.Use.{Use}
-use Rattle.rules.specs.Outcome.{Outcome, ok, refuse, throughout}
+use Rattle.rules.specs.Outcome.{Outcome, Ok, throughout, Err}
 use Rattle.rules.proofs.OutcomeLaws.{ok_one, bind_ok, bind_on, cond_ok}
 use Rattle.rules.specs.Job.{Answer}
 use Rattle.rules.specs.Questions.{surface_answer, ask}
@@ -50,15 +50,15 @@ asked_is us ts h e =
     (leb-false (twin_of ts h) h r.0, eqb-false (face_of_use us h) (other_face us ts h) r.1)
 
 is_yes : Outcome Bool → Bool
-is_yes (ok b) = b
-is_yes (refuse n p) = false
+is_yes (Ok b) = b
+is_yes (Err r) = false
 
-yes_ok : (o : Outcome Bool) → is_yes o ≡ true → o ≡ ok true
+yes_ok : (o : Outcome Bool) → is_yes o ≡ true → o ≡ Ok true
 unfolding is_yes
-yes_ok (ok b) e = ap ok e
-yes_ok (refuse n p) e = absurd (false≢true e)
+yes_ok (Ok b) e = ap Ok e
+yes_ok (Err r) e = absurd (false≢true e)
 
-ok_yes : (o : Outcome Bool) (b : Bool) → o ≡ ok b → is_yes o ≡ b
+ok_yes : (o : Outcome Bool) (b : Bool) → o ≡ Ok b → is_yes o ≡ b
 unfolding is_yes
 ok_yes o b e = rw e
 
@@ -67,13 +67,13 @@ module _ (t : Table) (answers : List Answer) (fs : List Face) (us : List Use) (t
   joins_at : ℕ → Bool
   joins_at h = not (unasked us ts h) && is_yes (surface_joins t answers fs us ts h)
 
-  joins_yes : (h : ℕ) → joins_at h ≡ true → (unasked us ts h ≡ false) × (surface_joins t answers fs us ts h ≡ ok true)
+  joins_yes : (h : ℕ) → joins_at h ≡ true → (unasked us ts h ≡ false) × (surface_joins t answers fs us ts h ≡ Ok true)
   unfolding joins_at
   joins_yes h e =
       let r = and_both (not (unasked us ts h)) (is_yes (surface_joins t answers fs us ts h)) e in
       (not-true (unasked us ts h) r.0, yes_ok (surface_joins t answers fs us ts h) r.1)
 
-  yes_joins : (h : ℕ) → unasked us ts h ≡ false → surface_joins t answers fs us ts h ≡ ok true → joins_at h ≡ true
+  yes_joins : (h : ℕ) → unasked us ts h ≡ false → surface_joins t answers fs us ts h ≡ Ok true → joins_at h ≡ true
   unfolding joins_at
   yes_joins h u s = rw (u, ok_yes (surface_joins t answers fs us ts h) true s)
 
@@ -84,19 +84,19 @@ module _ (t : Table) (answers : List Answer) (fs : List Face) (us : List Use) (t
   abbrev counting : Grouping → ℕ → Grouping
   counting = join_counting joins_at (face_of_use us) (other_face us ts)
 
-  merge_step_lem : (h : ℕ) (g g' : Grouping) → merge_step t answers fs us ts h g ≡ ok g' → g' ≡ counting g h
+  merge_step_lem : (h : ℕ) (g g' : Grouping) → merge_step t answers fs us ts h g ≡ Ok g' → g' ≡ counting g h
   unfolding merge_step surface_step joins_at
   merge_step_lem h g g' e = ⊎_elim
       (λ w. rw w.0 (sym (ok_one w.1)))
       (λ w.
       let r = bind_ok (ask answers 8 (h ∷ [])) _ g' w.1 in
       let q = bind_ok (joins_faces t (equal_senses fs us ts h) (surface_answer r.0)) _ g' r.2 in
-      let s : surface_joins t answers fs us ts h ≡ ok q.0 = bind_on _ r.1 ∙ q.1 in
+      let s : surface_joins t answers fs us ts h ≡ Ok q.0 = bind_on _ r.1 ∙ q.1 in
       rw (w.0, ok_yes (surface_joins t answers fs us ts h) q.0 s) (sym (ok_one q.2)))
-      (cond_ok (unasked us ts h) (ok g) (surface_step t answers fs us ts h g) g' e)
+      (cond_ok (unasked us ts h) (Ok g) (surface_step t answers fs us ts h g) g' e)
 
   -- groups and face joins when the uses below n have asked
-  module _ (n : ℕ) (s : Grouping) (e : throughout (merge_step t answers fs us ts) (below n) (ungrouped (length fs)) ≡ ok s) where
+  module _ (n : ℕ) (s : Grouping) (e : throughout (merge_step t answers fs us ts) (below n) (ungrouped (length fs)) ≡ Ok s) where
     so_far : s ≡ foldl counting (ungrouped (length fs)) (below n)
     so_far = through_fold (merge_step t answers fs us ts) counting merge_step_lem (below n) (ungrouped (length fs)) s e
 
@@ -105,7 +105,7 @@ module _ (t : Table) (answers : List Answer) (fs : List Face) (us : List Use) (t
 
     -- each use leaves groups and face joins, or changes the groups and makes one face join more
     pub step_tells : ((h : ℕ) → h < length us → face_of_use us h < length fs) → ((h : ℕ) → h < length us → twin_of ts h < length us) → n < length us
-        → (s' : Grouping) → merge_step t answers fs us ts n s ≡ ok s' → Told s s'
+        → (s' : Grouping) → merge_step t answers fs us ts n s ≡ Ok s' → Told s s'
     step_tells face twin few s' q =
         subst (Told s) (sym (merge_step_lem n s s' q))
         (⊎_elim
@@ -123,7 +123,7 @@ module _ (t : Table) (answers : List Answer) (fs : List Face) (us : List Use) (t
             (joined_all_lowest joins_at (face_of_use us) (other_face us ts) (length fs) (below n)
             (λ h m _. let q : h < length us = omega (arith, below_in n h m, few) in (face h q, face (twin_of ts h) (twin h q))))
 
-  module _ (s : Grouping) (e : merged_groups t answers fs us ts ≡ ok s) where
+  module _ (s : Grouping) (e : merged_groups t answers fs us ts ≡ Ok s) where
     abbrev g : List ℕ
     g = s.groups
 
@@ -159,7 +159,7 @@ module _ (t : Table) (answers : List Answer) (fs : List Face) (us : List Use) (t
 
       -- merged faces are equivalent in every equivalence that has the pairs joined
       pub merged_within : {E : ℕ → ℕ → Type 0} → Equivalence E
-          → ((h : ℕ) → h < length us → unasked us ts h ≡ false → surface_joins t answers fs us ts h ≡ ok true → E (face_of_use us h) (other_face us ts h))
+          → ((h : ℕ) → h < length us → unasked us ts h ≡ false → surface_joins t answers fs us ts h ≡ Ok true → E (face_of_use us h) (other_face us ts h))
           → (i k : ℕ) → i < length fs → k < length fs → label_of g i ≡ label_of g k → E i k
       merged_within q has i k hi hk s =
           let z = merged_is in
@@ -182,16 +182,16 @@ removed_uses_at us ts g h lt = get_or_table (removes us ts g) (length us) h fals
 
 -- MERGING, WHOLE
 
-module _ (t : Table) (answers : List Answer) (fs : List Face) (us : List Use) (ts : List ℕ) (m : Merged) (e : merge_faces t answers fs us ts ≡ ok m) where
-  merge_parts : (merged_groups t answers fs us ts ≡ ok (merge_grouping m)) × (m.boundaries ≡ boundaries us ts (length fs)) × (m.removed ≡ removed_uses us ts m.groups)
+module _ (t : Table) (answers : List Answer) (fs : List Face) (us : List Use) (ts : List ℕ) (m : Merged) (e : merge_faces t answers fs us ts ≡ Ok m) where
+  merge_parts : (merged_groups t answers fs us ts ≡ Ok (merge_grouping m)) × (m.boundaries ≡ boundaries us ts (length fs)) × (m.removed ≡ removed_uses us ts m.groups)
   unfolding merge_faces
   merge_parts =
       let r = bind_ok (merged_groups t answers fs us ts) _ m e in
       let q = ok_one r.2 in
       let same : r.0 ≡ merge_grouping m = λ i. record { groups = (q i).groups; joins = (q i).joins } in
-      (r.1 ∙ ap ok same, sym (ap (λ (x : Merged). x.boundaries) q), sym (ap (λ (x : Merged). x.removed) q) ∙ ap (λ (x : Grouping). removed_uses us ts x.groups) same)
+      (r.1 ∙ ap Ok same, sym (ap (λ (x : Merged). x.boundaries) q), sym (ap (λ (x : Merged). x.removed) q) ∙ ap (λ (x : Grouping). removed_uses us ts x.groups) same)
 
-  pub merge_groups : merged_groups t answers fs us ts ≡ ok (merge_grouping m)
+  pub merge_groups : merged_groups t answers fs us ts ≡ Ok (merge_grouping m)
   merge_groups = merge_parts.0
 
   pub merge_boundaries : m.boundaries ≡ boundaries us ts (length fs)

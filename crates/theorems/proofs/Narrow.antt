@@ -22,7 +22,7 @@ use Rattle.rules.specs.declared.Sense.{Sense}
 use Rattle.rules.specs.declared.Sense.TheVariants.{Same, Reversed}
 use Rattle.rules.specs.declared.EdgeData.{EdgeData}
 use Rattle.rules.specs.declared.KeptVertexLoop.{KeptVertexLoop}
-use Rattle.rules.specs.Outcome.{ok, ◌>>=◌}
+use Rattle.rules.specs.Outcome.{Ok, ◌>>=◌}
 use Rattle.rules.proofs.OutcomeLaws.{ok_one, bind_ok, through_keeps, each_has, each_length}
 use Rattle.rules.specs.Sense.{sense_number}
 use Rattle.rules.specs.Fields.{le32, fields_in, field}
@@ -108,7 +108,7 @@ frames_low (suc most) at (y ∷ ys) b f m =
     ⊎_elim (λ e. subst (λ (g : Frame). Below 4294967296 g.fields) (sym e) here) later (Memᴰ.cases_cons m)
 
 -- a record whose fields have four bytes keeps that
-record_low : (f : Frame) (s t : Loading) → Below 4294967296 f.fields → LowJob s.job → load_record f s ≡ ok t → LowJob t.job
+record_low : (f : Frame) (s t : Loading) → Below 4294967296 f.fields → LowJob s.job → load_record f s ≡ Ok t → LowJob t.job
 unfolding extended
 record_low f s t b L e =
     let low : (i : ℕ) → Low (field f.fields i) = λ i. at_has Low f.fields i 0 (omega arith) b in
@@ -119,7 +119,7 @@ record_low f s t b L e =
     })
 
 -- a job of bytes is such
-pub loaded_low : (job : List ℕ) (j : Job) → Below 256 job → loaded job ≡ ok j → LowJob j
+pub loaded_low : (job : List ℕ) (j : Job) → Below 256 job → loaded job ≡ Ok j → LowJob j
 loaded_low job j b l =
     let r = bind_ok (loading job) _ j l in
     let all = loading_keeps job (λ (s : Loading). LowJob s.job) r.0
@@ -132,7 +132,7 @@ loaded_low job j b l =
 -- what holds of every vertex loop that may be kept holds of those kept
 step_has : (answers : List Answer) (points : List ℕ) (face : ℕ) (c : Content) (P : KeptVertexLoop → Type 0) (ks ks' : List KeptVertexLoop)
     → ((v : ℕ) → P (record { face = face; point = get_or points v 0 })) → ((k : KeptVertexLoop) → k ∈ ks → P k)
-    → content_step answers points face c ks ≡ ok ks' → (k : KeptVertexLoop) → k ∈ ks' → P k
+    → content_step answers points face c ks ≡ Ok ks' → (k : KeptVertexLoop) → k ∈ ks' → P k
 unfolding keep_unless_there
 step_has answers points face (of_items xs) P ks ks' new all e = subst (λ (l : List KeptVertexLoop). (k : KeptVertexLoop) → k ∈ l → P k) (ok_one e) all
 step_has answers points face (at_vertex v) P ks ks' new all e =
@@ -148,13 +148,13 @@ step_has answers points face (at_vertex v) P ks ks' new all e =
 
 pub kept_has : (answers : List Answer) (points numbers : List ℕ) (loops : List Loop) (P : KeptVertexLoop → Type 0) (ks : List KeptVertexLoop)
     → ((f v : ℕ) → P (record { face = get_or numbers f 0; point = get_or points v 0 }))
-    → vertex_loops answers points numbers loops ≡ ok ks → (k : KeptVertexLoop) → k ∈ ks → P k
+    → vertex_loops answers points numbers loops ≡ Ok ks → (k : KeptVertexLoop) → k ∈ ks → P k
 kept_has answers points numbers loops P ks each e =
     through_keeps (vertex_loop_step answers points numbers) (λ (l : List KeptVertexLoop). (k : KeptVertexLoop) → k ∈ l → P k) loops [] ks
     (λ l u v m S q. step_has answers points (get_or numbers l.face 0) l.content P u v (each l.face) S q) (λ k m. absurd (Memᴰ.not-nil m)) e
 
 pub kept_points : (answers : List Answer) (points numbers : List ℕ) (loops : List Loop) (ks : List KeptVertexLoop) → Below 4294967296 points
-    → vertex_loops answers points numbers loops ≡ ok ks → (k : KeptVertexLoop) → k ∈ ks → Low k.point
+    → vertex_loops answers points numbers loops ≡ Ok ks → (k : KeptVertexLoop) → k ∈ ks → Low k.point
 kept_points answers points numbers loops ks b =
     kept_has answers points numbers loops (λ (k : KeptVertexLoop). Low k.point) ks (λ f v. at_has Low points v 0 (omega arith) b)
 
@@ -216,29 +216,29 @@ made_count s t v n (inr r) e =
     (omega (arith, length-append two (joined_edge v a b ∷ []), length-set one r.second (retired b), length-set es r.first (retired a), e))
 
 -- joining adds an edge for each join
-pub joining_count : (answers : List Answer) (starts names : List ℕ) (most n : ℕ) (s t : Joining) → maximal_edges answers starts names most s ≡ ok t
+pub joining_count : (answers : List Answer) (starts names : List ℕ) (most n : ℕ) (s t : Joining) → maximal_edges answers starts names most s ≡ Ok t
     → length s.edges ≡ n + s.joins → length t.edges ≡ n + t.joins
 joining_count answers starts names most n s t e =
     joining_keeps answers starts names (λ (u : Joining). length u.edges ≡ n + u.joins) (λ x y v _ m. made_count x y v n m) most s t e
 
 -- joining keeps edges low
-pub joining_low : (answers : List Answer) (starts names : List ℕ) (most : ℕ) (s t : Joining) → maximal_edges answers starts names most s ≡ ok t → LowEdges s.edges → LowEdges t.edges
+pub joining_low : (answers : List Answer) (starts names : List ℕ) (most : ℕ) (s t : Joining) → maximal_edges answers starts names most s ≡ Ok t → LowEdges s.edges → LowEdges t.edges
 joining_low answers starts names most s t e = joining_keeps answers starts names (λ (u : Joining). LowEdges u.edges) (λ x y v _. made_low x y v) most s t e
 
 -- SHELLS
 
-orient_faces : (answers : List Answer) (proven : ℕ) (faces : List ℕ) (s : Shell) → orient_shell answers proven faces ≡ ok s → s.faces ≡ faces
+orient_faces : (answers : List Answer) (proven : ℕ) (faces : List ℕ) (s : Shell) → orient_shell answers proven faces ≡ Ok s → s.faces ≡ faces
 unfolding orient_shell
 orient_faces answers proven faces s e =
-    let r = bind_ok (cond (eqb proven 1) (ok true) (ask_yes answers 12 (lowest_face faces ∷ []))) (λ yes. ok (record { faces = faces; outer = yes })) s e in
+    let r = bind_ok (cond (eqb proven 1) (Ok true) (ask_yes answers 12 (lowest_face faces ∷ []))) (λ yes. Ok (record { faces = faces; outer = yes })) s e in
     let q : record { faces = faces; outer = r.0 } ≡ s = ok_one r.2 in
     ap (λ (x : Shell). x.faces) (sym q)
 
-nest_shell : (answers : List Answer) (os : List ℕ) (s : Shell) (n : Nested) → nest answers os s ≡ ok n → n.shell ≡ s
+nest_shell : (answers : List Answer) (os : List ℕ) (s : Shell) (n : Nested) → nest answers os s ≡ Ok n → n.shell ≡ s
 unfolding nest
 nest_shell answers os s n e =
     let low : ℕ = lowest_face s.faces in
-    let r = bind_ok (cond s.outer (ok low) (enclosing_shell answers low os none >>= λ taken. or_refuse taken low)) (λ o. ok (record { shell = s; home = o })) n e in
+    let r = bind_ok (cond s.outer (Ok low) (enclosing_shell answers low os none >>= λ taken. or_refuse taken low)) (λ o. Ok (record { shell = s; home = o })) n e in
     let q : record { shell = s; home = r.0 } ≡ n = ok_one r.2 in
     ap (λ (x : Nested). x.shell) (sym q)
 
@@ -253,7 +253,7 @@ shell_few boundaries groups b =
     )
 
 -- so are those of the shells, of the nested shells, and of the lumps
-pub shells_few : (answers : List Answer) (proven : ℕ) (boundaries groups : List ℕ) (ss : List Shell) → shells answers proven (all_shell_faces boundaries groups) ≡ ok ss
+pub shells_few : (answers : List Answer) (proven : ℕ) (boundaries groups : List ℕ) (ss : List Shell) → shells answers proven (all_shell_faces boundaries groups) ≡ Ok ss
     → (s : Shell) → s ∈ ss → FewFaces (length groups) s.faces
 shells_few answers proven boundaries groups ss =
     each_has (orient_shell answers proven) (λ (s : Shell). FewFaces (length groups) s.faces) (all_shell_faces boundaries groups) ss
@@ -262,7 +262,7 @@ shells_few answers proven boundaries groups ss =
     subst (FewFaces (length groups)) (sym (orient_faces answers proven fs s e ∙ r.2)) (shell_few boundaries groups r.0))
 
 pub nested_few : (answers : List Answer) (bound : ℕ) (ss : List Shell) (ns : List Nested) → ((s : Shell) → s ∈ ss → FewFaces bound s.faces)
-    → nested answers ss ≡ ok ns → (n : Nested) → n ∈ ns → FewFaces bound n.shell.faces
+    → nested answers ss ≡ Ok ns → (n : Nested) → n ∈ ns → FewFaces bound n.shell.faces
 nested_few answers bound ss ns few =
     each_has (nest answers (outers ss)) (λ (n : Nested). FewFaces bound n.shell.faces) ss ns
     (λ s n m e. subst (λ (u : Shell). FewFaces bound u.faces) (sym (nest_shell answers (outers ss) s n e)) (few s m))
@@ -281,8 +281,8 @@ lumps_few bound ns all lump m shell k =
     (Memᴰ.cases_cons (subst (λ l. shell ∈ l) a.2 k))
 
 -- there are at most as many lumps as shells, and as many shells as boundaries
-pub lumps_count : (answers : List Answer) (proven : ℕ) (boundaries groups : List ℕ) (ss : List Shell) (ns : List Nested) → shells answers proven (all_shell_faces boundaries groups) ≡ ok ss
-    → nested answers ss ≡ ok ns → length (lumps ns) ≤ length boundaries
+pub lumps_count : (answers : List Answer) (proven : ℕ) (boundaries groups : List ℕ) (ss : List Shell) (ns : List Nested) → shells answers proven (all_shell_faces boundaries groups) ≡ Ok ss
+    → nested answers ss ≡ Ok ns → length (lumps ns) ≤ length boundaries
 unfolding lumps
 lumps_count answers proven boundaries groups ss ns p q =
     omega (
@@ -453,7 +453,7 @@ records_narrow b L r m =
 
 -- THE WHOLE
 
-module _ (t : Table) (job : List ℕ) (bytes : Below 256 job) (j : Job) (l : loaded job ≡ ok j) (w : Walked) (q : walked (with_table t) j ≡ ok w) where
+module _ (t : Table) (job : List ℕ) (bytes : Below 256 job) (j : Job) (l : loaded job ≡ Ok j) (w : Walked) (q : walked (with_table t) j ≡ Ok w) where
   S : Settled t j w
   S = walked_settled t j w q
 
@@ -517,16 +517,16 @@ module _ (t : Table) (job : List ℕ) (bytes : Below 256 job) (j : Job) (l : loa
       subst Low (sym a.2) (at_has Low j.points _ 0 (omega arith) L.points)
 
   -- the edges where joining ends are few and low
-  pub ended_few : (s : Joining) → maximal_edges j.answers (fans_of j w).starts (fans_of j w).names (length (fans_of j w).names) (unjoined j (fans_of j w)) ≡ ok s → length s.edges ≤ 4096
+  pub ended_few : (s : Joining) → maximal_edges j.answers (fans_of j w).starts (fans_of j w).names (length (fans_of j w).names) (unjoined j (fans_of j w)) ≡ Ok s → length s.edges ≤ 4096
   ended_few s e =
       let n : ℕ = length (unjoined j (fans_of j w)).edges in
       let c = joining_count j.answers (fans_of j w).starts (fans_of j w).names (length (fans_of j w).names) n (unjoined j (fans_of j w)) s e (omega (arith, (no_counts_lem j (fans_of j w)).0)) in
       omega (arith, c, start_few, (totals_small t job j w l S s e).joins)
 
-  pub ended_low : (s : Joining) → maximal_edges j.answers (fans_of j w).starts (fans_of j w).names (length (fans_of j w).names) (unjoined j (fans_of j w)) ≡ ok s → LowEdges s.edges
+  pub ended_low : (s : Joining) → maximal_edges j.answers (fans_of j w).starts (fans_of j w).names (length (fans_of j w).names) (unjoined j (fans_of j w)) ≡ Ok s → LowEdges s.edges
   ended_low s e = joining_low j.answers (fans_of j w).starts (fans_of j w).names (length (fans_of j w).names) (unjoined j (fans_of j w)) s e start_low
 
-  pub body_low : (x : Joined) (ss : List Shell) (ns : List Nested) → through_joining (with_table t) j ≡ ok x → shells_of j x.fan.walk ≡ ok ss → nested j.answers ss ≡ ok ns
+  pub body_low : (x : Joined) (ss : List Shell) (ns : List Nested) → through_joining (with_table t) j ≡ Ok x → shells_of j x.fan.walk ≡ Ok ss → nested j.answers ss ≡ Ok ns
       → LowBody (body_of j x ns)
   unfolding body_of fans_of
   body_low x ss ns e f g =
@@ -545,7 +545,7 @@ module _ (t : Table) (job : List ℕ) (bytes : Below 256 job) (j : Job) (l : loa
       (λ lump m shell k v i. let a = (lumps_few n ns each lump m shell k).0 v i in omega (arith, a, groups_few)))
 
 -- each number of a body that rebuilding gives for a job of bytes has four bytes
-pub rebuilt_low : (t : Table) (job : List ℕ) (j : Job) (b : Body) → Below 256 job → loaded job ≡ ok j → rebuild (with_table t) j ≡ ok b → LowBody b
+pub rebuilt_low : (t : Table) (job : List ℕ) (j : Job) (b : Body) → Below 256 job → loaded job ≡ Ok j → rebuild (with_table t) j ≡ Ok b → LowBody b
 rebuilt_low t job j b bytes l e =
     ⊎_elim
     (λ r. subst LowBody (sym r.1) (record {
@@ -565,5 +565,5 @@ rebuilt_low t job j b bytes l e =
     (rebuild_cases (with_table t) j b e)
 
 -- its records have kinds of two bytes and fields of four
-pub rebuilt_narrow : (t : Table) (job : List ℕ) (j : Job) (b : Body) → Below 256 job → loaded job ≡ ok j → rebuild (with_table t) j ≡ ok b → (r : Record) → r ∈ body_records b → Narrow r
+pub rebuilt_narrow : (t : Table) (job : List ℕ) (j : Job) (b : Body) → Below 256 job → loaded job ≡ Ok j → rebuild (with_table t) j ≡ Ok b → (r : Record) → r ∈ body_records b → Narrow r
 rebuilt_narrow t job j b bytes l e = records_narrow b (rebuilt_low t job j b bytes l e)

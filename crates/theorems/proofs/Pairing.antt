@@ -19,7 +19,7 @@ use Rattle.lists.specs.Members.{all_in, nodup_full, positions_in, positions_nodu
 use Rattle.rules.specs.declared.Sense.{Sense}
 use Rattle.rules.specs.declared.Sense.TheVariants.{Same, Reversed}
 use Rattle.rules.specs.declared.Use.{Use}
-use Rattle.rules.specs.Outcome.{ok, need, throughout}
+use Rattle.rules.specs.Outcome.{Ok, need, throughout, Outcome}
 use Rattle.rules.proofs.OutcomeLaws.{refuse_ok, ok_one, bind_ok, need_ok, cond_ok}
 use Rattle.rules.specs.Sense.{same_sense, is_same}
 use Rattle.rules.specs.Job.{unset, Answer}
@@ -28,6 +28,7 @@ use Rattle.rules.specs.Read.{use_at, no_use}
 use Rattle.rules.specs.Pair.{on_edge, uses_of_edge, twin_of, twinned, same_use, pair_two, each_once, take_predecessor}
 use Rattle.rules.specs.Pair.{take_predecessors, last_of, pair_round, pair_uses, pair_edge, complete, pair}
 use Rattle.theorems.specs.Linked.{Twins}
+use Rattle.rules.specs.declared.Fault.TheVariants.{SamePredecessor, NoTwin, EqualSenses, OddUses, NotRound}
 
 -- the uses of an edge are uses, and of that edge
 of_edge : (us : List Use) (e x : ℕ) → x ∈ uses_of_edge us e → (x < length us) × ((use_at us x).edge ≡ e)
@@ -82,7 +83,7 @@ module _ (us : List Use) where
     half : Halfway ts'
     others : (i : ℕ) → i < length us → (edge i ≡ e → ⊥) → twin_of ts' i ≡ twin_of ts i
 
-  nothing : (e : ℕ) (ts ts' : List ℕ) → Halfway ts → ok ts ≡ ok ts' → Done e ts ts'
+  nothing : (e : ℕ) (ts ts' : List ℕ) → Halfway ts → ◌≡◌ {A = Outcome (List ℕ)} (Ok ts) (Ok ts') → Done e ts ts'
   nothing e ts ts' w q = subst (Done e ts) (ok_one q) (record { half = w; others = λ i lt n. refl })
 
   -- ONE PAIR
@@ -139,7 +140,7 @@ module _ (us : List Use) where
       free : (x : ℕ) → x ∈ hs → same_use us p ≡ false → twin_of ts p ≡ unset
       rest : (x : ℕ) → x ∈ hs → (twin_of ts x ≡ unset) ⊎ ((x ≡ z) × (same_use us x ≡ false))
 
-    round_done : (z p : ℕ) (hs ts ts' : List ℕ) → Round z p hs ts → take_predecessors us e p hs ts ≡ ok ts' → Done e ts ts'
+    round_done : (z p : ℕ) (hs ts ts' : List ℕ) → Round z p hs ts → take_predecessors us e p hs ts ≡ Ok ts' → Done e ts ts'
     unfolding take_predecessors last_of take_predecessor
     round_done z p [] ts ts' r q = nothing e ts ts' r.half q
     round_done z p (h ∷ hs) ts ts' r q =
@@ -149,7 +150,7 @@ module _ (us : List Use) where
         let gone : h ∈ hs → h ≡ z = λ i. absurd (r.apart.0 i) in
         ⊎_elim
         (λ s.
-        let c = need_ok (not (same_use us p)) 12 e (ok (twinned ts h p)) b.0 s.1 in
+        let c = need_ok (not (same_use us p)) SamePredecessor e (Ok (twinned ts h p)) b.0 s.1 in
         let rp : same_use us p ≡ false = not-true (same_use us p) c.0 in
         let n : h ≡ p → ⊥ = λ v. true≢false (sym s.0 ∙ ap (same_use us) v ∙ rp) in
         let uh : twin_of ts h ≡ unset = ⊎_elim (λ v. v) (λ v. absurd (true≢false (sym s.0 ∙ v.1))) (r.rest h (Memᴰ.head refl)) in
@@ -169,7 +170,7 @@ module _ (us : List Use) where
               (r.rest x (Memᴰ.tail i)))
               (equal_or_not x p);
         } in
-        let f = round_done z h hs (twinned ts h p) ts' next (subst (λ t. take_predecessors us e h hs t ≡ ok ts') (sym (ok_one c.1)) b.2) in
+        let f = round_done z h hs (twinned ts h p) ts' next (subst (λ t. take_predecessors us e h hs t ≡ Ok ts') (sym (ok_one c.1)) b.2) in
         record { half = f.half; others = λ i lt v. f.others i lt v ∙ d.others i lt v })
         (λ s.
         round_done z h hs ts ts'
@@ -183,15 +184,15 @@ module _ (us : List Use) where
           free = λ x i v. ⊎_elim (λ u. u) (λ u. absurd (r.apart.0 (Memᴰ.cast (u.0 ∙ sym r.end) (last_of_in h x hs i)))) (r.rest h (Memᴰ.head refl));
           rest = λ x i. r.rest x (Memᴰ.tail i);
         })
-        (subst (λ t. take_predecessors us e h hs t ≡ ok ts') (sym (ok_one s.1)) b.2))
-        (cond_ok (same_use us h) (need (not (same_use us p)) 12 e (ok (twinned ts h p))) (ok ts) b.0 b.1)
+        (subst (λ t. take_predecessors us e h hs t ≡ Ok ts') (sym (ok_one s.1)) b.2))
+        (cond_ok (same_use us h) (need (not (same_use us p)) SamePredecessor e (Ok (twinned ts h p))) (Ok ts) b.0 b.1)
 
     -- ONE EDGE
 
     module _ (answers : List Answer) (ts ts' : List ℕ) (w : Halfway ts) where
       -- the radial order is the uses of the edge once each
       order_done : (uses order : List ℕ) → Nodup uses → ((x : ℕ) → x ∈ uses → (x < length us) × (edge x ≡ e) × (twin_of ts x ≡ unset)) → 1 ≤ length uses
-          → each_once uses order ≡ true → take_predecessors us e (last_of 0 order) order ts ≡ ok ts' → Done e ts ts'
+          → each_once uses order ≡ true → take_predecessors us e (last_of 0 order) order ts ≡ Ok ts' → Done e ts ts'
       unfolding each_once
       order_done uses order nd inside some t q =
           let both = and_both (eqb (length order) (length uses)) (all (λ h. has h order) uses) t in
@@ -212,27 +213,27 @@ module _ (us : List Use) where
             rest = λ x m. inl (of x m).2;
           }) q
 
-      uses_done : (uses : List ℕ) → Nodup uses → ((x : ℕ) → x ∈ uses → (x < length us) × (edge x ≡ e) × (twin_of ts x ≡ unset)) → pair_uses answers us e uses ts ≡ ok ts' → Done e ts ts'
+      uses_done : (uses : List ℕ) → Nodup uses → ((x : ℕ) → x ∈ uses → (x < length us) × (edge x ≡ e) × (twin_of ts x ≡ unset)) → pair_uses answers us e uses ts ≡ Ok ts' → Done e ts ts'
       unfolding pair_uses pair_two pair_round
       uses_done [] nd inside q = nothing e ts ts' w q
       uses_done (a ∷ []) nd inside q = absurd (refuse_ok q)
       uses_done (a ∷ b ∷ []) nd inside q =
-          let c = need_ok (not (same_sense (sense a) (sense b))) 10 e (ok (twinned ts a b)) ts' q in
+          let c = need_ok (not (same_sense (sense a) (sense b))) EqualSenses e (Ok (twinned ts a b)) ts' q in
           let s = not-true (same_sense (sense a) (sense b)) c.0 in
           let x = inside a (Memᴰ.head refl) in
           let y = inside b (Memᴰ.tail (Memᴰ.head refl)) in
           subst (Done e ts) (ok_one c.1) (pair_done ts a b x.0 y.0 (λ v. nd.0 (Memᴰ.head v)) w few e x.1 y.1 s x.2 y.2)
       uses_done (a ∷ b ∷ c ∷ more) nd inside q =
           let uses : List ℕ = a ∷ b ∷ c ∷ more in
-          let r = need_ok (eqb (length uses % 2) 0) 11 e (pair_round answers us e uses ts) ts' q in
+          let r = need_ok (eqb (length uses % 2) 0) OddUses e (pair_round answers us e uses ts) ts' q in
           let o = bind_ok (ask_radial answers e) _ ts' r.1 in
-          let k = need_ok (each_once uses o.0) 23 e (take_predecessors us e (last_of 0 o.0) o.0 ts) ts' o.2 in
+          let k = need_ok (each_once uses o.0) NotRound e (take_predecessors us e (last_of 0 o.0) o.0 ts) ts' o.2 in
           order_done uses o.0 nd inside (omega arith) k.0 k.1
 
   -- EVERY EDGE
 
   edges_done : length us ≤ unset → (answers : List Answer) (l ts ts' : List ℕ) → Nodup l → Halfway ts → ((h : ℕ) → h < length us → edge h ∈ l → twin_of ts h ≡ unset)
-      → throughout (pair_edge answers us) l ts ≡ ok ts' → Halfway ts'
+      → throughout (pair_edge answers us) l ts ≡ Ok ts' → Halfway ts'
   unfolding throughout
   edges_done few answers [] ts ts' nd w fresh q = subst Halfway (ok_one q) w
   edges_done few answers (e ∷ l) ts ts' nd w fresh q =
@@ -243,12 +244,12 @@ module _ (us : List Use) where
       (λ h lt m. d.others h lt (λ v. nd.0 (Memᴰ.cast (sym v) m)) ∙ fresh h lt (Memᴰ.tail m)) r.2
 
 -- Pairing that refuses nothing gives each use its twin.
-pub pairs_fully : (answers : List Answer) (us : List Use) (ts : List ℕ) (edges : ℕ) → length us ≤ unset → pair answers us edges ≡ ok ts → Twins us ts
+pub pairs_fully : (answers : List Answer) (us : List Use) (ts : List ℕ) (edges : ℕ) → length us ≤ unset → pair answers us edges ≡ Ok ts → Twins us ts
 unfolding pair complete
 pairs_fully answers us ts edges few q =
     let start : List ℕ = replicate (length us) unset in
     let r = bind_ok (throughout (pair_edge answers us) (below edges) start) complete ts q in
-    let c = need_ok (not (has unset r.0)) 13 (index_of unset r.0) (ok r.0) ts r.2 in
+    let c = need_ok (not (has unset r.0)) NoTwin (index_of unset r.0) (Ok r.0) ts r.2 in
     let clear : (h : ℕ) → h < length us → twin_of start h ≡ unset = λ h lt. get_or-replicate (length us) h unset 0 lt in
     let w : Halfway us r.0 = edges_done us few answers (below edges) start r.0 (below_nodup edges)
     (record { size = length-replicate (length us) unset; each = λ h lt. inl (clear h lt) }) (λ h lt m. clear h lt) r.1 in

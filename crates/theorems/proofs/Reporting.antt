@@ -8,8 +8,9 @@ use Rattle.lists.specs.Lists.{from, below, keep, positions, sum_of}
 use Rattle.lists.specs.Runs.{below_in, get_or_table}
 use Rattle.lists.specs.Sums.{sum_map, sum_same}
 use Rattle.lists.specs.Counts.{keep_nothing, sum_keep}
+use Rattle.rules.specs.declared.Fault.{Fault}
 use Rattle.rules.specs.declared.Use.{Use}
-use Rattle.rules.specs.Outcome.{ok, ◌>>=◌}
+use Rattle.rules.specs.Outcome.{Ok, ◌>>=◌}
 use Rattle.rules.proofs.OutcomeLaws.{ok_one, bind_ok, bind_on, need_ok, cond_ok}
 use Rattle.rules.specs.Fields.{le16, le32, bytes32}
 use Rattle.rules.specs.Frame.{Record, framed, framed_all}
@@ -31,6 +32,7 @@ use Rattle.theorems.specs.Demand3.{passed_sum, with_table, Settled}
 use Rattle.theorems.proofs.Ground.{settled_uses}
 use Rattle.theorems.specs.Fanning.{fan_labels}
 use Rattle.theorems.specs.Reporting.{Small, Begins, Solid}
+use Rattle.rules.specs.declared.Fault.TheVariants.{PairsInBoundary, FansInBoundary, NoRoom}
 
 -- FIELDS READ BACK
 
@@ -71,16 +73,16 @@ read_back t rest S = record {
 -- THE BODY OF AN ACCEPTED JOB
 
 -- the bytes are a body's
-pub sewn_body : (rules : Rules) (job : List ℕ) (room : ℕ) (bytes : List ℕ) (j : Job) → loaded job ≡ ok j → sewn rules job room ≡ ok bytes
-    → (b : Body) × (rebuild rules j ≡ ok b) × (bytes ≡ framed_all (body_records b))
+pub sewn_body : (rules : Rules) (job : List ℕ) (room : ℕ) (bytes : List ℕ) (j : Job) → loaded job ≡ Ok j → sewn rules job room ≡ Ok bytes
+    → (b : Body) × (rebuild rules j ≡ Ok b) × (bytes ≡ framed_all (body_records b))
 unfolding sewn
 sewn_body rules job room bytes j l e =
     let a = bind_ok (rebuild rules j) (λ b. fitting room (framed_all (body_records b))) bytes (sym (bind_on (λ j. rebuild rules j >>= λ b. fitting room (framed_all (body_records b))) l) ∙ e) in
-    let n = need_ok (leb (length (framed_all (body_records a.0))) room) 40 (length (framed_all (body_records a.0))) (ok (framed_all (body_records a.0))) bytes a.2 in
+    let n = need_ok (leb (length (framed_all (body_records a.0))) room) NoRoom (length (framed_all (body_records a.0))) (Ok (framed_all (body_records a.0))) bytes a.2 in
     (a.0, a.1, sym (ok_one n.1))
 
 -- a job without faces gives the Empty body; any other passes through joining, shells and nesting
-pub rebuild_cases : (rules : Rules) (j : Job) (b : Body) → rebuild rules j ≡ ok b
+pub rebuild_cases : (rules : Rules) (j : Job) (b : Body) → rebuild rules j ≡ Ok b
     → ((eqb (length j.faces) 0 ≡ true) × (b ≡ empty_body)) ⊎ ((eqb (length j.faces) 0 ≡ false) × Solid rules j b)
 unfolding rebuild solid
 rebuild_cases rules j b e =
@@ -93,7 +95,7 @@ rebuild_cases rules j b e =
     let d = bind_ok (nested j.answers c.0) _ b c.2 in
     let f = bind_ok (lumps_clear j x.fan d.0) _ b d.2 in
     inr (r.0, record { joined = x; oriented = c.0; nests = d.0; joining = a.1; shells = c.1; nesting = d.1; body = sym (ok_one f.2) }))
-    (cond_ok (eqb (length j.faces) 0) (ok empty_body) (solid rules j) b e)
+    (cond_ok (eqb (length j.faces) 0) (Ok empty_body) (solid rules j) b e)
 
 -- the records begin with that of the totals
 pub first_record : (b : Body) → (rest : List Record) × (body_records b ≡ totals_record b.totals ∷ rest)
@@ -107,29 +109,29 @@ body_totals j x ns = refl
 -- THROUGH JOINING
 
 -- the fans are those of the walks
-pub fanned_walks : (rules : Rules) (j : Job) (f : Fanned) → fanned rules j ≡ ok f → (w : Walked) × (walked rules j ≡ ok w) × (f ≡ fans_of j w)
+pub fanned_walks : (rules : Rules) (j : Job) (f : Fanned) → fanned rules j ≡ Ok f → (w : Walked) × (walked rules j ≡ Ok w) × (f ≡ fans_of j w)
 unfolding fanned
 fanned_walks rules j f e =
     let a = bind_ok (walked rules j) _ f e in
     let w : Walked = a.0 in
-    let b = bind_ok (edges_clear 30 w.uses w.twins w.merge.boundaries (length j.edges)) _ f a.2 in
+    let b = bind_ok (edges_clear PairsInBoundary w.uses w.twins w.merge.boundaries (length j.edges)) _ f a.2 in
     (w, a.1, sym (ok_one b.2))
 
 -- the edges and loops are those of the fans of the walks
-pub edged_walks : (rules : Rules) (j : Job) (x : Joined) → edged rules j ≡ ok x
-    → (w : Walked) × (walked rules j ≡ ok w) × (x ≡ record { fan = fans_of j w; joining = unjoined j (fans_of j w) })
+pub edged_walks : (rules : Rules) (j : Job) (x : Joined) → edged rules j ≡ Ok x
+    → (w : Walked) × (walked rules j ≡ Ok w) × (x ≡ record { fan = fans_of j w; joining = unjoined j (fans_of j w) })
 unfolding edged
 edged_walks rules j x e =
     let a = bind_ok (fanned rules j) _ x e in
     let f : Fanned = a.0 in
-    let b = bind_ok (points_clear 31 f.walk.uses f.starts f.walk.merge.boundaries f.names) _ x a.2 in
+    let b = bind_ok (points_clear FansInBoundary f.walk.uses f.starts f.walk.merge.boundaries f.names) _ x a.2 in
     let c = fanned_walks rules j f a.1 in
     (c.0, c.1, sym (ok_one b.2) ∙ ap (λ (z : Fanned). record { fan = z; joining = unjoined j z }) c.2)
 
 -- with the walks w, edge joining starts from their fans, edges and loops
-pub through_joined : (t : Table) (j : Job) (w : Walked) (x : Joined) → walked (with_table t) j ≡ ok w → through_joining (with_table t) j ≡ ok x
+pub through_joined : (t : Table) (j : Job) (w : Walked) (x : Joined) → walked (with_table t) j ≡ Ok w → through_joining (with_table t) j ≡ Ok x
     → (s : Joining) × (x ≡ record { fan = fans_of j w; joining = s })
-    × (maximal_edges j.answers (fans_of j w).starts (fans_of j w).names (length (fans_of j w).names) (unjoined j (fans_of j w)) ≡ ok s)
+    × (maximal_edges j.answers (fans_of j w).starts (fans_of j w).names (length (fans_of j w).names) (unjoined j (fans_of j w)) ≡ Ok s)
 unfolding through_joining
 through_joined t j w x q e =
     let a = bind_ok (edged (with_table t) j) _ x e in
@@ -137,17 +139,17 @@ through_joined t j w x q e =
     through a.0 (c.2 ∙ ap (λ (v : Walked). record { fan = fans_of j v; joining = unjoined j (fans_of j v) }) (ok_one (sym c.1 ∙ q))) a.2
   where
     through : (y : Joined) → y ≡ record { fan = fans_of j w; joining = unjoined j (fans_of j w) }
-        → (maximal_edges j.answers y.fan.starts y.fan.names (length y.fan.names) y.joining >>= λ s. ok (record { fan = y.fan; joining = s })) ≡ ok x
+        → (maximal_edges j.answers y.fan.starts y.fan.names (length y.fan.names) y.joining >>= λ s. Ok (record { fan = y.fan; joining = s })) ≡ Ok x
         → (s : Joining) × (x ≡ record { fan = fans_of j w; joining = s })
-        × (maximal_edges j.answers (fans_of j w).starts (fans_of j w).names (length (fans_of j w).names) (unjoined j (fans_of j w)) ≡ ok s)
+        × (maximal_edges j.answers (fans_of j w).starts (fans_of j w).names (length (fans_of j w).names) (unjoined j (fans_of j w)) ≡ Ok s)
     through y p r =
         let F : Fanned = fans_of j w in
-        let z = subst (λ (y : Joined). (maximal_edges j.answers y.fan.starts y.fan.names (length y.fan.names) y.joining >>= λ s. ok (record { fan = y.fan; joining = s })) ≡ ok x) p r in
-        let m = bind_ok (maximal_edges j.answers F.starts F.names (length F.names) (unjoined j F)) (λ s. ok (record { fan = F; joining = s })) x z in
+        let z = subst (λ (y : Joined). (maximal_edges j.answers y.fan.starts y.fan.names (length y.fan.names) y.joining >>= λ s. Ok (record { fan = y.fan; joining = s })) ≡ Ok x) p r in
+        let m = bind_ok (maximal_edges j.answers F.starts F.names (length F.names) (unjoined j F)) (λ s. Ok (record { fan = F; joining = s })) x z in
         (m.0, sym (ok_one m.2), m.1)
 
 -- joining is reached from the walks
-pub joined_walks : (t : Table) (j : Job) (x : Joined) → through_joining (with_table t) j ≡ ok x → (w : Walked) × (walked (with_table t) j ≡ ok w)
+pub joined_walks : (t : Table) (j : Job) (x : Joined) → through_joining (with_table t) j ≡ Ok x → (w : Walked) × (walked (with_table t) j ≡ Ok w)
 unfolding through_joining
 joined_walks t j x e =
     let a = bind_ok (edged (with_table t) j) _ x e in
@@ -155,8 +157,8 @@ joined_walks t j x e =
     (c.0, c.1)
 
 -- the shells after joining are those of the walks
-pub joined_shells : (t : Table) (j : Job) (w : Walked) (x : Joined) (ss : List Shell) → walked (with_table t) j ≡ ok w → through_joining (with_table t) j ≡ ok x
-    → shells_of j x.fan.walk ≡ ok ss → shells_of j w ≡ ok ss
+pub joined_shells : (t : Table) (j : Job) (w : Walked) (x : Joined) (ss : List Shell) → walked (with_table t) j ≡ Ok w → through_joining (with_table t) j ≡ Ok x
+    → shells_of j x.fan.walk ≡ Ok ss → shells_of j w ≡ Ok ss
 unfolding fans_of
 joined_shells t j w x ss q e f = ap (λ (y : Joined). shells_of j y.fan.walk) (sym (through_joined t j w x q e).1) ∙ f
 
@@ -169,27 +171,27 @@ pub no_names : (j : Job) (w : Walked) → length w.uses ≡ 0 → (fans_of j w).
 unfolding fans_of keep from
 no_names j w e = ap (λ n. keep (names_fan j.edges w.uses w.merge.removed (fan_labels j w)) (below n)) e
 
-no_edge_touches : (number : ℕ) (us : List Use) (ts labels : List ℕ) (edges : ℕ) → us ≡ [] → edges_clear number us ts labels edges ≡ ok tt
+no_edge_touches : (fault : Fault) (us : List Use) (ts labels : List ℕ) (edges : ℕ) → us ≡ [] → edges_clear fault us ts labels edges ≡ Ok tt
 unfolding edge_touches positions
-no_edge_touches number us ts labels edges e =
-    ap (λ u. edges_clear number u ts labels edges) e ∙ ap (clear number) (keep_nothing (edge_touches [] ts labels) (below edges) (λ x m. refl))
+no_edge_touches fault us ts labels edges e =
+    ap (λ u. edges_clear fault u ts labels edges) e ∙ ap (clear fault) (keep_nothing (edge_touches [] ts labels) (below edges) (λ x m. refl))
 
 -- without uses joining finds nothing to do
-pub none_joined : (t : Table) (j : Job) (w : Walked) → length w.uses ≡ 0 → walked (with_table t) j ≡ ok w
-    → (through_joining (with_table t) j ≡ ok (record { fan = fans_of j w; joining = unjoined j (fans_of j w) }))
-    × (maximal_edges j.answers (fans_of j w).starts (fans_of j w).names (length (fans_of j w).names) (unjoined j (fans_of j w)) ≡ ok (unjoined j (fans_of j w)))
+pub none_joined : (t : Table) (j : Job) (w : Walked) → length w.uses ≡ 0 → walked (with_table t) j ≡ Ok w
+    → (through_joining (with_table t) j ≡ Ok (record { fan = fans_of j w; joining = unjoined j (fans_of j w) }))
+    × (maximal_edges j.answers (fans_of j w).starts (fans_of j w).names (length (fans_of j w).names) (unjoined j (fans_of j w)) ≡ Ok (unjoined j (fans_of j w)))
 unfolding through_joining edged fanned maximal_edges contact_points
 none_joined t j w e q =
     let F : Fanned = fans_of j w in
     let names : F.names ≡ [] = no_names j w e in
-    let m : maximal_edges j.answers F.starts F.names (length F.names) (unjoined j F) ≡ ok (unjoined j F) =
+    let m : maximal_edges j.answers F.starts F.names (length F.names) (unjoined j F) ≡ Ok (unjoined j F) =
     ap (λ (l : List ℕ). maximal_edges j.answers F.starts F.names (length l) (unjoined j F)) names in
-    let c : edges_clear 30 w.uses w.twins w.merge.boundaries (length j.edges) ≡ ok tt =
-    no_edge_touches 30 w.uses w.twins w.merge.boundaries (length j.edges) (nil_of w.uses e) in
-    let f : fanned (with_table t) j ≡ ok F = bind_on _ q ∙ bind_on _ c in
-    let p : points_clear 31 F.walk.uses F.starts F.walk.merge.boundaries F.names ≡ ok tt =
-    ap (λ l. points_clear 31 F.walk.uses F.starts F.walk.merge.boundaries l) names in
-    let d : edged (with_table t) j ≡ ok (record { fan = F; joining = unjoined j F }) = bind_on _ f ∙ bind_on _ p in
+    let c : edges_clear PairsInBoundary w.uses w.twins w.merge.boundaries (length j.edges) ≡ Ok tt =
+    no_edge_touches PairsInBoundary w.uses w.twins w.merge.boundaries (length j.edges) (nil_of w.uses e) in
+    let f : fanned (with_table t) j ≡ Ok F = bind_on _ q ∙ bind_on _ c in
+    let p : points_clear FansInBoundary F.walk.uses F.starts F.walk.merge.boundaries F.names ≡ Ok tt =
+    ap (λ l. points_clear FansInBoundary F.walk.uses F.starts F.walk.merge.boundaries l) names in
+    let d : edged (with_table t) j ≡ Ok (record { fan = F; joining = unjoined j F }) = bind_on _ f ∙ bind_on _ p in
     (bind_on _ d ∙ bind_on _ m, m)
 
 -- THE PASSED TOTAL

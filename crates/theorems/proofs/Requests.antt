@@ -7,10 +7,11 @@ use mathlib.Core.List.Memᴰ
 use Rattle.lists.specs.Lists.{◌∈◌}
 use Rattle.lists.specs.Tests.{and_both}
 use Rattle.lists.specs.Membership.{get_or_in}
+use Rattle.rules.specs.declared.Fault.TheVariants.{FieldNotPermitted}
 use Rattle.rules.specs.declared.Kind.{Kind}
 use Rattle.rules.specs.declared.Kind.TheVariants.{Unknown, Head, Vertex, EdgeRecord, FaceRecord, LoopRecord, VertexLoop}
 use Rattle.rules.specs.declared.Kind.TheVariants.{Radial, Surface, Points, Curves, Singular, Orientation, Inside}
-use Rattle.rules.specs.Outcome.{ok}
+use Rattle.rules.specs.Outcome.{Ok}
 use Rattle.rules.proofs.OutcomeLaws.{ok_one, bind_ok, need_ok}
 use Rattle.rules.specs.Fields.{le32}
 use Rattle.rules.proofs.FieldLaws.{length_fields}
@@ -61,7 +62,7 @@ Some : Loading → Type 0
 Some s = (t : Stretch) → t ∈ s.job.stretches → 0 < t.size
 
 -- a record of the job keeps that
-some_kept : (bytes : List ℕ) (f : Frame) (s t : Loading) → f ∈ frames bytes → Some s → load_record f s ≡ ok t → Some t
+some_kept : (bytes : List ℕ) (f : Frame) (s t : Loading) → f ∈ frames bytes → Some s → load_record f s ≡ Ok t → Some t
 unfolding Some extended
 some_kept bytes f s t m S e =
     let r = record_taken f s t e in
@@ -71,18 +72,18 @@ some_kept bytes f s t m S e =
     (λ l. let h = loop_size (kind_of f.kind) f.size l r.sized in omega arith))
 
 -- each loop's payload of a loaded job is not empty
-pub stretches_some : (bytes : List ℕ) (s : Loading) → loading bytes ≡ ok s → (t : Stretch) → t ∈ s.job.stretches → 0 < t.size
+pub stretches_some : (bytes : List ℕ) (s : Loading) → loading bytes ≡ Ok s → (t : Stretch) → t ∈ s.job.stretches → 0 < t.size
 unfolding Some
 stretches_some bytes s = loading_keeps bytes Some s (some_kept bytes) (λ t m. absurd (Memᴰ.not-nil m))
 
 -- a requested stretch is not empty
-pub request_some : (job : List ℕ) (n : ℕ) (s : Stretch) → requested job n ≡ ok s → 0 < s.size
+pub request_some : (job : List ℕ) (n : ℕ) (s : Stretch) → requested job n ≡ Ok s → 0 < s.size
 unfolding requested
 request_some job n s e =
     let l = bind_ok (loaded job) _ s e in
     let q = bind_ok (loading job) _ l.0 l.1 in
     let j : Job = l.0 in
-    let r = need_ok (ltb n (length j.stretches)) 4 n (ok (get_or j.stretches n no_stretch)) s l.2 in
+    let r = need_ok (ltb n (length j.stretches)) FieldNotPermitted n (Ok (get_or j.stretches n no_stretch)) s l.2 in
     let m : get_or j.stretches n no_stretch ∈ j.stretches = get_or_in j.stretches n no_stretch (ltb-true n (length j.stretches) r.0) in
     let all = subst (λ (x : Job). (t : Stretch) → t ∈ x.stretches → 0 < t.size) (ok_one q.2) (stretches_some job q.0 q.1) in
     subst (λ (t : Stretch). 0 < t.size) (ok_one r.1) (all (get_or j.stretches n no_stretch) m)

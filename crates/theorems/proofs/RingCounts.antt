@@ -14,7 +14,7 @@ use Rattle.rules.specs.declared.EdgeData.{EdgeData}
 use Rattle.rules.specs.Job.{unset, Answer}
 use Rattle.rules.specs.Join.{Joining, no_edge_data, edge_data_at, far_end, joined_edge, retired, ring_of, join_edges, join_at}
 use Rattle.rules.specs.Join.{ring_at, maximal_edges}
-use Rattle.rules.specs.Outcome.{ok}
+use Rattle.rules.specs.Outcome.{Ok}
 use Rattle.rules.specs.Sew.{Fanned}
 use Rattle.theorems.specs.Demand3.{Change, Run, is_ring, rings_of, is_active_ring, active_rings}
 use Rattle.theorems.specs.Linked.{NoEnds, RingOrFans, EndsAreFans}
@@ -150,7 +150,7 @@ module _ (names : List ℕ) (fans : (v : ℕ) → v ∈ names → v < unset) whe
       omega (arith, made_rings c r.2 r.1 g, keep_cons is_ring c cs, steps_rings c.after t cs r.3 (fans_kept r.2 r.1 g))
 
 -- joining keeps that each edge has no ends or two fans
-pub joining_fans : (answers : List Answer) (starts names : List ℕ) → ((v : ℕ) → v ∈ names → v < unset) → (most : ℕ) (s t : Joining) → maximal_edges answers starts names most s ≡ ok t
+pub joining_fans : (answers : List Answer) (starts names : List ℕ) → ((v : ℕ) → v ∈ names → v < unset) → (most : ℕ) (s t : Joining) → maximal_edges answers starts names most s ≡ Ok t
     → EndsAreFans s.edges names → EndsAreFans t.edges names
 joining_fans answers starts names fans = joining_keeps answers starts names (λ (x : Joining). EndsAreFans x.edges names) (λ x y v at m. fans_kept names fans m at)
 

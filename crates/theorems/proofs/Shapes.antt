@@ -21,7 +21,7 @@ use Rattle.rules.specs.declared.Use.{Use}
 use Rattle.rules.specs.declared.Edge.{Edge}
 use Rattle.rules.specs.declared.EdgeData.{EdgeData}
 use Rattle.rules.specs.declared.KeptVertexLoop.{KeptVertexLoop}
-use Rattle.rules.specs.Outcome.{ok}
+use Rattle.rules.specs.Outcome.{Ok}
 use Rattle.rules.proofs.OutcomeLaws.{ok_one, bind_ok}
 use Rattle.rules.specs.Sense.{sense_number}
 use Rattle.rules.specs.Job.{Job}
@@ -200,12 +200,12 @@ lump_rows_lem n bound (lump ∷ ls) few small each row m =
 
 -- THE STAGES
 
-module _ (t : Table) (job : List ℕ) (bytes : Below 256 job) (j : Job) (l : loaded job ≡ ok j) where
+module _ (t : Table) (job : List ℕ) (bytes : Below 256 job) (j : Job) (l : loaded job ≡ Ok j) where
   sound : Sound j
   sound = loaded_sound job j l
 
   -- `read`: four fields
-  pub read_shaped : (rows : List (List ℕ)) → read_rows (with_table t) j ≡ ok rows → AllShaped 4 0 rows
+  pub read_shaped : (rows : List (List ℕ)) → read_rows (with_table t) j ≡ Ok rows → AllShaped 4 0 rows
   unfolding read_rows
   read_shaped rows e =
       subst (AllShaped 4 0) (ok_one e) (each_shaped use_fields 4 0 (uses_of j) (λ u m.
@@ -220,11 +220,11 @@ module _ (t : Table) (job : List ℕ) (bytes : Below 256 job) (j : Job) (l : loa
       (one_low v.next [] (omega (arith, next_below j r.0 r.1, sound.few)) none_low)))))))
 
   -- what pairing gives are twins
-  twins_of_lem : (ts : List ℕ) → pair j.answers (uses_of j) (length j.edges) ≡ ok ts → Twins (uses_of j) ts
+  twins_of_lem : (ts : List ℕ) → pair j.answers (uses_of j) (length j.edges) ≡ Ok ts → Twins (uses_of j) ts
   twins_of_lem ts e = pairs_fully j.answers (uses_of j) ts (length j.edges) (omega (arith, sound.few)) e
 
   -- `pair`: one field
-  pub pair_shaped : (rows : List (List ℕ)) → pair_rows (with_table t) j ≡ ok rows → AllShaped 1 0 rows
+  pub pair_shaped : (rows : List (List ℕ)) → pair_rows (with_table t) j ≡ Ok rows → AllShaped 1 0 rows
   unfolding pair_rows
   pair_shaped rows e =
       let a = bind_ok (pair j.answers (uses_of j) (length j.edges)) _ rows e in
@@ -235,7 +235,7 @@ module _ (t : Table) (job : List ℕ) (bytes : Below 256 job) (j : Job) (l : loa
       plain 1 (x ∷ []) refl (one_low x [] (omega (arith, below, r.2, sound.few)) none_low)))
 
   -- `merge`: two fields
-  pub merge_shaped : (rows : List (List ℕ)) → merge_rows (with_table t) j ≡ ok rows → AllShaped 2 0 rows
+  pub merge_shaped : (rows : List (List ℕ)) → merge_rows (with_table t) j ≡ Ok rows → AllShaped 2 0 rows
   unfolding merge_rows
   merge_shaped rows e =
       let us : List Use = uses_of j in
@@ -256,7 +256,7 @@ module _ (t : Table) (job : List ℕ) (bytes : Below 256 job) (j : Job) (l : loa
       (omega (arith, label_within boundaries f, merge_boundaries_length t j.answers j.faces us ts m b.1, few))
       (omega (arith, label_within groups f, merge_groups_length t j.answers j.faces us ts m b.1, few)))))
 
-  module _ (w : Walked) (q : walked (with_table t) j ≡ ok w) where
+  module _ (w : Walked) (q : walked (with_table t) j ≡ Ok w) where
     S : Settled t j w
     S = walked_settled t j w q
 
@@ -327,7 +327,7 @@ module _ (t : Table) (job : List ℕ) (bytes : Below 256 job) (j : Job) (l : loa
           loops = starts_sound j w G F (edges_hold j w G F);
         }
 
-    joined_table : (x : Joined) → through_joining (with_table t) j ≡ ok x → LowTable x.joining
+    joined_table : (x : Joined) → through_joining (with_table t) j ≡ Ok x → LowTable x.joining
     joined_table x e =
         let r = through_joined t j w x q e in
         let s : Joining = r.0 in
@@ -343,14 +343,14 @@ module _ (t : Table) (job : List ℕ) (bytes : Below 256 job) (j : Job) (l : loa
         })
 
     -- the rows of shells and of lumps
-    shell_each : (ss : List Shell) → shells_of j w ≡ ok ss → AllShaped 2 1 (map shell_fields ss)
+    shell_each : (ss : List Shell) → shells_of j w ≡ Ok ss → AllShaped 2 1 (map shell_fields ss)
     shell_each ss e =
         each_shaped shell_fields 2 1 ss (λ s m.
         let f = shells_few j.answers j.proven w.merge.boundaries w.merge.groups ss e s m in
         let few = groups_few t job bytes j l w q in
         counted_shaped (body_kind s.outer) s.faces (kind_low s.outer) (omega (arith, f.1, few)) (λ v i. omega (arith, f.0 v i, few)))
 
-    lump_each : (ss : List Shell) (ns : List Nested) → shells_of j w ≡ ok ss → nested j.answers ss ≡ ok ns → AllShaped 2 1 (lump_rows_from 0 (lumps ns))
+    lump_each : (ss : List Shell) (ns : List Nested) → shells_of j w ≡ Ok ss → nested j.answers ss ≡ Ok ns → AllShaped 2 1 (lump_rows_from 0 (lumps ns))
     lump_each ss ns e f =
         let n : ℕ = length w.merge.groups in
         let few : n ≤ 256 = groups_few t job bytes j l w q in
@@ -360,28 +360,28 @@ module _ (t : Table) (job : List ℕ) (bytes : Below 256 job) (j : Job) (l : loa
         lump_rows_lem 0 n (lumps ns) (omega (arith, count, size, faces_few job j l)) (omega arith) (lumps_few n ns (nested_few j.answers n ss ns shell f))
 
   -- `vertex-loops`: two fields
-  pub vertex_loops_shaped : (rows : List (List ℕ)) → vertex_loop_rows (with_table t) j ≡ ok rows → AllShaped 2 0 rows
+  pub vertex_loops_shaped : (rows : List (List ℕ)) → vertex_loop_rows (with_table t) j ≡ Ok rows → AllShaped 2 0 rows
   unfolding vertex_loop_rows
   vertex_loops_shaped rows e =
       let a = bind_ok (walked (with_table t) j) _ rows e in
       subst (AllShaped 2 0) (ok_one a.2) (kept_each a.0 a.1)
 
   -- `walk`: three fields
-  pub walk_shaped : (rows : List (List ℕ)) → walk_rows (with_table t) j ≡ ok rows → AllShaped 3 0 rows
+  pub walk_shaped : (rows : List (List ℕ)) → walk_rows (with_table t) j ≡ Ok rows → AllShaped 3 0 rows
   unfolding walk_rows
   walk_shaped rows e =
       let a = bind_ok (walked (with_table t) j) _ rows e in
       subst (AllShaped 3 0) (ok_one a.2) (walk_each a.0 a.1)
 
   -- `loops`: two fields, and the uses that the second counts
-  pub loops_shaped : (rows : List (List ℕ)) → loop_rows (with_table t) j ≡ ok rows → AllShaped 2 1 rows
+  pub loops_shaped : (rows : List (List ℕ)) → loop_rows (with_table t) j ≡ Ok rows → AllShaped 2 1 rows
   unfolding loop_rows
   loops_shaped rows e =
       let a = bind_ok (walked (with_table t) j) _ rows e in
       subst (AllShaped 2 1) (ok_one a.2) (loop_each a.0 a.1)
 
   -- `fans`: three fields
-  pub fans_shaped : (rows : List (List ℕ)) → fan_rows (with_table t) j ≡ ok rows → AllShaped 3 0 rows
+  pub fans_shaped : (rows : List (List ℕ)) → fan_rows (with_table t) j ≡ Ok rows → AllShaped 3 0 rows
   unfolding fan_rows fans_of
   fans_shaped rows e =
       let a = bind_ok (fanned (with_table t) j) _ rows e in
@@ -391,7 +391,7 @@ module _ (t : Table) (job : List ℕ) (bytes : Below 256 job) (j : Job) (l : loa
       (fan_each c.0 c.1))
 
   -- `edges`: counts, edges, loops
-  pub edges_laid : (rows : List (List ℕ)) → edge_rows (with_table t) j ≡ ok rows → Laid rows
+  pub edges_laid : (rows : List (List ℕ)) → edge_rows (with_table t) j ≡ Ok rows → Laid rows
   unfolding edge_rows
   edges_laid rows e =
       let a = bind_ok (edged (with_table t) j) _ rows e in
@@ -399,7 +399,7 @@ module _ (t : Table) (job : List ℕ) (bytes : Below 256 job) (j : Job) (l : loa
       subst Laid (ok_one a.2) (subst (λ (x : Joined). Laid (table_rows x.joining)) (sym c.2) (table_laid (unjoined j (fans_of j c.0)) (start_table c.0 c.1)))
 
   -- in `edges` the first two numbers are 0 and every edge is active
-  pub edges_fresh : (rows : List (List ℕ)) → edge_rows (with_table t) j ≡ ok rows → Fresh rows
+  pub edges_fresh : (rows : List (List ℕ)) → edge_rows (with_table t) j ≡ Ok rows → Fresh rows
   unfolding edge_rows table_rows unjoined fans_of
   edges_fresh rows e =
       let a = bind_ok (edged (with_table t) j) _ rows e in
@@ -413,7 +413,7 @@ module _ (t : Table) (job : List ℕ) (bytes : Below 256 job) (j : Job) (l : loa
       }
 
   -- `joining`: counts, edges, loops
-  pub joining_laid : (rows : List (List ℕ)) → joining_rows (with_table t) j ≡ ok rows → Laid rows
+  pub joining_laid : (rows : List (List ℕ)) → joining_rows (with_table t) j ≡ Ok rows → Laid rows
   unfolding joining_rows
   joining_laid rows e =
       let a = bind_ok (through_joining (with_table t) j) _ rows e in
@@ -421,7 +421,7 @@ module _ (t : Table) (job : List ℕ) (bytes : Below 256 job) (j : Job) (l : loa
       subst Laid (ok_one a.2) (table_laid a.0.joining (joined_table w.0 w.1 a.0 a.1))
 
   -- `shells`: two fields, and the faces that the second counts
-  pub shells_shaped : (rows : List (List ℕ)) → shell_rows (with_table t) j ≡ ok rows → AllShaped 2 1 rows
+  pub shells_shaped : (rows : List (List ℕ)) → shell_rows (with_table t) j ≡ Ok rows → AllShaped 2 1 rows
   unfolding shell_rows
   shells_shaped rows e =
       let a = bind_ok (through_joining (with_table t) j) _ rows e in
@@ -431,7 +431,7 @@ module _ (t : Table) (job : List ℕ) (bytes : Below 256 job) (j : Job) (l : loa
       subst (AllShaped 2 1) (ok_one b.2) (shell_each w.0 w.1 b.0 (joined_shells t j w.0 x b.0 w.1 a.1 b.1))
 
   -- `lumps`: two fields, and the faces that the second counts
-  pub lumps_shaped : (rows : List (List ℕ)) → lump_rows (with_table t) j ≡ ok rows → AllShaped 2 1 rows
+  pub lumps_shaped : (rows : List (List ℕ)) → lump_rows (with_table t) j ≡ Ok rows → AllShaped 2 1 rows
   unfolding lump_rows
   lumps_shaped rows e =
       let a = bind_ok (through_joining (with_table t) j) _ rows e in

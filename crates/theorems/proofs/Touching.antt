@@ -7,7 +7,7 @@ use Rattle.std.proofs.Math.ListN.{length, get_or}
 use Rattle.lists.specs.Lists.{iterate, index_of}
 use Rattle.lists.specs.Members.{get_or_map}
 use Rattle.rules.specs.declared.Use.{Use}
-use Rattle.rules.specs.Outcome.{ok}
+use Rattle.rules.specs.Outcome.{Ok}
 use Rattle.rules.specs.Job.{Job}
 use Rattle.rules.specs.Load.{loaded}
 use Rattle.rules.specs.Read.{uses_of, face_of_use, old_successor}
@@ -29,7 +29,7 @@ use Rattle.theorems.proofs.Ground.{ground, settled_uses}
 use Rattle.theorems.specs.Fanning.{twin, succ, EndedUse, fan_labels}
 use Rattle.theorems.proofs.Fanning.{ended_kept, succ_below, fan_lowest, fan_size}
 
-module _ (t : Table) (job : List ℕ) (j : Job) (w : Walked) (l : loaded job ≡ ok j) (s : Settled t j w) where
+module _ (t : Table) (job : List ℕ) (j : Job) (w : Walked) (l : loaded job ≡ Ok j) (s : Settled t j w) where
   abbrev G : Ground j w
   G = ground t job j w l s
 

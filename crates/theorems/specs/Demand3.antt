@@ -5,7 +5,7 @@ use mathlib.Core.List.{List, [], ◌∷◌, flat_map}
 use Rattle.lists.specs.Lists.{below, ◌∈◌, times, some, keep, sum_of, iterate, orbit, Neighbours, neighbours}
 use Rattle.rules.specs.declared.Item.{Item}
 use Rattle.rules.specs.declared.EdgeData.{EdgeData}
-use Rattle.rules.specs.Outcome.{Outcome, ok, refuse}
+use Rattle.rules.specs.Outcome.{Outcome, Ok, Err}
 use Rattle.rules.specs.Fields.{le16, le32}
 use Rattle.rules.specs.Job.{unset, Answer, Job}
 use Rattle.rules.specs.Load.{loaded}
@@ -108,9 +108,9 @@ pub record Change : Type 0 where
 
 -- the corner where a sweep makes its change, the first that is not left unchanged
 abbrev pub corner_if : Outcome Tried → ℕ → List ℕ → List ℕ
-corner_if (ok unchanged) v later = later
-corner_if (ok (changed s)) v later = v ∷ []
-corner_if (refuse n p) v later = []
+corner_if (Ok unchanged) v later = later
+corner_if (Ok (changed s)) v later = v ∷ []
+corner_if (Err r) v later = []
 
 unfoldable pub changed_corner : List Answer → List ℕ → Joining → List ℕ → List ℕ
 changed_corner answers starts s [] = []
@@ -118,11 +118,11 @@ changed_corner answers starts s (v ∷ vs) = corner_if (at_corner answers (fan_p
 
 -- edge joining makes the changes of a list, one sweep for each, and then a sweep changes nothing
 abbrev pub Run : List Answer → Fanned → Joining → List Change → Joining → Type 0
-Run answers f s [] t = (sweep answers f.starts s f.names ≡ ok unchanged) × (s ≡ t)
+Run answers f s [] t = (sweep answers f.starts s f.names ≡ Ok unchanged) × (s ≡ t)
 Run answers f s (c ∷ cs) t =
     (c.before ≡ s)
     × (changed_corner answers f.starts s f.names ≡ c.corner ∷ [])
-    × (sweep answers f.starts s f.names ≡ ok (changed c.after))
+    × (sweep answers f.starts s f.names ≡ Ok (changed c.after))
     × Run answers f c.after cs t
 
 -- a change turns an edge into a ring where the two active edge ends at its corner are of one edge; else it is a join
@@ -202,9 +202,9 @@ with_table t = record { table = t; profile = any_contact; changes = all_changes 
 
 -- the job pairs fully, its surface and vertex-loop questions are answered and decided, no normal vanishes; w is what the walk stage makes of it
 pub record Settled (t : Table) (j : Job) (w : Walked) : Type 0 where
-  pub pairs : pair j.answers (uses_of j) (length j.edges) ≡ ok w.twins
-  pub surfaces : merge_faces t j.answers j.faces (uses_of j) w.twins ≡ ok w.merge
-  pub vertices : vertex_loops j.answers j.points (merged_faces w.merge) j.loops ≡ ok w.vertex_loops
+  pub pairs : pair j.answers (uses_of j) (length j.edges) ≡ Ok w.twins
+  pub surfaces : merge_faces t j.answers j.faces (uses_of j) w.twins ≡ Ok w.merge
+  pub vertices : vertex_loops j.answers j.points (merged_faces w.merge) j.loops ≡ Ok w.vertex_loops
   pub walks : w ≡ walks_of (uses_of j) w.twins w.merge w.vertex_loops
 
 -- what holds of the walks
@@ -218,7 +218,7 @@ pub record WalksHold (w : Walked) : Type 0 where
 pub record JoiningHolds (t : Table) (j : Job) (w : Walked) (bytes : List ℕ) : Type 0 where
   pub changes : List Change
   pub ending : Joining
-  pub joined : through_joining (with_table t) j ≡ ok (record { fan = fans_of j w; joining = ending })
+  pub joined : through_joining (with_table t) j ≡ Ok (record { fan = fans_of j w; joining = ending })
   pub run : Run j.answers (fans_of j w) (unjoined j (fans_of j w)) changes ending
   pub balance :
       corners_less_edges (unjoined j (fans_of j w)).edges (fans_of j w).names
@@ -231,5 +231,5 @@ pub record JoiningHolds (t : Table) (j : Job) (w : Walked) (bytes : List ℕ) : 
 -- demand 3, for each joining table
 abbrev pub Demand3 : Table → List ℕ → Type 0
 Demand3 t job =
-    (j : Job) (w : Walked) → loaded job ≡ ok j → Settled t j w
-    → WalksHold w × ((room : ℕ) (bytes : List ℕ) → sewn (with_table t) job room ≡ ok bytes → JoiningHolds t j w bytes)
+    (j : Job) (w : Walked) → loaded job ≡ Ok j → Settled t j w
+    → WalksHold w × ((room : ℕ) (bytes : List ℕ) → sewn (with_table t) job room ≡ Ok bytes → JoiningHolds t j w bytes)

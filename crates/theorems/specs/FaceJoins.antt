@@ -2,7 +2,7 @@
 use Rattle.std.specs.Prelude.{ℕ, suc, ◌+◌, ◌<◌, ◌≡◌, ◌⊎◌, Bool, false, length, eqb}
 use mathlib.Core.List.{List}
 use Rattle.lists.specs.Lists.{below, keep}
-use Rattle.rules.specs.Outcome.{Outcome, ok, throughout}
+use Rattle.rules.specs.Outcome.{Outcome, Ok, throughout}
 use Rattle.rules.specs.Frame.{Record, framed_all}
 use Rattle.rules.specs.Job.{Job}
 use Rattle.rules.specs.Load.{loaded}
@@ -23,8 +23,8 @@ before t j ts h = throughout (merge_step t j.answers j.faces (uses_of j) ts) (be
 -- and makes one face join more
 abbrev pub EachQuestion : Table → Job → Type 0
 EachQuestion t j =
-    (ts : List ℕ) → pair j.answers (uses_of j) (length j.edges) ≡ ok ts
-    → (h : ℕ) → h < length (uses_of j) → (s s' : Grouping) → before t j ts h ≡ ok s → merge_step t j.answers j.faces (uses_of j) ts h s ≡ ok s'
+    (ts : List ℕ) → pair j.answers (uses_of j) (length j.edges) ≡ Ok ts
+    → (h : ℕ) → h < length (uses_of j) → (s s' : Grouping) → before t j ts h ≡ Ok s → merge_step t j.answers j.faces (uses_of j) ts h s ≡ Ok s'
     → (s' ≡ s) ⊎ ((s'.groups ≡ s.groups → ⊥) × (s'.joins ≡ suc s.joins))
 
 -- how many of the records are faces
@@ -37,9 +37,9 @@ faces_written rs = length (keep is_face rs)
 -- the bytes are those of a body's records; the last field of the Body record is the number of face joins that merging ends with
 pub record FacesTold (t : Table) (j : Job) (bytes : List ℕ) : Type 0 where
   pub body : Body
-  pub rebuilt : rebuild (with_table t) j ≡ ok body
+  pub rebuilt : rebuild (with_table t) j ≡ Ok body
   pub written : bytes ≡ framed_all (body_records body)
-  pub joins : (w : Walked) → walked (with_table t) j ≡ ok w → body_field bytes 6 ≡ w.merge.joins
+  pub joins : (w : Walked) → walked (with_table t) j ≡ Ok w → body_field bytes 6 ≡ w.merge.joins
   -- faces selected less face joins equals faces written
   pub faces : length j.faces ≡ faces_written (body_records body) + body_field bytes 6
   -- in an Empty body all three are zero
@@ -48,4 +48,4 @@ pub record FacesTold (t : Table) (j : Job) (bytes : List ℕ) : Type 0 where
 -- for each joining table and every job
 abbrev pub FaceJoins : Table → List ℕ → Type 0
 FaceJoins t job =
-    (j : Job) → loaded job ≡ ok j → EachQuestion t j × ((room : ℕ) (bytes : List ℕ) → sewn (with_table t) job room ≡ ok bytes → FacesTold t j bytes)
+    (j : Job) → loaded job ≡ Ok j → EachQuestion t j × ((room : ℕ) (bytes : List ℕ) → sewn (with_table t) job room ≡ Ok bytes → FacesTold t j bytes)

@@ -2,7 +2,7 @@
 use Rattle.std.specs.Prelude.{ℕ, ◌<◌, ◌≡◌, Bool, length, eqb}
 use mathlib.Core.List.{List, map}
 use Rattle.lists.specs.Lists.{below, ◌∈◌, times, keep, sum_of}
-use Rattle.rules.specs.Outcome.{ok}
+use Rattle.rules.specs.Outcome.{Ok}
 use Rattle.rules.specs.Frame.{Record, framed_all}
 use Rattle.rules.specs.Job.{Job}
 use Rattle.rules.specs.Load.{loaded}
@@ -24,11 +24,11 @@ behind_faces w = map (members_of w.merge.groups) (lowest_members w.merge.groups)
 -- the bytes are those of a body's records
 pub record MembersTold (t : Table) (j : Job) (bytes : List ℕ) : Type 0 where
   pub body : Body
-  pub rebuilt : rebuild (with_table t) j ≡ ok body
+  pub rebuilt : rebuild (with_table t) j ≡ Ok body
   pub written : bytes ≡ framed_all (body_records body)
   -- the selected faces behind each face of the body are the members of its merged group
   pub behind : List (List ℕ)
-  pub merged : (w : Walked) → walked (with_table t) j ≡ ok w → behind ≡ behind_faces w
+  pub merged : (w : Walked) → walked (with_table t) j ≡ Ok w → behind ≡ behind_faces w
   -- one record of members for each face written, with body and source face number of each member
   pub each : length behind ≡ faces_written (body_records body)
   pub records : keep is_members (body_records body) ≡ map (λ is. members_record (map (member_at j.faces) is)) behind
@@ -42,4 +42,4 @@ pub record MembersTold (t : Table) (j : Job) (bytes : List ℕ) : Type 0 where
 -- for each joining table and every job
 abbrev pub FaceMembers : Table → List ℕ → Type 0
 FaceMembers t job =
-    (j : Job) (room : ℕ) (bytes : List ℕ) → loaded job ≡ ok j → sewn (with_table t) job room ≡ ok bytes → MembersTold t j bytes
+    (j : Job) (room : ℕ) (bytes : List ℕ) → loaded job ≡ Ok j → sewn (with_table t) job room ≡ Ok bytes → MembersTold t j bytes

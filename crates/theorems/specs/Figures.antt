@@ -1,7 +1,7 @@
 -- The executable parts of demand 3, and jobs to compute them on.
 use Rattle.std.specs.Prelude.{ℕ, List, [], ◌∷◌, ◌++◌, Bool, false, length}
 use Rattle.lists.specs.Lists.{same, keep}
-use Rattle.rules.specs.Outcome.{Outcome, ok, refuse, ◌>>=◌}
+use Rattle.rules.specs.Outcome.{Outcome, Ok, ◌>>=◌, Err}
 use Rattle.rules.specs.Frame.{Record, framed_all}
 use Rattle.rules.specs.Load.{loaded}
 use Rattle.rules.specs.Rules.{ordinary}
@@ -26,7 +26,7 @@ unfoldable pub figures : List Record → Outcome (List ℕ)
 figures records = loaded (framed_all records) >>= λ j. walked ordinary j >>= λ w.
     let f = fans_of j w in
     through_joining ordinary j >>= λ x.
-    ok (walk_figures w ++ join_figures f (unjoined j f) x.joining)
+    Ok (walk_figures w ++ join_figures f (unjoined j f) x.joining)
 
 -- a job with the figures that it has
 pub record Figured : Type 0 where
@@ -34,8 +34,8 @@ pub record Figured : Type 0 where
   pub have : List ℕ
 
 abbrev pub have_them : Outcome (List ℕ) → List ℕ → Bool
-have_them (ok a) b = same a b
-have_them (refuse n p) b = false
+have_them (Ok a) b = same a b
+have_them (Err r) b = false
 
 abbrev pub right : Figured → Bool
 right r = have_them (figures r.job) r.have

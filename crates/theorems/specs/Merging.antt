@@ -4,7 +4,7 @@ use Rattle.std.proofs.Math.Bool.{true}
 use mathlib.Core.List.{List, [], ◌∷◌}
 use Rattle.rules.specs.declared.Face.{Face}
 use Rattle.rules.specs.declared.Use.{Use}
-use Rattle.rules.specs.Outcome.{Outcome, ok, ◌>>=◌}
+use Rattle.rules.specs.Outcome.{Outcome, Ok, ◌>>=◌}
 use Rattle.rules.specs.Job.{Answer}
 use Rattle.rules.specs.Questions.{surface_answer, ask}
 use Rattle.rules.specs.Read.{face_of_use}
@@ -25,7 +25,7 @@ surface_joins t answers fs us ts h = ask answers 8 (h ∷ []) >>= λ v. joins_fa
 -- the faces of a twin pair that was asked for and that its answer joins
 abbrev pub SameSurface : Table → List Answer → List Face → List Use → List ℕ → ℕ → ℕ → Type 0
 SameSurface t answers fs us ts a b =
-    (h : ℕ) × (h < length us) × (unasked us ts h ≡ false) × (surface_joins t answers fs us ts h ≡ ok true) × (face_of_use us h ≡ a) × (other_face us ts h ≡ b)
+    (h : ℕ) × (h < length us) × (unasked us ts h ≡ false) × (surface_joins t answers fs us ts h ≡ Ok true) × (face_of_use us h ≡ a) × (other_face us ts h ≡ b)
 
 -- MERGING, WHOLE
 

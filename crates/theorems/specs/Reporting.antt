@@ -1,7 +1,7 @@
 -- The Body record that the bytes of a body begin with, and what a body with faces was built of.
 use Rattle.std.specs.Prelude.{ℕ, ◌≤◌, ◌≡◌}
 use mathlib.Core.List.{List}
-use Rattle.rules.specs.Outcome.{ok}
+use Rattle.rules.specs.Outcome.{Ok}
 use Rattle.rules.specs.Fields.{le16}
 use Rattle.rules.specs.Job.{Job}
 use Rattle.rules.specs.Rules.{Rules}
@@ -39,7 +39,7 @@ pub record Solid (rules : Rules) (j : Job) (b : Body) : Type 0 where
   pub joined : Joined
   pub oriented : List Shell
   pub nests : List Nested
-  pub joining : through_joining rules j ≡ ok joined
-  pub shells : shells_of j joined.fan.walk ≡ ok oriented
-  pub nesting : nested j.answers oriented ≡ ok nests
+  pub joining : through_joining rules j ≡ Ok joined
+  pub shells : shells_of j joined.fan.walk ≡ Ok oriented
+  pub nesting : nested j.answers oriented ≡ Ok nests
   pub body : b ≡ body_of j joined nests

@@ -1,7 +1,7 @@
 -- Selected faces: no two of them are the same face of the same body.
 use Rattle.std.specs.Prelude.{ℕ, ◌<◌, ◌≡◌, List, length}
 use Rattle.rules.specs.declared.Face.{Face}
-use Rattle.rules.specs.Outcome.{ok}
+use Rattle.rules.specs.Outcome.{Ok}
 use Rattle.rules.specs.Job.{Job, face_at}
 use Rattle.rules.specs.Load.{loaded}
 
@@ -12,4 +12,4 @@ Distinct fs =
 
 -- document 02, Eight: a job that loads selects no face twice
 abbrev pub FacesDistinct : List ℕ → Type 0
-FacesDistinct job = (j : Job) → loaded job ≡ ok j → Distinct j.faces
+FacesDistinct job = (j : Job) → loaded job ≡ Ok j → Distinct j.faces

@@ -44,7 +44,7 @@ pub fn use_face(uses: &[u32], h: usize) -> usize
 pub fn use_sense(uses: &[u32], h: usize) -> Sense
     ensures { result ≡ (use_at (uses_in uses.now) h).sense }
 {
-    job::sense_of(field_of(uses, h, 2))
+    Sense::from(field_of(uses, h, 2))
 }
 
 // The old successor.
@@ -81,7 +81,7 @@ pub fn put_use(uses: &mut [u32], h: usize, edge: usize, face: usize, sense: Sens
 {
     put(uses, 4 * h, edge);
     put(uses, 4 * h + 1, face);
-    put(uses, 4 * h + 2, job::sense_number(sense));
+    put(uses, 4 * h + 2, usize::from(sense));
     put(uses, 4 * h + 3, next);
 }
 

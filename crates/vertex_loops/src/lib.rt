@@ -2,25 +2,18 @@
 
 #![tactic(auto)]
 
-ghost use Rattle.std.specs.Prelude.{◌≡◌, ◌+◌, ◌*◌, ◌≤◌, ◌<◌, length};
+ghost use Rattle.std.specs.Prelude.{◌≡◌, ◌+◌, ◌*◌, ◌≤◌, ◌<◌, length, Ok, IfOk};
+ghost use Rattle.rules.specs.Outcome.{◌>>=◌ as ◌and_then◌};
 ghost use Rattle.rules.specs.VertexLoops.{already_there, keep_unless_there, vertex_loop_step, vertex_loops};
 ghost use Rattle.job.specs.Lists.{points_in, loop_in, loops_in, answers_in};
 ghost use Rattle.answers.specs.Index.{Indexed};
-ghost use Rattle.ask.specs.Told.{told_of};
-ghost use Rattle.vertex_loops.specs.Kept.{kept_at, kept_in, kept_of, UpTo, held_against};
+ghost use Rattle.vertex_loops.specs.Kept.{kept_at, kept_in, held_against};
 
-use ask::Told;
 use fields::{get, put, word};
-use rules::Counts;
-
-// How many are kept, or the refusal.
-#[derive(Clone, Copy)]
-pub enum Keeping {
-    Done(usize),
-    Refused(usize, usize),
-}
+use rules::{Counts, Refusal};
 
 // The point is that of kept vertex loop k, which is asked only where the merged face is the same.
+#[tactic(auto, unfolding(crate::specs::Kept::held_against))]
 fn held_against(
     job: &[u8],
     index: &[u32],
@@ -29,13 +22,13 @@ fn held_against(
     k: usize,
     face: usize,
     point: usize,
-) -> Told
+) -> Result<bool, Refusal>
     requires { Indexed job.now index.now c × (k < 1024) × (point < 4294967296) }
-    ensures { told_of result ≡ held_against (answers_in job.now index.now c) face point (kept_at kept.now k) }
+    ensures { result ≡ held_against (answers_in job.now index.now c) face point (kept_at kept.now k) }
 {
     let f = get(kept, 2 * k);
     if f != face {
-        return Told::No;
+        return Ok(false);
     }
     let p = get(kept, 2 * k + 1);
     ask::ask_same(job, index, c, 9, point, p)
@@ -50,28 +43,20 @@ fn already_there(
     count: usize,
     face: usize,
     point: usize,
-) -> Told
+) -> Result<bool, Refusal>
     requires { Indexed job.now index.now c × (count ≤ 1024) × (point < 4294967296) }
-    ensures { told_of result ≡ already_there (answers_in job.now index.now c) face point (kept_in count kept.now) }
+    ensures { result ≡ already_there (answers_in job.now index.now c) face point (kept_in count kept.now) }
 {
-    let mut k: usize = 0;
-    while k < count {
-        let t = held_against(job, index, c, kept, k, face, point);
-        match t {
-            Told::Refused(n, p) => {
-                return Told::Refused(n, p);
-            }
-            Told::Yes => {
-                return Told::Yes;
-            }
-            Told::No => {}
+    for k in 0..count {
+        if held_against(job, index, c, kept, k, face, point)? {
+            return Ok(true);
         }
-        k += 1;
     }
-    Told::No
+    Ok(false)
 }
 
-// Kept unless the same point is already in the merged face.
+// Kept unless the same point is already in the merged face. Gives how many are kept.
+#[tactic(auto, using(crate::specs::KeptLaws::unless_stored), unfolding(rules::specs::VertexLoops::keep_unless_there))]
 fn keep_unless_there(
     job: &[u8],
     index: &[u32],
@@ -80,23 +65,21 @@ fn keep_unless_there(
     count: usize,
     face: usize,
     point: usize,
-) -> Keeping
+) -> Result<usize, Refusal>
     requires { Indexed job.now index.now c × (count < 1024) × (2 * count + 2 ≤ length kept.old) × (face < 4294967296) × (point < 4294967296) }
-    ensures { (kept_of result kept.new ≡ keep_unless_there (answers_in job.now index.now c) face point (kept_in count kept.old)) × UpTo (count + 1) result }
+    ensures { ((result and_then λ k. Ok (kept_in k kept.new)) ≡ keep_unless_there (answers_in job.now index.now c) face point (kept_in count kept.old))
+        × IfOk result (λ k. k ≤ count + 1) }
 {
-    let t = already_there(job, index, c, kept, count, face, point);
-    match t {
-        Told::Refused(n, p) => Keeping::Refused(n, p),
-        Told::Yes => Keeping::Done(count),
-        Told::No => {
-            put(kept, 2 * count, face);
-            put(kept, 2 * count + 1, point);
-            Keeping::Done(count + 1)
-        }
+    if already_there(job, index, c, kept, count, face, point)? {
+        return Ok(count);
     }
+    put(kept, 2 * count, face);
+    put(kept, 2 * count + 1, point);
+    Ok(count + 1)
 }
 
-// Loop l of the job, where it is a vertex loop.
+// Loop l of the job, where it is a vertex loop. Gives how many are kept.
+#[tactic(auto, unfolding(job::specs::Lists::loop_in))]
 fn keep_loop(
     job: &[u8],
     index: &[u32],
@@ -105,13 +88,14 @@ fn keep_loop(
     kept: &mut [u32],
     count: usize,
     l: usize,
-) -> Keeping
+) -> Result<usize, Refusal>
     requires { Indexed job.now index.now c × (c.vertices ≤ 1024) × (l < 1024) × (count < 1024) × (2 * count + 2 ≤ length kept.old) }
-    ensures { (kept_of result kept.new ≡ vertex_loop_step (answers_in job.now index.now c) (points_in job.now c) numbers.now (loop_in job.now index.now l) (kept_in count kept.old)) × UpTo (count + 1) result }
+    ensures { ((result and_then λ k. Ok (kept_in k kept.new)) ≡ vertex_loop_step (answers_in job.now index.now c) (points_in job.now c) numbers.now (loop_in job.now index.now l) (kept_in count kept.old))
+        × IfOk result (λ k. k ≤ count + 1) }
 {
     let kind = job::loop_kind(job, index, l);
     if kind == 5 {
-        return Keeping::Done(count);
+        return Ok(count);
     }
     let v = word(job, job::loop_start(index, l));
     let point = job::point(job, c, v);
@@ -119,30 +103,21 @@ fn keep_loop(
     keep_unless_there(job, index, c, kept, count, face, point)
 }
 
-// By ascending face and then loop, from the merged face of each selected face.
+// By ascending face and then loop, from the merged face of each selected face. Gives how many are kept.
 pub fn vertex_loops(
     job: &[u8],
     index: &[u32],
     c: Counts,
     numbers: &[u32],
     kept: &mut [u32],
-) -> Keeping
+) -> Result<usize, Refusal>
     requires { Indexed job.now index.now c × (c.vertices ≤ 1024) × (c.loops ≤ 1024) × (2 * c.loops ≤ length kept.old) }
-    ensures { (kept_of result kept.new ≡ vertex_loops (answers_in job.now index.now c) (points_in job.now c) numbers.now (loops_in job.now index.now c)) × UpTo c.loops result }
+    ensures { ((result and_then λ k. Ok (kept_in k kept.new)) ≡ vertex_loops (answers_in job.now index.now c) (points_in job.now c) numbers.now (loops_in job.now index.now c))
+        × IfOk result (λ k. k ≤ c.loops) }
 {
-    let mut count: usize = 0;
-    let mut l: usize = 0;
-    while l < c.loops {
-        let k = keep_loop(job, index, c, numbers, kept, count, l);
-        match k {
-            Keeping::Refused(n, p) => {
-                return Keeping::Refused(n, p);
-            }
-            Keeping::Done(more) => {
-                count = more;
-            }
-        }
-        l += 1;
+    let mut count = 0;
+    for l in 0..c.loops {
+        count = keep_loop(job, index, c, numbers, kept, count, l)?;
     }
-    Keeping::Done(count)
+    Ok(count)
 }

@@ -10,7 +10,7 @@ use Rattle.std.proofs.Math.ListN.{length, get_or, length-replicate}
 use Rattle.std.proofs.lemmas.List.Edits.{sets-eq}
 use Rattle.std.proofs.Math.Seq.{length-sets}
 use Rattle.lists.specs.Lists.{from, below, ◌∈◌, has, some}
-use Rattle.lists.specs.Tests.{both_ways, or_first, or_second, none_or, or_assoc, or_comm, equal_or_not, cond_true, cond_false}
+use Rattle.lists.specs.Tests.{both_ways, or_second, none_or, or_assoc, or_comm, equal_or_not, cond_true, cond_false}
 use Rattle.lists.specs.Runs.{below_snoc, pigeon_below}
 use Rattle.lists.specs.Members.{flat_map_append, flat_map_in, foldl_append}
 use Rattle.lists.specs.Membership.{get_or_in}
@@ -92,6 +92,8 @@ module _ (n : ℕ) (cs : List Circuit) (seen : List Bool) (ways stretches : List
       let last : at ≡ start_at circuit_uses (cs ++ (c ∷ [])) count =
       H.reach ∙ sym (start_end circuit_uses cs) ∙ sym (start_snoc circuit_uses cs c (length cs) (omega arith)) ∙ ap (start_at circuit_uses (cs ++ (c ∷ []))) (sym H.many) in
       let ending : end ≡ start_at circuit_uses (cs ++ (c ∷ [])) (count + 1) = reach ∙ sym (start_end circuit_uses (cs ++ (c ∷ []))) ∙ ap (start_at circuit_uses (cs ++ (c ∷ []))) many in
+      let stored : List ℕ = set (set stretches (2 * count) at) (2 * count + 1) end in
+      let starts_at : ℕ → ℕ = start_at circuit_uses (cs ++ (c ∷ [])) in
       record {
         seen_size = ap length R.marks ∙ length_marked seen (circuit_uses c) ∙ H.seen_size;
         ways_size = ap length R.writes ∙ length-sets ways at (circuit_uses c) ∙ H.ways_size;
@@ -100,15 +102,16 @@ module _ (n : ℕ) (cs : List Circuit) (seen : List Bool) (ways stretches : List
         many = sym many;
         reach = reach;
         front = (λ t. take (R.ends t) ((R.writes ∙ sets-eq (circuit_uses c) ways at fits) t))
-            ∙ take_at (take at ways ++ circuit_uses c) (drop (at + length (circuit_uses c)) ways) (at + length (circuit_uses c)) (length-append (take at ways) (circuit_uses c) ∙ ap (λ a. a + length (circuit_uses c)) size)
+            ∙ take_at (take at ways ++ circuit_uses c) (drop (at + length (circuit_uses c)) ways) (at + length (circuit_uses c))
+            (length-append (take at ways) (circuit_uses c) ∙ ap (λ a. a + length (circuit_uses c)) size)
             ∙ ap (λ l. l ++ circuit_uses c) H.front ∙ sym (uses_snoc cs c);
         marks = λ x. ap (λ v. get_or v x false) R.marks ∙ marked_is seen (circuit_uses c) (λ y m. let r = within y m in omega (arith, H.seen_size)) x
             ∙ ap (λ b. b || has x (circuit_uses c)) (H.marks x) ∙ sym (some_snoc (λ d. has x (circuit_uses d)) cs c);
         starts = λ i lt. ap (λ l. get_or l (2 * i) 0) es
-            ∙ ⊎_elim (λ e. subst (λ k. get_or (set (set stretches (2 * count) at) (2 * count + 1) end) (2 * k) 0 ≡ start_at circuit_uses (cs ++ (c ∷ [])) k) (sym e) ((two_at stretches count at end count wide).0 ∙ last))
+            ∙ ⊎_elim (λ e. subst (λ k. get_or stored (2 * k) 0 ≡ starts_at k) (sym e) ((two_at stretches count at end count wide).0 ∙ last))
             (λ q. ((two_at stretches count at end i wide).2 q).0 ∙ H.starts i q ∙ sym (start_snoc circuit_uses cs c i (omega (arith, H.many)))) (last_or_before i count lt);
         stops = λ i lt. ap (λ l. get_or l (2 * i + 1) 0) es
-            ∙ ⊎_elim (λ e. subst (λ k. get_or (set (set stretches (2 * count) at) (2 * count + 1) end) (2 * k + 1) 0 ≡ start_at circuit_uses (cs ++ (c ∷ [])) (k + 1)) (sym e) ((two_at stretches count at end count wide).1 ∙ ending))
+            ∙ ⊎_elim (λ e. subst (λ k. get_or stored (2 * k + 1) 0 ≡ starts_at (k + 1)) (sym e) ((two_at stretches count at end count wide).1 ∙ ending))
             (λ q. ((two_at stretches count at end i wide).2 q).1 ∙ H.stops i q ∙ sym (start_snoc circuit_uses cs c (i + 1) (omega (arith, H.many)))) (last_or_before i count lt);
       }
 
@@ -168,8 +171,12 @@ module _ (rm : List Bool) (ss : List ℕ) where
     started_room h le =
         let P = circuits_parting S in
         let r = all_start h le in
-        let most = pigeon_below (length ss) (flat_map circuit_uses (circuits rm ss)) P.once (λ x m. let q = flat_map_in circuit_uses (circuits rm ss) x m in (closed_kept S q.0 x (P.closed q.0 q.1) q.2).0) in
-        omega (arith, ap (λ cs. length (flat_map circuit_uses cs)) r.1, ap length (flat_map_append circuit_uses (started rm ss h) r.0), length-append (flat_map circuit_uses (started rm ss h)) (flat_map circuit_uses r.0))
+        let all : List ℕ = flat_map circuit_uses (circuits rm ss) in
+        let low : (x : ℕ) → x ∈ all → x < length ss = λ x m. let q = flat_map_in circuit_uses (circuits rm ss) x m in (closed_kept S q.0 x (P.closed q.0 q.1) q.2).0 in
+        let most = pigeon_below (length ss) all P.once low in
+        let parts : all ≡ flat_map circuit_uses (started rm ss h) ++ flat_map circuit_uses r.0 =
+        ap (flat_map circuit_uses) r.1 ∙ flat_map_append circuit_uses (started rm ss h) r.0 in
+        omega (arith, ap length parts, length-append (flat_map circuit_uses (started rm ss h)) (flat_map circuit_uses r.0))
 
     -- a loop that starts closes
     starts_closed : (h : ℕ) → h < length ss → (is_removed rm h || visited h (started rm ss h)) ≡ false → Closed (length ss) rm ss (circuit ss (length ss) h h)
@@ -182,15 +189,14 @@ module _ (rm : List Bool) (ss : List ℕ) where
 
     module _ (h : ℕ) (seen : List Bool) (ways stretches : List ℕ) (count at : ℕ) (lt : h < length ss) (W : Walking rm ss h seen ways stretches count at) where
       -- a removed use starts none, nor does one that stands in a loop
-      pub walking_removed : true ≡ is_removed rm h → Walking rm ss (h + 1) seen ways stretches count at
-      walking_removed e = (omega (arith, W.0), subst (λ cs. Held (length ss) cs seen ways stretches count at) (sym (started_step h ∙ step_skips (started rm ss h) h (or_first (is_removed rm h) (visited h (started rm ss h)) (sym e)))) W.1)
+      pub walking_skips : (is_removed rm h || get_or seen h false) ≡ true → Walking rm ss (h + 1) seen ways stretches count at
+      walking_skips e =
+          let skips : started rm ss (h + 1) ≡ started rm ss h = started_step h ∙ step_skips (started rm ss h) h (ap (λ b. is_removed rm h || b) (sym (W.1.marks h)) ∙ e) in
+          rw skips (omega (arith, W.0), W.1)
 
-      pub walking_visited : true ≡ get_or seen h false → Walking rm ss (h + 1) seen ways stretches count at
-      walking_visited e = (omega (arith, W.0), subst (λ cs. Held (length ss) cs seen ways stretches count at) (sym (started_step h ∙ step_skips (started rm ss h) h (or_second (is_removed rm h) (visited h (started rm ss h)) (sym (W.1.marks h) ∙ sym e)))) W.1)
-
-      module _ (kept : false ≡ is_removed rm h) (fresh : false ≡ get_or seen h false) where
+      module _ (kept : is_removed rm h ≡ false) (fresh : get_or seen h false ≡ false) where
         starting : (is_removed rm h || visited h (started rm ss h)) ≡ false
-        starting = none_or (is_removed rm h) (visited h (started rm ss h)) (sym kept) (sym (W.1.marks h) ∙ sym fresh)
+        starting = none_or (is_removed rm h) (visited h (started rm ss h)) kept (sym (W.1.marks h) ∙ fresh)
 
         pub walking_closes : Closes (circuit ss (length ss) h h)
         walking_closes = let C = starts_closed h lt starting in C.runs ∙ ap closes (sym (ap circuit_uses C.runs))
@@ -202,19 +208,25 @@ module _ (rm : List Bool) (ss : List ℕ) where
           -- there is room for its uses
           pub walking_room : end ≤ length ss
           walking_room =
-              omega (arith, started_room (h + 1) (omega arith), ap (λ cs. length (flat_map circuit_uses cs)) opened, ap length (uses_snoc (started rm ss h) (circuit ss (length ss) h h)), length-append (flat_map circuit_uses (started rm ss h)) (circuit_uses (circuit ss (length ss) h h)), R.ends, W.1.reach)
+              let before : List ℕ = flat_map circuit_uses (started rm ss h) in
+              let new : Circuit = circuit ss (length ss) h h in
+              let parts : flat_map circuit_uses (started rm ss (h + 1)) ≡ before ++ circuit_uses new = ap (flat_map circuit_uses) opened ∙ uses_snoc (started rm ss h) new in
+              omega (arith, started_room (h + 1) (omega arith), ap length parts, length-append before (circuit_uses new), R.ends, W.1.reach)
 
           -- a kept use that is in none starts one
           pub walking_starts : (mid stretches' : List ℕ) → mid ≡ set stretches (2 * count) at → stretches' ≡ set mid (2 * count + 1) end → Walking rm ss (h + 1) seen' ways' stretches' (count + 1) end
           walking_starts mid stretches' em es =
-              let C = starts_closed h lt starting in (
+              let C = starts_closed h lt starting in
+              let new : Circuit = circuit ss (length ss) h h in
+              rw opened (
                 omega (arith, W.0),
-                subst (λ cs. Held (length ss) cs seen' ways' stretches' (count + 1) end) (sym opened)
-                    (held_more (length ss) (started rm ss h) seen ways stretches count at W.1 (circuit ss (length ss) h h) seen' ways' stretches' end R (es ∙ ap (λ l. set l (2 * count + 1) end) em) (omega (arith, W.0)) walking_room (λ x m. (closed_kept S (circuit ss (length ss) h h) x C m).0)),
+                held_more (length ss) (started rm ss h) seen ways stretches count at W.1 new seen' ways' stretches' end R
+                    (es ∙ ap (λ l. set l (2 * count + 1) end) em) (omega (arith, W.0)) walking_room (λ x m. (closed_kept S new x C m).0),
               )
 
     -- no loop at first
-    pub walking_start : (seen : List Bool) (ways stretches : List ℕ) → seen ≡ unvisited (length ss) → length ways ≡ length ss → length stretches ≡ 2 * length ss → Walking rm ss 0 seen ways stretches 0 0
+    pub walking_start : (seen : List Bool) (ways stretches : List ℕ) → seen ≡ unvisited (length ss) → length ways ≡ length ss → length stretches ≡ 2 * length ss
+        → Walking rm ss 0 seen ways stretches 0 0
     unfolding unvisited from some flat_map
     walking_start seen ways stretches es ew et = (
       omega arith,
@@ -255,6 +267,3 @@ take_blank (suc m) (suc n) le = ap {B = List Bool} (λ l. false ∷ l) (take_bla
 pub blank_visited : (n : ℕ) → n ≤ 2048 → take n (replicate 2048 false) ≡ unvisited n
 unfolding unvisited
 blank_visited n le = take_blank 2048 n le
-
-pub blank_length : (n : ℕ) → n ≤ 2048 → n ≡ length (take n (replicate 2048 false))
-blank_length n le = sym (ap length (take_blank 2048 n le) ∙ length-replicate n false)

@@ -13,11 +13,10 @@ use Rattle.lists.specs.Members.{map_append}
 use Rattle.lists.specs.Sums.{sum_append, sum_one}
 use Rattle.lists.specs.Tables.{set_each, table_is}
 use Rattle.rules.specs.declared.Use.{Use}
-use Rattle.rules.specs.Job.{unset}
 use Rattle.rules.specs.Read.{old_successor}
 use Rattle.rules.specs.Pair.{twin_of}
 use Rattle.rules.specs.Merge.{is_removed}
-use Rattle.rules.specs.Walk.{over, meets, breaks, pass, passing, met_use, met_after, successor_of, passed_of, successors, passed_counts}
+use Rattle.rules.specs.Walk.{over, meets, breaks, pass, met_use, met_after, successor_of, passed_of, successors, passed_counts}
 use Rattle.walk.specs.Walks.{Met, Succeeds}
 
 -- PASSING OVER
@@ -50,44 +49,23 @@ module _ (us : List Use) (ts : List ℕ) (rm : List Bool) where
     pub going_start : from < 4294967296 → Going us ts rm from from 0
     going_start lt = let q : length us - 0 ≡ length us = omega arith in record { within = omega arith; fits = lt; rest = ap (λ m. pass us ts rm m from 0) q }
 
-    pub going_on : (h k g t n : ℕ) → n ≡ length us → k < n → true ≡ is_removed rm h → t ≡ twin_of ts h → g ≡ old_successor us t → g < 4294967296
-        → Going us ts rm from h k → Going us ts rm from g (k + 1)
-    going_on h k g t n en lt e et eg fits G = record {
+    pub going_on : (h k g t : ℕ) → Going us ts rm from h k → k < length us → is_removed rm h ≡ true → t ≡ twin_of ts h → g ≡ old_successor us t → g < 4294967296
+        → Going us ts rm from g (k + 1)
+    going_on h k g t G lt e et eg fits = record {
       within = omega arith;
       fits = fits;
-      rest = ap (λ x. pass us ts rm (length us - (k + 1)) x (k + 1)) (eg ∙ ap (old_successor us) et)
-          ∙ sym (more (length us) k h (omega arith) (sym e)) ∙ G.rest;
+      rest = ap (λ x. pass us ts rm (length us - (k + 1)) x (k + 1)) (eg ∙ ap (old_successor us) et) ∙ sym (more (length us) k h lt e) ∙ G.rest;
     }
 
-    pub going_met : (h k n : ℕ) → n ≡ length us → k < n → false ≡ is_removed rm h → Going us ts rm from h k
-        → Met (length us) (pass us ts rm (length us) from 0) h k
-    going_met h k n en lt e G =
-        let q : meets h k ≡ pass us ts rm (length us) from 0 = sym (meeting (length us) k h (omega arith) (sym e)) ∙ G.rest in
+    pub going_met : (h k : ℕ) → Going us ts rm from h k → k < length us → is_removed rm h ≡ false → Met (length us) (pass us ts rm (length us) from 0) h k
+    going_met h k G lt e =
+        let q : meets h k ≡ pass us ts rm (length us) from 0 = sym (meeting (length us) k h lt e) ∙ G.rest in
         record { met = ap met_use q; after = ap met_after q; fits = G.fits; few = G.within }
 
-    pub going_broken : (h k n : ℕ) → n ≡ length us → n ≤ k → Going us ts rm from h k → Met (length us) (pass us ts rm (length us) from 0) 4294967295 0
-    going_broken h k n en le G =
-        let q : breaks ≡ pass us ts rm (length us) from 0 = sym (breaking (length us) k h (omega arith)) ∙ G.rest in
+    pub going_broken : (h k : ℕ) → Going us ts rm from h k → length us ≤ k → Met (length us) (pass us ts rm (length us) from 0) 4294967295 0
+    going_broken h k G le =
+        let q : breaks ≡ pass us ts rm (length us) from 0 = sym (breaking (length us) k h le) ∙ G.rest in
         record { met = ap met_use q; after = ap met_after q; fits = omega arith; few = omega arith }
-
-  -- a removed use has neither successor nor passed count; a kept one has what passing over from its old successor meets
-  pub succeeds_removed : (h : ℕ) → true ≡ is_removed rm h → Succeeds us ts rm h 4294967295 0
-  unfolding successor_of passed_of
-  succeeds_removed h e = record {
-    met = sym (cond_true (is_removed rm h) unset (met_use (passing us ts rm h)) (sym e));
-    after = sym (cond_true (is_removed rm h) 0 (met_after (passing us ts rm h)) (sym e));
-    fits = omega arith;
-    few = omega arith;
-  }
-
-  pub succeeds_kept : (h from at passed : ℕ) → false ≡ is_removed rm h → from ≡ old_successor us h → Met (length us) (pass us ts rm (length us) from 0) at passed → Succeeds us ts rm h at passed
-  unfolding successor_of passed_of
-  succeeds_kept h from at passed e eq M = record {
-    met = M.met ∙ ap (λ g. met_use (pass us ts rm (length us) g 0)) eq ∙ sym (cond_false (is_removed rm h) unset (met_use (passing us ts rm h)) (sym e));
-    after = M.after ∙ ap (λ g. met_after (pass us ts rm (length us) g 0)) eq ∙ sym (cond_false (is_removed rm h) 0 (met_after (passing us ts rm h)) (sym e));
-    fits = M.fits;
-    few = M.few;
-  }
 
   -- THE TABLES
 
@@ -113,9 +91,9 @@ module _ (us : List Use) (ts : List ℕ) (rm : List Bool) where
     small = omega arith;
   }
 
-  pub filled_step : (succ counts succ' counts' : List ℕ) (total h n at passed : ℕ) → length us ≤ 2048 → n ≡ length us → h < n → Succeeds us ts rm h at passed
-      → succ' ≡ set succ h at → counts' ≡ set counts h passed → Filled succ counts total h → Filled succ' counts' (total + passed) (h + 1)
-  filled_step succ counts succ' counts' total h n at passed most en lt G es ec F = record {
+  pub filled_step : (succ counts succ' counts' : List ℕ) (total h at passed : ℕ) → Filled succ counts total h → length us ≤ 2048 → h < length us → Succeeds us ts rm h at passed
+      → succ' ≡ set succ h at → counts' ≡ set counts h passed → Filled succ' counts' (total + passed) (h + 1)
+  filled_step succ counts succ' counts' total h at passed F most lt G es ec = record {
     succ_size = ap length es ∙ length-set succ h at ∙ F.succ_size;
     counts_size = ap length ec ∙ length-set counts h passed ∙ F.counts_size;
     within = omega arith;
@@ -136,10 +114,10 @@ module _ (us : List Use) (ts : List ℕ) (rm : List Bool) where
           ap (λ m. sum_of (λ k. k) (map f (below m))) (add-one h) ∙ ap (λ l. sum_of (λ k. k) (map f l)) (below_snoc h)
           ∙ ap (sum_of (λ k. k)) (map_append f (below h) (h ∷ [])) ∙ sum_append (λ k. k) (map f (below h)) (f h ∷ []) ∙ ap (λ x. sum_of (λ k. k) (map f (below h)) + x) (sum_one (λ k. k) (f h))
 
-  pub filled_end : (succ counts : List ℕ) (total h n : ℕ) → n ≡ length us → n ≤ h → Filled succ counts total h
+  pub filled_end : (succ counts : List ℕ) (total h : ℕ) → Filled succ counts total h → length us ≤ h
       → (succ ≡ successors us ts rm) × (counts ≡ passed_counts us ts rm) × (total ≡ sum_of (λ k. k) counts)
   unfolding successors passed_counts
-  filled_end succ counts total h n en le F =
+  filled_end succ counts total h F le =
       let e : h ≡ length us = omega (arith, F.within) in
       let tables : counts ≡ map (passed_of us ts rm) (below (length us)) = table_is (passed_of us ts rm) counts (length us) 0 F.counts_size (λ i q. F.count i (omega arith)) in (
         table_is (successor_of us ts rm) succ (length us) 0 F.succ_size (λ i q. F.next i (omega arith)),

@@ -1,29 +1,16 @@
 -- Laws of one loop as the code walks it: from use to use, until the successor is the start.
-use Prim.Native.Nat.{ℕ, zero, suc, ◌+◌, ◌-◌, ◌<◌, ◌≤◌}
+use Prim.Native.Nat.{ℕ, suc, ◌+◌, ◌-◌, ◌<◌, ◌≤◌}
 use Rattle.std.proofs.Common.{add-one, subst, ◌∙◌, eq-eqb, ne_eqb}
 use native.Mathlib.Omega.{arith}
-use Rattle.std.specs.Prelude.{◌≡◌, Bool, get_or, set, eqb}
+use Rattle.std.specs.Prelude.{◌≡◌, Bool, set, eqb}
 use Rattle.std.proofs.Math.Path.{refl, sym, ap}
 use mathlib.Core.List.{List, [], ◌∷◌}
 use Rattle.std.proofs.Math.Bool.{true}
-use Rattle.std.proofs.Math.ListN.{length, length-set, get_or-eq_default}
+use Rattle.std.proofs.Math.ListN.{length, length-set}
 use Rattle.std.proofs.Math.Seq.{sets}
 use Rattle.lists.specs.Tests.{cond_true, cond_false}
-use Rattle.rules.specs.Job.{unset}
 use Rattle.rules.specs.Walk.{successor, Circuit, closes, never_closes, led_by, circuit, circuit_uses}
 use Rattle.walk.specs.Walks.{Closes, marked, Round}
-
--- within a table the successor is the entry; past its end the unset mark
-same_entry : (l : List ℕ) (i d e : ℕ) → i < length l → get_or l i d ≡ get_or l i e
-same_entry [] i d e h = absurd (omega arith)
-same_entry (x ∷ l) zero d e h = refl
-same_entry (x ∷ l) (suc i) d e h = same_entry l i d e (omega arith)
-
-pub successor_within : (ss : List ℕ) (h r : ℕ) → h < length ss → r ≡ get_or ss h 0 → r ≡ successor ss h
-successor_within ss h r lt e = e ∙ same_entry ss h 0 unset lt
-
-pub successor_past : (ss : List ℕ) (h : ℕ) → length ss ≤ h → 4294967295 ≡ successor ss h
-successor_past ss h le = sym (get_or-eq_default ss unset le)
 
 -- what closes after a use closes without it
 led_closes : (h : ℕ) (c : Circuit) → Closes (led_by h c) → Closes c × (circuit_uses (led_by h c) ≡ h ∷ circuit_uses c)
@@ -46,21 +33,6 @@ pub record Rounding (ss : List ℕ) (start at : ℕ) (seen₀ : List Bool) (ways
   pub ends : p + length (circuit_uses (circuit ss (at + length ss - p) start h)) ≡ at + length (circuit_uses (circuit ss (length ss) start start))
 
 module _ (ss : List ℕ) (start at : ℕ) (seen₀ : List Bool) (ways₀ : List ℕ) where
-  pub rounding_start : Closes (circuit ss (length ss) start start) → start < 4294967296 → Rounding ss start at seen₀ ways₀ seen₀ ways₀ start at
-  rounding_start cl fits =
-      let e : at + length ss - at ≡ length ss = omega arith in
-      record {
-        low = omega arith;
-        within = omega arith;
-        fits = fits;
-        seen_size = refl;
-        ways_size = refl;
-        closing = subst (λ m. Closes (circuit ss m start start)) (sym e) cl;
-        marks = ap (λ m. marked seen₀ (circuit_uses (circuit ss m start start))) e;
-        writes = ap (λ m. sets ways₀ at (circuit_uses (circuit ss m start start))) e;
-        ends = ap (λ m. at + length (circuit_uses (circuit ss m start start))) e;
-      }
-
   -- one use, then the rest of its loop, or nothing if its successor is the start
   last_use : (most h : ℕ) → successor ss h ≡ start → circuit ss (suc most) start h ≡ closes (h ∷ [])
   unfolding circuit
@@ -75,22 +47,23 @@ module _ (ss : List ℕ) (start at : ℕ) (seen₀ : List Bool) (ways₀ : List 
   no_uses h = refl
 
   module _ (seen : List Bool) (ways : List ℕ) (h p : ℕ) (R : Rounding ss start at seen₀ ways₀ seen ways h p) where
-    pub rounding_stop : (seen' : List Bool) (ways' : List ℕ) (g end : ℕ) → end ≡ at + length ss → p < end → seen' ≡ set seen h true → ways' ≡ set ways p h → g ≡ successor ss h → g ≡ start
+    pub rounding_stop : (seen' : List Bool) (ways' : List ℕ) (g : ℕ) → p < at + length ss → seen' ≡ set seen h true → ways' ≡ set ways p h → g ≡ successor ss h → g ≡ start
         → Round (circuit_uses (circuit ss (length ss) start start)) seen₀ ways₀ at seen' ways' (p + 1)
     unfolding marked
-    rounding_stop seen' ways' g end ee lt es ew eg back =
+    rounding_stop seen' ways' g lt es ew eg back =
         let q : at + length ss - p ≡ suc (at + length ss - (p + 1)) = omega arith in
-        let e : circuit_uses (circuit ss (at + length ss - p) start h) ≡ h ∷ [] = ap (λ m. circuit_uses (circuit ss m start h)) q ∙ ap circuit_uses (last_use (at + length ss - (p + 1)) h (sym eg ∙ back)) in
+        let e : circuit_uses (circuit ss (at + length ss - p) start h) ≡ h ∷ [] =
+        ap (λ m. circuit_uses (circuit ss m start h)) q ∙ ap circuit_uses (last_use (at + length ss - (p + 1)) h (sym eg ∙ back)) in
         record {
           marks = es ∙ sym (ap (marked seen) e) ∙ R.marks;
           writes = ew ∙ sym (ap (sets ways p) e) ∙ R.writes;
           ends = ap (λ (l : List ℕ). p + length l) (sym e) ∙ R.ends;
         }
 
-    pub rounding_on : (seen' : List Bool) (ways' : List ℕ) (g end : ℕ) → end ≡ at + length ss → p < end → seen' ≡ set seen h true → ways' ≡ set ways p h → g ≡ successor ss h → g < 4294967296 → (g ≡ start → ⊥)
+    pub rounding_on : (seen' : List Bool) (ways' : List ℕ) (g : ℕ) → p < at + length ss → seen' ≡ set seen h true → ways' ≡ set ways p h → g ≡ successor ss h → g < 4294967296 → (g ≡ start → ⊥)
         → Rounding ss start at seen₀ ways₀ seen' ways' g (p + 1)
     unfolding marked
-    rounding_on seen' ways' g end ee lt es ew eg fits away =
+    rounding_on seen' ways' g lt es ew eg fits away =
         let m : ℕ = at + length ss - (p + 1) in
         let q : at + length ss - p ≡ suc m = omega arith in
         let e : circuit ss (at + length ss - p) start h ≡ led_by h (circuit ss m start g) =
@@ -110,7 +83,7 @@ module _ (ss : List ℕ) (start at : ℕ) (seen₀ : List Bool) (ways₀ : List 
         }
 
     -- the looks are never spent
-    pub rounding_end : (end : ℕ) → end ≡ at + length ss → end ≤ p → ⊥
-    rounding_end end ee le =
+    pub rounding_end : at + length ss ≤ p → ⊥
+    rounding_end le =
         let q : at + length ss - p ≡ 0 = omega arith in
         never_closes_lem (subst Closes (ap (λ k. circuit ss k start h) q ∙ no_uses h) R.closing)

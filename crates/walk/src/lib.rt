@@ -13,6 +13,7 @@ use fields::{UNSET, get, is_set, put, put_flag};
 use uses::{count, use_next};
 
 // The use that passing over meets, or the unset mark, and how many uses it passed over.
+// No `Option`: the mark goes into the tables as it is, so the new form is no plainer.
 #[derive(Clone, Copy)]
 pub struct Passed {
     pub at: usize,
@@ -24,17 +25,13 @@ fn pass(uses: &[u32], twins: &[u32], removed: &[bool], from: usize) -> Passed
     requires { from < 4294967296 }
     ensures { Met (length (uses_in uses.now)) (pass_of (uses_in uses.now) twins.now removed.now (length (uses_in uses.now)) from 0) result.at result.passed }
 {
-    let n = count(uses);
     let mut h = from;
-    let mut k: usize = 0;
-    while k < n {
-        if is_set(removed, h) {
-            let t = get(twins, h);
-            h = use_next(uses, t);
-            k += 1;
-        } else {
+    for k in 0..count(uses) {
+        if !is_set(removed, h) {
             return Passed { at: h, passed: k };
         }
+        let t = get(twins, h);
+        h = use_next(uses, t);
     }
     Passed {
         at: UNSET,
@@ -43,6 +40,7 @@ fn pass(uses: &[u32], twins: &[u32], removed: &[bool], from: usize) -> Passed
 }
 
 // The successor and the passed count of a use; a removed use has none.
+#[tactic(auto, unfolding(rules::specs::Walk::successor_of, rules::specs::Walk::passed_of))]
 fn passing(uses: &[u32], twins: &[u32], removed: &[bool], h: usize) -> Passed
     ensures { Succeeds (uses_in uses.now) twins.now removed.now h result.at result.passed }
 {
@@ -67,15 +65,12 @@ pub fn successors(
     requires { (length (uses_in uses.now) ≤ 2048) × (length succ.old ≡ length (uses_in uses.now)) × (length passed.old ≡ length (uses_in uses.now)) }
     ensures { (succ.new ≡ successors_of (uses_in uses.now) twins.now removed.now) × (passed.new ≡ passed_counts (uses_in uses.now) twins.now removed.now) × (result ≡ sum_of (λ k. k) passed.new) }
 {
-    let n = count(uses);
-    let mut total: usize = 0;
-    let mut h: usize = 0;
-    while h < n {
+    let mut total = 0;
+    for h in 0..count(uses) {
         let p = passing(uses, twins, removed, h);
         put(succ, h, p.at);
         put(passed, h, p.passed);
         total += p.passed;
-        h += 1;
     }
     total
 }
@@ -98,17 +93,15 @@ fn walk_loop(succ: &[u32], start: usize, visited: &mut [bool], ways: &mut [u32],
 {
     let end = at + succ.len();
     let mut h = start;
-    let mut p = at;
-    while p < end {
+    for p in at..end {
         put(ways, p, h);
         put_flag(visited, h, true);
-        p += 1;
         h = successor(succ, h);
         if h == start {
-            return p;
+            return p + 1;
         }
     }
-    p
+    end
 }
 
 // How many loops there are so far, and where the next one's uses go.
@@ -131,10 +124,7 @@ fn walk_from(
     requires { Permuted (length succ.now) removed.now succ.now × (length succ.now ≤ 2048) × (h < length succ.now) × Walking removed.now succ.now h visited.old ways.old stretches.old so.count so.at }
     ensures { Walking removed.now succ.now (h + 1) visited.new ways.new stretches.new result.count result.at }
 {
-    if is_set(removed, h) {
-        return so;
-    }
-    if is_set(visited, h) {
+    if is_set(removed, h) || is_set(visited, h) {
         return so;
     }
     let end = walk_loop(succ, h, visited, ways, so.at);
@@ -154,15 +144,13 @@ fn walk_all(
     ways: &mut [u32],
     stretches: &mut [u32],
 ) -> usize
-    requires { Permuted (length succ.now) removed.now succ.now × (length succ.now ≤ 2048) × (visited.old ≡ unvisited (length succ.now)) × (length ways.old ≡ length succ.now) × (length stretches.old ≡ 2 * length succ.now) }
+    requires so_far { Permuted (length succ.now) removed.now succ.now × (length succ.now ≤ 2048) × (visited.old ≡ unvisited (length succ.now)) }
+    requires room { (length ways.old ≡ length succ.now) × (length stretches.old ≡ 2 * length succ.now) }
     ensures { (loops_in result ways.new stretches.new ≡ loops_of (circuits removed.now succ.now)) × (result ≤ length succ.now) × Following result ways.new stretches.new }
 {
-    let n = succ.len();
     let mut so = Reached { count: 0, at: 0 };
-    let mut h: usize = 0;
-    while h < n {
+    for h in 0..succ.len() {
         so = walk_from(removed, succ, visited, ways, stretches, h, so);
-        h += 1;
     }
     so.count
 }

@@ -53,7 +53,7 @@ returns-in-Radial c =
     let a = c.args in
     let half = c.half-k in
     let word = c.word-a in
-    let kind_of_here = c.kind_of-kind in
+    let kind_of_here = c.from-kind in
     read_one a.job.now a.at half.result kind_of_here.result c.about_one.result half.ensures.0 half.ensures.1 kind_of_here.ensures
     word.result word.ensures.0 word.ensures.1 (by_one half.result a.job.now (a.at + 6) kind_of_here.result
     c.in-Radial.is) c.about_one.ensures
@@ -64,7 +64,7 @@ returns-in-Points c =
     let half = c.half-k in
     let word = c.word-a in
     let word2 = c.word-b in
-    let kind_of_here = c.kind_of-kind in
+    let kind_of_here = c.from-kind in
     read_either a.job.now a.at half.result kind_of_here.result c.about_either.result half.ensures.0 half.ensures.1
     kind_of_here.ensures word.result word.ensures.0 word.ensures.1 word2.result word2.ensures.0 word2.ensures.1
     (by_either half.result a.job.now (a.at + 6) kind_of_here.result c.in-Points.is) c.about_either.ensures
@@ -75,7 +75,7 @@ returns-in-Inside c =
     let half = c.half-k in
     let word = c.word-a in
     let word2 = c.word-b in
-    let kind_of_here = c.kind_of-kind in
+    let kind_of_here = c.from-kind in
     read_two a.job.now a.at half.result kind_of_here.result c.about_two.result half.ensures.0 half.ensures.1 kind_of_here.ensures
     word.result word.ensures.0 word.ensures.1 word2.result word2.ensures.0 word2.ensures.1
     (by_two half.result a.job.now (a.at + 6) kind_of_here.result c.in-Inside.is) c.about_two.ensures
@@ -86,7 +86,7 @@ returns-in-Singular c =
     let half = c.half-k in
     let word = c.word-a in
     let word2 = c.word-b in
-    let kind_of_here = c.kind_of-kind in
+    let kind_of_here = c.from-kind in
     let word3 = c.word-c in
     read_four a.job.now a.at half.result kind_of_here.result (about_four half.result word.result word2.result word3.result
     c.word-d.result) half.ensures.0 half.ensures.1 kind_of_here.ensures word.result word.ensures.0 word.ensures.1
@@ -98,7 +98,7 @@ pub returns-in_default : goal.returns-in_default
 returns-in_default c =
     let a = c.args in
     let half = c.half-k in
-    let kind_of_here = c.kind_of-kind in
+    let kind_of_here = c.from-kind in
     let o = c.in_default in
     read_none a.job.now a.at half.result kind_of_here.result (about_none half.result) half.ensures.0 half.ensures.1
     kind_of_here.ensures (by_none half.result a.job.now (a.at + 6) kind_of_here.result o.not-Radial o.not-Surface o.not-Points

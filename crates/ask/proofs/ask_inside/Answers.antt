@@ -1,5 +1,4 @@
 use Rattle.ask.specs.ToldLaws.{put_as, told_as}
-use Rattle.ask.specs.Told.{told_of}
 use Rattle.answers.specs.QuestionLaws.{shaped_two}
 use Rattle.answers.specs.Question.{about_two}
 use Rattle.job.specs.Lists.{answers_in}
@@ -16,5 +15,5 @@ pub returns : goal.returns
 returns c =
     let a = c.args in
     let about_two_here = c.about_two in
-    told_as (answers_in a.job.now a.index.now a.c) (told_of c.ask_yes.result) about_two_here.result
+    told_as (answers_in a.job.now a.index.now a.c) c.ask_yes.result about_two_here.result
     (about_two 13 a.probe a.container) about_two_here.ensures c.ask_yes.ensures

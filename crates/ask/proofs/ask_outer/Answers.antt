@@ -1,5 +1,4 @@
 use Rattle.ask.specs.ToldLaws.{put_as, told_as}
-use Rattle.ask.specs.Told.{told_of}
 use Rattle.answers.specs.QuestionLaws.{shaped_one}
 use Rattle.answers.specs.Question.{about_one}
 use Rattle.job.specs.Lists.{answers_in}
@@ -16,5 +15,5 @@ pub returns : goal.returns
 returns c =
     let a = c.args in
     let about_one_here = c.about_one in
-    told_as (answers_in a.job.now a.index.now a.c) (told_of c.ask_yes.result) about_one_here.result (about_one 12 a.low)
+    told_as (answers_in a.job.now a.index.now a.c) c.ask_yes.result about_one_here.result (about_one 12 a.low)
     about_one_here.ensures c.ask_yes.ensures

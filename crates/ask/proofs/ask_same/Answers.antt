@@ -1,5 +1,4 @@
 use Rattle.ask.specs.ToldLaws.{put_as, same_equal, same_asked}
-use Rattle.ask.specs.Told.{told_of}
 use Rattle.answers.specs.QuestionLaws.{shaped_either, either_kind}
 use Rattle.answers.specs.Question.{about_either}
 use Rattle.job.specs.Lists.{answers_in}
@@ -23,5 +22,5 @@ pub returns : goal.returns
 returns c =
     let a = c.args in
     let about_either_here = c.about_either in
-    same_asked (answers_in a.job.now a.index.now a.c) a.kind a.a a.b (told_of c.ask_yes.result) about_either_here.result
+    same_asked (answers_in a.job.now a.index.now a.c) a.kind a.a a.b c.ask_yes.result about_either_here.result
     (ne_eqb _ _ c.if-a-b.false) about_either_here.ensures c.ask_yes.ensures

@@ -1,39 +1,26 @@
-use Rattle.ask.specs.ToldLaws.{told_missing, told_says, told_no, told_yes, told_undecided}
-use Rattle.answers.specs.Question.{key_of}
-use Rattle.rules.specs.Questions.{find}
-use Rattle.job.specs.Lists.{answers_in}
+use Rattle.std.proofs.Common.{sym, ap, ◌∙◌}
+use Rattle.rules.specs.Outcome.{Err}
+use Rattle.rules.specs.Questions.{decided}
+use Rattle.ask.specs.ToldLaws.{told_missing, told_says}
 use Rattle.ask.proofs.ask_yes.Goals as goal
 
 pub returns-in_default : goal.returns-in_default
 returns-in_default c =
-    let a = c.args in
-    let recorded = c.recorded in
-    told_missing a.q.kind (find (answers_in a.job.now a.index.now a.c) a.q.kind (key_of a.q)) recorded.result
-    recorded.ensures c.in_default.is
+    ap Err c.at.ensures ∙ told_missing _ _ (sym c.in_default.is ∙ c.recorded.ensures)
 
 pub returns-in-No : goal.returns-in-No
+unfolding decided
 returns-in-No c =
-    let a = c.args in
-    let recorded = c.recorded in
-    let told = c.in-Says in
-    told_says a.q.kind (find (answers_in a.job.now a.index.now a.c) a.q.kind (key_of a.q)) recorded.result
-    recorded.ensures told.v _ told.is
-    (told_no a.q.kind told.v c.in-No.is)
+    ap (decided c.args.q.kind) (sym c.in-No.is) ∙ told_says _ _ c.in-Some.v (sym c.in-Some.is ∙ c.recorded.ensures)
 
 pub returns-in-Yes : goal.returns-in-Yes
+unfolding decided
 returns-in-Yes c =
-    let a = c.args in
-    let recorded = c.recorded in
-    let told = c.in-Says in
-    told_says a.q.kind (find (answers_in a.job.now a.index.now a.c) a.q.kind (key_of a.q)) recorded.result
-    recorded.ensures told.v _ told.is
-    (told_yes a.q.kind told.v c.in-Yes.is)
+    ap (decided c.args.q.kind) (sym c.in-Yes.is) ∙ told_says _ _ c.in-Some.v (sym c.in-Some.is ∙ c.recorded.ensures)
 
 pub returns-in-Undecided : goal.returns-in-Undecided
+unfolding decided
 returns-in-Undecided c =
-    let a = c.args in
-    let recorded = c.recorded in
-    let told = c.in-Says in
-    told_says a.q.kind (find (answers_in a.job.now a.index.now a.c) a.q.kind (key_of a.q)) recorded.result
-    recorded.ensures told.v _ told.is
-    (told_undecided a.q.kind told.v c.in-Undecided.is)
+    ap Err c.at-in-Undecided.ensures
+    ∙ ap (decided c.args.q.kind) (sym c.in-Undecided.is)
+    ∙ told_says _ _ c.in-Some.v (sym c.in-Some.is ∙ c.recorded.ensures)

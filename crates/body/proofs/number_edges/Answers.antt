@@ -1,42 +1,25 @@
-use Rattle.edges.specs.Table.{rows_in}
+use Rattle.std.proofs.Common.{arith, sym, ◌∙◌}
 use Rattle.edges.specs.TableLaws.{length_rows}
-use mathlib.Core.Path.{sym, refl, subst, ◌∙◌}
-use Rattle.body.specs.Numbers.{Numbering, numbering_none}
-use Rattle.body.specs.Vertices.{active_none, active_all}
-use native.Mathlib.Omega.{arith}
+use Rattle.body.specs.Vertices.{active_start, active_few, numbered_active, numbered_other, active_all}
+use Rattle.body.proofs.number_edges.Goals.{then-edge_active, else-edge_active}
 use Rattle.body.proofs.number_edges.Goals as goal
 
 pub loop-e-init : goal.loop-e-init
-loop-e-init c = let a = c.args in (
-  omega arith,
-  refl,
-  subst (λ l. Numbering l a.numbers.now 0) (sym (active_none (rows_in a.rows.now)))
-      (numbering_none a.numbers.now c.requires.2),
-  refl,
-)
+loop-e-init c = active_start _ _ _ (c.fill.ensures.after (λ y e. e))
 
-pub number_edge-count-requires : goal.number_edge-count-requires
-number_edge-count-requires c = let a = c.args in
-    let l = c.loop-e in (
-      l.invariant.2,
-      omega (arith, length_rows a.rows.now, l.invariant.1, c.loop-e-test.true),
-      omega
-          (arith, l.invariant.1, c.loop-e-test.true, c.requires.0),
-      omega
-          (arith, l.invariant.1, l.invariant.3, c.loop-e-test.true, c.requires.1),
-    )
+pub overflow_add-count : goal.overflow_add-count
+overflow_add-count c = omega (arith, active_few _ c.loop-e.invariant, length_rows)
+
+pub put-requires : goal.put-requires
+put-requires c = omega (arith, active_few _ c.loop-e.invariant, length_rows)
 
 pub loop-e-preserved : goal.loop-e-preserved
 loop-e-preserved c =
-    let l = c.loop-e in (
-      omega (arith, l.invariant.1, c.loop-e-test.true),
-      l.invariant.1,
-      c.number_edge-count.ensures,
-      c.number_edge-count.auto.numbers ∙ l.invariant.3,
-    )
+    elim c.if-edge_active.branch [
+      | then-edge_active w ↦
+          rw (w.numbers-is, w.count-is, w.put.ensures) (numbered_active _ c.loop-e.invariant (omega (arith, length_rows)) (omega arith) (sym c.edge_active.ensures ∙ w.if-edge_active.true))
+      | else-edge_active w ↦ rw (w.numbers-is, w.count-is) (numbered_other _ c.loop-e.invariant (omega (arith, length_rows)) (sym c.edge_active.ensures ∙ w.if-edge_active.false))
+    ]
 
 pub returns : goal.returns
-returns c = let a = c.args in
-    let l = c.loop-e in
-    subst (λ m. Numbering m l.numbers l.count) (active_all (rows_in a.rows.now) l.e
-    (omega (arith, length_rows a.rows.now, l.invariant.0, l.invariant.1, c.loop-e-test.false))) l.invariant.2
+returns c = active_all _ c.loop-e.invariant (omega (arith, length_rows))

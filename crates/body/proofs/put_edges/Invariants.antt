@@ -1,16 +1,8 @@
 use Rattle.edges.specs.Table.{rows_in}
 use Rattle.rules.specs.Join.{edge_data_at}
-use mathlib.Core.Path.{◌≡◌}
-use Prim.Native.Nat.{◌-◌, ◌/◌, ◌≤◌}
-use lib.ListN.{length}
 use Rattle.body.specs.Rows.{edge_row}
 use Rattle.body.specs.Writing.{Rowed}
 use Rattle.body.proofs.put_edges.Given as goal
 
 abbrev pub invariant-loop-e : goal.invariant-loop-e
-invariant-loop-e l =
-    (l.e ≤ length l.rows / 7) × (l.n ≡ length l.rows / 7) × Rowed
-    (λ k. edge_row l.vertices l.count (edge_data_at (rows_in l.rows) k)) 22 l.initial.out l.at l.out l.p l.e
-
-abbrev pub decreases-loop-e : goal.decreases-loop-e
-decreases-loop-e l = l.n - l.e
+invariant-loop-e l = Rowed (λ k. edge_row l.vertices l.count (edge_data_at (rows_in l.rows) k)) 22 l.initial.out l.at l.out l.p l.e

@@ -1,16 +1,12 @@
-use Rattle.rules.specs.Frame.{framed_all}
-use Rattle.rules.specs.Body.{empty_body, body_records}
-use Rattle.body.specs.Writing.{ends_written, ends_short, wrote_as}
-use Rattle.body.specs.BodyLaws.{empty_is, empty_size}
+use Rattle.body.specs.BodyLaws.{empty_as, empty_size}
+use Rattle.body.specs.Writing.{ends_short, ends_written, wrote_as}
 use Rattle.body.proofs.put_empty.Goals as goal
 
-pub returns-then-out-lt34 : goal.returns-then-out-lt34
-returns-then-out-lt34 c =
-    let a = c.args in ends_short (framed_all (body_records empty_body)) a.out.now 34 empty_size c.if-out-lt34.true
+pub returns-in_err-fits : goal.returns-in_err-fits
+returns-in_err-fits c = ends_short _ _ _ c.fits.ensures empty_size _ c.in_err-fits.was c.from_residual.ensures.1
 
 pub returns : goal.returns
 returns c =
-    let a = c.args in
-    let x = c.put_totals in
-    ends_written (framed_all (body_records empty_body)) a.out.now x.new.out 34 x.result empty_size c.if-out-lt34.false
-    (wrote_as _ (framed_all (body_records empty_body)) a.out.now x.new.out 0 x.result empty_is x.ensures.0)
+    let h = c.default.ensures in
+    let none = empty_as c.default.result (λ i. record { uses = h.0 i; removed = h.1.0 i; passed = h.1.1.0 i; joins = h.1.1.1.0 i; rings = h.1.1.1.1.0 i; merges = h.1.1.1.1.1 i }) in
+    ends_written _ _ _ c.fits.ensures empty_size _ _ c.in_ok-fits.was (wrote_as _ _ _ _ _ _ none c.put_totals.ensures.0)

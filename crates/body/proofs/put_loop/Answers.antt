@@ -1,77 +1,50 @@
-use Prim.Native.Nat.{◌*◌, ◌-◌}
-use Rattle.body.specs.Writing.{after_head}
-use Rattle.body.specs.RowLaws.{loop_wrote, loop_skipped}
+use Rattle.std.proofs.Common.{arith}
+use Rattle.std.proofs.lemmas.Grind.{common_steps}
+use Rattle.body.specs.Writing.{length_head, wrote_record}
+use Rattle.body.specs.Rows.{loop_row, item_row}
+use Rattle.body.specs.Sized.{stretch_sized}
 use Rattle.stages_out.proofs.RowLaws.{part_short}
-use native.Mathlib.Omega.{arith}
+use Rattle.body.specs.RowLaws.{item_fields_lem}
+use Rattle.lists.specs.Stretches.{length_stretch}
+use Prim.Native.Nat.{◌-◌}
+use mathlib.Core.List.{flat_map}
+use Rattle.rules.specs.Frame.{framed}
+use Rattle.rules.specs.Body.{rec}
+use Rattle.fields.specs.Wrote.{Wrote}
+use Rattle.std.specs.Prelude.{◌≡◌, take, drop, length}
 use Rattle.body.proofs.put_loop.Goals as goal
 
 pub returns-then-get-f : goal.returns-then-get-f
-returns-then-get-f c =
-    let a = c.args in (
-      loop_skipped a.numbers.now a.count a.items.now a.stretches.now a.faces.now a.f a.out.now a.at a.k c.get.result
-          c.get.ensures.0 c.if-get-f.true,
-      omega arith,
-    )
+unfolding loop_row
+returns-then-get-f c = grind (arith, common_steps)
 
--- was overflow-mul-get: check which goal
 pub overflow_mul-k : goal.overflow_mul-k
-overflow_mul-k c = let z = c.requires.1 in omega (arith, z.few, c.requires.2)
+overflow_mul-k c = omega (arith, c.requires.1.few)
 
--- was overflow-mul-get-2: check which goal
 pub overflow_mul-k-2 : goal.overflow_mul-k-2
-overflow_mul-k-2 c = let z = c.requires.1 in omega (arith, z.few, c.requires.2)
+overflow_mul-k-2 c = omega (arith, c.requires.1.few)
 
 pub overflow_add-k : goal.overflow_add-k
-overflow_add-k c = let z = c.requires.1 in omega (arith, z.few, c.requires.2)
+overflow_add-k c = omega (arith, c.requires.1.few)
 
--- was overflow-sub-put-head: check which goal
 pub overflow_sub-e : goal.overflow_sub-e
-overflow_sub-e c = let a = c.args in
-    let z = c.requires.1 in
-    let order = z.laid.order a.k (omega (arith, z.room, c.requires.2)) in
-    let inside = z.laid.inside a.k (omega (arith, z.room, c.requires.2)) in
-    omega (arith, order, c.get-a.ensures.0, c.get-e.ensures.0)
+overflow_sub-e c = omega (arith, stretch_sized c.requires.1 c.requires.2)
 
--- was overflow-mul-put-head: check which goal
 pub overflow_mul-e : goal.overflow_mul-e
-overflow_mul-e c = let a = c.args in
-    let z = c.requires.1 in
-    let order = z.laid.order a.k (omega (arith, z.room, c.requires.2)) in
-    let inside = z.laid.inside a.k (omega (arith, z.room, c.requires.2)) in
-    omega (arith, inside, z.few_items, c.get-e.ensures.0)
+overflow_mul-e c = omega (arith, stretch_sized c.requires.1 c.requires.2)
 
 pub put_head-p-requires : goal.put_head-p-requires
-put_head-p-requires c = let a = c.args in
-    let z = c.requires.1 in
-    let order = z.laid.order a.k (omega (arith, z.room, c.requires.2)) in
-    let inside = z.laid.inside a.k (omega (arith, z.room, c.requires.2)) in
-    (omega (arith, c.requires.0), omega (arith, inside, z.few_items, c.get-e.ensures.0))
+put_head-p-requires c = (omega arith, omega (arith, stretch_sized c.requires.1 c.requires.2))
 
 pub put_items-requires : goal.put_items-requires
-put_items-requires c = let a = c.args in
-    let z = c.requires.1 in
-    let h = c.put_head-p in (
-      omega (
-        arith,
-        c.requires.0,
-        after_head a.out.now h.new.out a.at h.result 25 (2 * (c.get-e.result - c.get-a.result))
-            h.ensures,
-      ),
-      part_short a.items.now (c.get-e.result - c.get-a.result) c.get-a.result z.few_items,
-    )
+put_items-requires c = (omega (arith, length_head), part_short _ _ _ c.requires.1.few_items)
 
 pub returns : goal.returns
-returns c = let a = c.args in
-    let z = c.requires.1 in
-    let order = z.laid.order a.k (omega (arith, z.room, c.requires.2)) in
-    let inside = z.laid.inside a.k (omega (arith, z.room, c.requires.2)) in
-    let h = c.put_head-p in
-    let x = c.put_items in
-    let s = c.get-a in
-    let e = c.get-e in (
-      loop_wrote a.numbers.now a.count a.items.now a.stretches.now a.faces.now a.f a.out.now h.new.out x.new.out a.at
-          h.result x.result a.k c.get.result s.result e.result c.get.ensures.0 c.if-get-f.false s.ensures.0 e.ensures.0
-          (omega (arith, inside, e.ensures.0)) h.ensures x.ensures.0,
-      omega
-          (arith, x.ensures.1, after_head a.out.now h.new.out a.at h.result 25 (2 * (e.result - s.result)) h.ensures),
-    )
+unfolding loop_row
+returns c =
+    let stretch = stretch_sized c.requires.1 c.requires.2 in
+    let part = take (c.get-e.result - c.get-a.result) (drop c.get-a.result c.args.items.now) in
+    let size : length part ≡ c.get-e.result - c.get-a.result = length_stretch _ _ _ (omega (arith, stretch)) in
+    let wrote : Wrote c.args.out.now c.args.at (framed (rec 25 (flat_map (item_row c.args.numbers.now c.args.count) part))) c.put_items.new.out c.put_items.result =
+    wrote_record _ _ _ _ _ _ _ _ _ c.put_head-p.ensures (omega (arith, size, item_fields_lem c.args.numbers.now c.args.count part)) c.put_items.ensures.0 in
+    (grind (arith, common_steps, wrote), omega (arith, length_head))

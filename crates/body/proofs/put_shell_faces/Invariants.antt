@@ -1,12 +1,6 @@
-use Prim.Native.Nat.{◌-◌, ◌≤◌}
-use lib.ListN.{length}
 use Rattle.body.specs.Writing.{Rowed}
 use Rattle.body.specs.Rows.{shell_face_row}
 use Rattle.body.proofs.put_shell_faces.Given as goal
 
 abbrev pub invariant-loop-f : goal.invariant-loop-f
-invariant-loop-f l =
-    (l.f ≤ length l.members) × Rowed (shell_face_row l.boundaries l.members l.b) 4 l.initial.out l.at l.out l.p l.f
-
-abbrev pub decreases-loop-f : goal.decreases-loop-f
-decreases-loop-f l = length l.members - l.f
+invariant-loop-f l = Rowed (shell_face_row l.boundaries l.members l.b) 4 l.initial.out l.at l.out l.p l.f

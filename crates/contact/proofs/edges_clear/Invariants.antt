@@ -1,5 +1,4 @@
 use lib.ListN.{length}
-use Prim.Native.Nat.{◌-◌, ◌≤◌}
 use Rattle.rules.specs.Contact.{edge_touches}
 use Rattle.contact.specs.Stamps.{Stale}
 use Rattle.contact.specs.ClearLaws.{NoneBelow}
@@ -9,8 +8,5 @@ use Rattle.contact.proofs.edges_clear.Given as goal
 
 abbrev pub invariant-loop-e : goal.invariant-loop-e
 invariant-loop-e l =
-    (l.e ≤ length l.firsts) × (length l.stamps ≡ 256) × Stale l.stamps l.e × NoneBelow
+    (length l.stamps ≡ 256) × Stale l.stamps l.e × NoneBelow
     (edge_touches (uses_in l.uses) l.twins l.labels) l.e
-
-abbrev pub decreases-loop-e : goal.decreases-loop-e
-decreases-loop-e l = length l.firsts - l.e

@@ -1,5 +1,4 @@
 use lib.ListN.{length}
-use Prim.Native.Nat.{◌-◌, ◌≤◌}
 use mathlib.Core.Path.{◌≡◌}
 use Rattle.uses.specs.Table.{uses_in}
 use Rattle.contact.specs.ContactLaws.{LowestAt}
@@ -8,9 +7,6 @@ use Rattle.contact.proofs.points_chained.Given as goal
 
 abbrev pub invariant-loop-k : goal.invariant-loop-k
 invariant-loop-k l =
-    (l.k ≤ length l.names) × (length l.heads ≡ length l.initial.heads) × (length l.nexts ≡ length l.initial.nexts) ×
+    (length l.heads ≡ length l.initial.heads) × (length l.nexts ≡ length l.initial.nexts) ×
     Bucketed (length l.heads) l.starts l.names l.heads l.nexts l.k × LowestAt (uses_in l.uses) l.starts l.labels
     l.names l.k l.lowest
-
-abbrev pub decreases-loop-k : goal.decreases-loop-k
-decreases-loop-k l = length l.names - l.k

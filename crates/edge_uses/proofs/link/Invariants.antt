@@ -1,14 +1,9 @@
+use Rattle.std.proofs.Common.{◌≡◌, length, take}
 use Rattle.edge_uses.specs.Links.{Linked}
 use Rattle.uses.specs.Table.{uses_in}
-use lib.ListN.{length, take}
-use mathlib.Core.Path.{◌≡◌}
-use Prim.Native.Nat.{◌-◌, ◌≤◌}
 use Rattle.edge_uses.proofs.link.Given as goal
 
 abbrev pub invariant-loop-h : goal.invariant-loop-h
 invariant-loop-h l =
-    (l.h ≤ length l.initial.nexts) × (length l.firsts ≡ length l.initial.firsts) ×
-    (length l.nexts ≡ length l.initial.nexts) × Linked (take l.h (uses_in l.uses)) l.firsts (take l.h l.nexts)
-
-abbrev pub decreases-loop-h : goal.decreases-loop-h
-decreases-loop-h l = length l.initial.nexts - l.h
+    (length l.firsts ≡ length l.initial.firsts) × (length l.nexts ≡ length l.initial.nexts)
+    × Linked (take l.h (uses_in l.uses)) l.firsts (take l.h l.nexts)

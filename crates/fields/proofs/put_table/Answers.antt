@@ -1,3 +1,4 @@
+use borrow.Author.Rules.{rules}
 use mathlib.Core.Path.{◌≡◌, refl, ap, subst, ◌∙◌}
 use lib.ListN.{length, take}
 use lib.Seq.{take-length}
@@ -18,7 +19,7 @@ loop-i-preserved c =
     let a = c.args in
     let l = c.loop-i in
     let w = c.put_word-p in (
-      c.out-1.given ∙ l.invariant.0,
+      search rules,
       tabled_step a.out.now a.at a.t.now l.out w.new.out l.p l.i c.get.result w.result l.invariant.1 c.loop-i-test.true
           c.get.ensures.0 w.ensures,
     )

@@ -7,7 +7,7 @@ use Rattle.job.proofs.edge_sense.Goals as goal
 pub returns-then-e-c : goal.returns-then-e-c
 unfolding edge_in
 returns-then-e-c c =
-    c.sense_of.ensures ∙ ap sense_of c.word.ensures.0 ∙ sym
+    c.from.ensures ∙ ap sense_of c.word.ensures.0 ∙ sym
     (ap (λ e. e.sense) (edges_at c.args.job.now c.args.c c.args.e c.if-e-c.true))
 
 pub returns : goal.returns

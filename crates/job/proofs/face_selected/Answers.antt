@@ -9,7 +9,7 @@ use Rattle.job.proofs.face_selected.Goals as goal
 pub returns-then-f-c : goal.returns-then-f-c
 unfolding face_in
 returns-then-f-c c =
-    c.sense_of.ensures ∙ ap sense_of (c.word.ensures.0 ∙ ap (λ p. le32 c.args.job.now (p + 14)) c.get.ensures.0) ∙ sym
+    c.from.ensures ∙ ap sense_of (c.word.ensures.0 ∙ ap (λ p. le32 c.args.job.now (p + 14)) c.get.ensures.0) ∙ sym
     (ap (λ f. f.selected) (faces_at c.args.job.now c.args.index.now c.args.c c.args.f c.if-f-c.true))
 
 pub returns : goal.returns

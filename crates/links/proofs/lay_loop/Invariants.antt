@@ -1,14 +1,10 @@
-use mathlib.Core.Path.{◌≡◌}
-use Prim.Native.Nat.{◌-◌}
-use lib.ListN.{length}
-use lib.Seq.{sets}
+use Rattle.std.specs.Prelude.{◌≡◌, ◌-◌, length}
+use Rattle.std.proofs.lemmas.List.Edits.{sets}
 use Rattle.links.specs.Tables.{follow, codes_at}
 use Rattle.links.proofs.lay_loop.Given as goal
 
-abbrev pub invariant-loop-i : goal.invariant-loop-i
-invariant-loop-i l =
-    (l.n ≡ length l.initial.part) × (sets l.part l.i (codes_at l.list (follow l.nexts l.p (l.n - l.i))) ≡ sets
-    l.initial.part 0 (codes_at l.list (follow l.nexts l.head (l.n - 0)))) × (length l.part ≡ length l.initial.part)
-
-abbrev pub decreases-loop-i : goal.decreases-loop-i
-decreases-loop-i l = l.n - l.i
+-- what is left to store now gives what all of it gave at first
+abbrev pub invariant-loop-x : goal.invariant-loop-x
+invariant-loop-x l =
+    sets l.part l.x-index (codes_at l.list (follow l.nexts l.p (length l.initial.part - l.x-index)))
+    ≡ sets l.initial.part 0 (codes_at l.list (follow l.nexts l.head (length l.initial.part - 0)))

@@ -1,48 +1,33 @@
-use Rattle.maximal_edges.specs.Hung.{can_link, linked_start}
-use lib.ListN.{length-take}
-use Prim.Native.Nat.{◌*◌}
+use Rattle.maximal_edges.specs.ChangeLaws.{count_edges}
+use Rattle.maximal_edges.specs.Hung.{hung_start}
+use Rattle.maximal_edges.specs.Joined.{edges_in}
+use Rattle.links.specs.Lay.{laid_same}
+use Rattle.links.specs.Spread.{sound_linkable}
+use Rattle.links.specs.Tables.{links_of}
 use native.Mathlib.Omega.{arith}
 use Rattle.maximal_edges.proofs.join_with.Goals as goal
-
-pub count_ends-requires : goal.count_ends-requires
-count_ends-requires c =
-    let a = c.args in
-    (omega (arith, length-take (7 * a.count) a.rows.now, c.requires.2), c.requires.6)
-
-pub rank-requires : goal.rank-requires
-rank-requires c =
-    let pre = c.requires in
-    (pre.4, omega (arith, pre.7, pre.6.size), λ v m. omega (arith, pre.5 v m, pre.7))
 
 pub link_loops-requires : goal.link_loops-requires
 link_loops-requires c =
     let a = c.args in
-    let pre = c.requires in (
-      can_link a.rows.now a.count a.items.now a.stretches.now a.list.now a.nexts.now a.heads.now a.owners.now a.spots.now
-          (omega (arith, pre.1)) pre.3 pre.8,
-      pre.8.heads_fit,
-      pre.8.short,
+    let fit = c.requires.links_fit in (
+      sound_linkable (edges_in a.rows.now a.count) a.items.now a.stretches.now c.requires.laid fit.sound a.list.now
+          a.nexts.now a.owners.now a.spots.now fit.codes_fit fit.nexts_fit fit.owners_fit
+          (omega (arith, fit.spots_fit, count_edges a.rows.now a.count (omega (arith, c.requires.room)))),
+      fit.heads_fit,
+      fit.short,
     )
 
-pub join_all-requires : goal.join_all-requires
-join_all-requires c =
+pub join_all-requires-clause-hung : goal.join_all-requires-clause-hung
+join_all-requires-clause-hung c =
     let a = c.args in
-    let pre = c.requires in
-    let start = linked_start a.rows.now a.count a.items.now a.stretches.now a.list.now a.nexts.now a.heads.now
-    a.owners.now a.spots.now (omega (arith, pre.1)) pre.3 pre.8 c.link_loops.new.list c.link_loops.new.nexts
-    c.link_loops.new.heads c.link_loops.new.owners c.link_loops.new.spots c.link_loops.auto.spots
-    c.link_loops.ensures in (
-      pre.0,
-      pre.1,
-      pre.2,
-      pre.3,
-      c.count_ends.ensures,
-      pre.4,
-      λ v m. omega (arith, pre.5 v m, c.count_ends.auto.ends),
-      c.rank.ensures,
-      start.0,
-      start.1,
-    )
+    let t = c.link_loops.new in
+    hung_start (edges_in a.rows.now a.count) a.items.now (links_of t.list t.nexts t.heads t.owners t.spots a.stretches.now)
+    c.link_loops.ensures c.requires.links_fit.sound
+    (omega (arith, c.link_loops.auto.spots, c.requires.links_fit.spots_fit, count_edges a.rows.now a.count (omega (arith, c.requires.room))))
 
-pub returns : goal.returns
-returns c = c.join_all.ensures
+pub join_all-requires-clause-linked : goal.join_all-requires-clause-linked
+join_all-requires-clause-linked c =
+    let t = c.link_loops.new in
+    laid_same (links_of t.list t.nexts t.heads t.owners t.spots c.args.stretches.now) c.args.items.now c.requires.laid
+    c.link_loops.ensures.same

@@ -1,11 +1,6 @@
 use Rattle.merge_faces.specs.Removing.{Removing}
 use Rattle.uses.specs.Table.{uses_in}
-use lib.ListN.{length}
-use Prim.Native.Nat.{◌-◌}
 use Rattle.merge_faces.proofs.remove.Given as goal
 
 abbrev pub invariant-loop-h : goal.invariant-loop-h
 invariant-loop-h l = Removing (uses_in l.uses) l.twins l.groups l.removed l.gone l.h
-
-abbrev pub decreases-loop-h : goal.decreases-loop-h
-decreases-loop-h l = length l.initial.removed - l.h

@@ -1,54 +1,23 @@
+use Rattle.std.proofs.Common.{sym, ap, ◌∙◌}
+use Rattle.rules.specs.Outcome.{Err}
+use Rattle.rules.proofs.OutcomeLaws.{hands_on, bind_stop}
 use Rattle.pair.specs.EdgeLaws.{round_refused, round_other, round_lacks, round_on}
-use Rattle.ask.specs.Told.{Order32}
-use Rattle.job.specs.Lists.{answers_in}
-use Rattle.uses.specs.Table.{uses_in}
-use native.Mathlib.Omega.{arith}
-use mathlib.Core.Path.{◌∙◌, subst}
 use Rattle.pair.proofs.pair_round.Goals as goal
+use Rattle.pair.proofs.pair_round.Goals.{then-order-k-via-then-order-k, then-order-k-via-else-order-k+then-not-has_all}
 
-pub ask_radial-o-requires : goal.ask_radial-o-requires
-ask_radial-o-requires c = (c.requires.0, omega arith)
+pub returns-in_err-order : goal.returns-in_err-order
+returns-in_err-order c = bind_stop _ (hands_on c.from_residual.result c.from_residual.ensures.1) ∙ sym (round_refused _ _ _ _ _ c.in_err-order.ensures.0)
 
-pub returns-then-n-k : goal.returns-then-n-k
-returns-then-n-k c =
-    let a = c.args in
-    let ask_radial_call = c.ask_radial-o in
-    round_other a.job.now (answers_in a.job.now a.index.now a.c) (uses_in a.uses.now) a.e a.twins.now
-    ask_radial_call.result ask_radial_call.ensures.0 _ _ c.in-Uses.is a.k c.requires.4 c.if-n-k.true
+pub returns-then-order-k : goal.returns-then-order-k
+returns-then-order-k c =
+    let o = c.in_ok-order in
+    ap Err c.at.ensures ∙ elim c.then-order-k.branch [
+      | then-order-k-via-then-order-k w ↦ round_other _ _ _ _ c.args.job.now o.order o.ensures.0 _ c.requires.4 w.if-order-k.true
+      | then-order-k-via-else-order-k+then-not-has_all w ↦
+          round_lacks _ _ _ _ c.args.job.now o.order o.ensures.0 _ _ c.requires.1 c.requires.2 _ w.has_all.ensures w.if-not-has_all.true
+    ]
 
-pub has_all-requires : goal.has_all-requires
-has_all-requires c =
-    let small = subst Order32 c.in-Uses.is c.ask_radial-o.ensures.1 in
-    (small.0, small.1, c.requires.1.falling)
-
-pub take_predecessors-requires : goal.take_predecessors-requires
-take_predecessors-requires c =
-    let small = subst Order32 c.in-Uses.is c.ask_radial-o.ensures.1 in
-    (small.0, small.1, omega arith)
-
-pub returns-then-has_all : goal.returns-then-has_all
-returns-then-has_all c =
-    let a = c.args in
-    let pre = c.requires in
-    let ask_radial_call = c.ask_radial-o in
-    let has_all_call = c.has_all in
-    c.take_predecessors.ensures ∙ round_on a.job.now (answers_in a.job.now a.index.now a.c) (uses_in a.uses.now) a.e
-    a.twins.now ask_radial_call.result ask_radial_call.ensures.0 _ _ c.in-Uses.is a.firsts.now a.nexts.now pre.1
-    pre.2 has_all_call.result has_all_call.ensures c.if-has_all.true a.k pre.4 c.if-n-k.false
-
-pub returns-in-Refused : goal.returns-in-Refused
-returns-in-Refused c =
-    let a = c.args in
-    let ask_radial_call = c.ask_radial-o in
-    round_refused a.job.now (answers_in a.job.now a.index.now a.c) (uses_in a.uses.now) a.e a.twins.now
-    ask_radial_call.result ask_radial_call.ensures.0 _ _ c.in-Refused.is
-
-pub returns-else-has_all : goal.returns-else-has_all
-returns-else-has_all c =
-    let a = c.args in
-    let pre = c.requires in
-    let ask_radial_call = c.ask_radial-o in
-    let has_all_call = c.has_all in
-    round_lacks a.job.now (answers_in a.job.now a.index.now a.c) (uses_in a.uses.now) a.e a.twins.now
-    ask_radial_call.result ask_radial_call.ensures.0 _ _ c.in-Uses.is a.firsts.now a.nexts.now pre.1 pre.2
-    has_all_call.result has_all_call.ensures c.if-has_all.false
+pub returns : goal.returns
+returns c =
+    c.take_predecessors.ensures
+    ∙ round_on _ _ _ _ c.args.job.now c.in_ok-order.order c.in_ok-order.ensures.0 _ _ c.requires.1 c.requires.2 _ c.has_all.ensures c.if-not-has_all.false _ c.requires.4 c.if-order-k.false

@@ -1,57 +1,30 @@
-use Rattle.pair.specs.PairLaws.{order_on, order_stop, order_done}
-use Rattle.pair.specs.OrderLaws.{rest_all, last_is}
-use Rattle.rules.specs.Pair.{take_predecessors, last_of}
-use lib.ListN.{drop}
+use Rattle.std.proofs.Common.{arith, sym, ◌∙◌}
+use Rattle.rules.proofs.OutcomeLaws.{hands_on, bind_stop}
+use Rattle.rules.specs.Pair.{take_predecessors}
 use Rattle.uses.specs.Table.{uses_in}
-use Rattle.rules.specs.Fields.{fields_in}
-use native.Mathlib.Omega.{arith}
-use mathlib.Core.Path.{refl, sym, ◌∙◌}
+use Rattle.pair.specs.OrderLaws.{rest_all, last_is}
+use Rattle.pair.specs.PairLaws.{order_on, order_stop, order_done}
 use Rattle.pair.proofs.take_predecessors.Goals as goal
 
 pub loop-i-init : goal.loop-i-init
 loop-i-init c =
-    let a = c.args in
-    let order = fields_in a.n (drop a.from a.job.now) in (
-      omega arith,
+    let a = c.args in (
       c.word-p.ensures.1,
-      refl,
       (λ i. take_predecessors (uses_in a.uses.now) a.e
           ((last_is a.job.now a.from a.n c.requires.2 ∙ sym c.word-p.ensures.0) i) (rest_all a.job.now a.from a.n i)
           a.twins.now),
     )
 
-pub returns-in-Refused : goal.returns-in-Refused
-returns-in-Refused c =
-    let a = c.args in
-    let l = c.loop-i in
-    let word2_call = c.word-h in
-    let take_predecessor_call = c.take_predecessor-r in
-    order_stop a.job.now a.from a.n l.i (uses_in a.uses.now) a.e l.p word2_call.result l.twins
-    take_predecessor_call.new.twins take_predecessor_call.result
-    (take_predecessors (uses_in a.uses.now) a.e (last_of 0 (fields_in a.n (drop a.from a.job.now)))
-    (fields_in a.n (drop a.from a.job.now)) a.twins.now) l.invariant.3 c.loop-i-test.true word2_call.ensures.0
-    take_predecessor_call.ensures _ _ c.in-Refused.is
+pub returns-in_err-take_predecessor : goal.returns-in_err-take_predecessor
+returns-in_err-take_predecessor c =
+    bind_stop _ (hands_on c.from_residual.result c.from_residual.ensures.1)
+    ∙ sym (order_stop _ _ _ _ _ _ _ _ _ _ _ _ c.loop-i.invariant.1 (omega arith) c.word-h.ensures.0 c.take_predecessor.ensures _ c.in_err-take_predecessor.was)
 
 pub loop-i-preserved : goal.loop-i-preserved
-loop-i-preserved c =
-    let a = c.args in
-    let l = c.loop-i in
-    let word2_call = c.word-h in
-    let take_predecessor_call = c.take_predecessor-r in (
-      omega arith,
-      word2_call.ensures.1,
-      c.twins-1.given ∙ l.invariant.2,
-      order_on a.job.now a.from a.n l.i
-          (uses_in a.uses.now) a.e l.p word2_call.result l.twins take_predecessor_call.new.twins
-          take_predecessor_call.result (take_predecessors (uses_in a.uses.now) a.e
-          (last_of 0 (fields_in a.n (drop a.from a.job.now))) (fields_in a.n (drop a.from a.job.now)) a.twins.now)
-          l.invariant.3 c.loop-i-test.true word2_call.ensures.0 take_predecessor_call.ensures c.in-Done.is,
-    )
+loop-i-preserved c = (
+  c.word-h.ensures.1,
+  order_on _ _ _ _ _ _ _ _ _ _ _ _ c.loop-i.invariant.1 (omega arith) c.word-h.ensures.0 c.take_predecessor.ensures _ c.in_ok-take_predecessor.was,
+)
 
 pub returns : goal.returns
-returns c =
-    let a = c.args in
-    let l = c.loop-i in
-    order_done a.job.now a.from a.n l.i (uses_in a.uses.now) a.e l.p l.twins
-    (take_predecessors (uses_in a.uses.now) a.e (last_of 0 (fields_in a.n (drop a.from a.job.now)))
-    (fields_in a.n (drop a.from a.job.now)) a.twins.now) l.invariant.3 c.loop-i-test.false
+returns c = order_done _ _ _ _ _ _ _ _ _ c.loop-i.invariant.1 (omega arith)

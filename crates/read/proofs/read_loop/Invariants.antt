@@ -3,13 +3,9 @@ use Rattle.read.specs.Items.{items_in}
 use Rattle.rules.specs.Read.{traversed, loop_uses}
 use lib.ListN.{length}
 use mathlib.Core.Path.{◌≡◌}
-use Prim.Native.Nat.{◌-◌, ◌≤◌}
 use Rattle.read.proofs.read_loop.Given as goal
 
 abbrev pub invariant-loop-i : goal.invariant-loop-i
 invariant-loop-i l =
-    (l.i ≤ l.n) × (length l.uses ≡ length l.initial.uses) × Seated l.initial.uses l.uses l.first l.i
+    (length l.uses ≡ length l.initial.uses) × Seated l.initial.uses l.uses l.first l.i
     (loop_uses l.face l.first l.first (traversed l.selected (items_in l.job l.at l.n)))
-
-abbrev pub decreases-loop-i : goal.decreases-loop-i
-decreases-loop-i l = l.n - l.i

@@ -5,5 +5,5 @@ use Rattle.rebuild.proofs.clear_linked.Goals as goal
 
 pub returns : goal.returns
 returns c =
-    c.edges_clear.ensures ∙ ap (edges_clear c.args.number (uses_in c.args.uses.now) c.args.twins.now c.args.labels.now)
+    c.edges_clear.ensures ∙ ap (edges_clear c.args.fault (uses_in c.args.uses.now) c.args.twins.now c.args.labels.now)
     c.link.auto.firsts

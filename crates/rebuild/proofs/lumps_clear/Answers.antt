@@ -1,3 +1,4 @@
+use Rattle.rules.proofs.OutcomeLaws.{hands_on}
 use mathlib.Core.Path.{sym, ◌∙◌}
 use Rattle.progress.specs.Parts.{zeros, part_size}
 use Rattle.rebuild.specs.Lumped.{lumped_cut, lumped_few, lumped_low, lumped_refused, lumped_on}
@@ -21,16 +22,16 @@ clear_edges-requires c = (
       c.lump_labels.ensures,
 )
 
-pub returns-in-Refused : goal.returns-in-Refused
+pub returns-in_err-points_clear : goal.returns-in_err-points_clear
 unfolding zeros
-returns-in-Refused c =
-    lumped_refused c.requires c.lump_labels.new.labels c.lump_labels.auto.labels c.lump_labels.ensures c.args.twins.now
-    c.args.starts.now c.points_clear-t.result c.in-Refused.number c.in-Refused.place c.points_clear-t.ensures
-    c.in-Refused.is
+returns-in_err-points_clear c =
+    hands_on c.from_residual.result c.from_residual.ensures.1
+    ∙ lumped_refused c.requires c.lump_labels.new.labels c.lump_labels.auto.labels c.lump_labels.ensures
+    c.args.twins.now c.args.starts.now c.points_clear.result _ c.points_clear.ensures c.in_err-points_clear.was
 
-pub returns-in-Done : goal.returns-in-Done
+pub returns : goal.returns
 unfolding zeros
-returns-in-Done c =
+returns c =
     lumped_on c.requires c.lump_labels.new.labels c.lump_labels.auto.labels c.lump_labels.ensures c.args.twins.now
-    c.args.starts.now c.points_clear-t.result c.clear_edges.result c.points_clear-t.ensures c.in-Done.is
+    c.args.starts.now c.points_clear.result c.clear_edges.result c.points_clear.ensures c.in_ok-points_clear.was
     c.clear_edges.ensures

@@ -1,3 +1,5 @@
+use Rattle.std.proofs.Common.{sym, ◌∙◌}
+use Rattle.rules.proofs.OutcomeLaws.{hands_on}
 use lib.ListN.{length}
 use Rattle.uses.specs.Table.{uses_in}
 use Rattle.rebuild.specs.Sizes.{spare_same, names_low}
@@ -5,67 +7,45 @@ use Rattle.maximal_edges.specs.Joined.{state_in}
 use Rattle.rebuild.specs.JoinExits.{joined_tables, edges_written, edges_refused, edges_joined}
 use Rattle.rebuild.proofs.on_edged.Goals as goal
 
-pub returns-then-stage-eq-EDGES : goal.returns-then-stage-eq-EDGES
-returns-then-stage-eq-EDGES c =
+pub returns-then-is_asked : goal.returns-then-is_asked
+returns-then-is_asked c =
     let a = c.args in
-    let written = c.write_joining in
+    let asked = sym c.is_asked.ensures ∙ c.if-is_asked.true in
     let state = state_in a.rows.now a.count a.items.now a.stretches.now a.faces.now 0 0 in
-    λ f H. edges_written a.job.now a.index.now H a.stage a.out.now state written.new.out written.result
-    c.if-stage-eq-EDGES.true written.ensures
-
-pub maximal_edges-r-requires : goal.maximal_edges-r-requires
-maximal_edges-r-requires c = (
-  c.requires.0.indexed,
-  c.requires.3,
-  c.requires.2,
-  c.requires.1.laid,
-  c.requires.0.nodup,
-  names_low c.requires.0,
-  c.requires.5,
-)
+    λ f H. edges_written a.job.now a.index.now H a.stage a.out.now state c.write_joining.new.out c.write_joining.result
+    asked c.write_joining.ensures
 
 pub on_joined-requires : goal.on_joined-requires
 on_joined-requires c =
     let a = c.args in
     let pre = c.requires in
-    let run = c.maximal_edges-r in
-    let rows = run.new.rows in
-    let items = run.new.items in
-    let stretches = run.new.stretches in
+    let run = c.maximal_edges in
     let tables =
-    joined_tables a.job.now a.index.now a.c a.starts.now a.names.now a.rows.now rows a.count a.items.now items
-    a.stretches.now stretches a.faces.now run.result
-    c.in-Done.k (names_low pre.0) pre.1 run.auto.items run.auto.stretches
-    (run.ensures.0 a.faces.now pre.1.loops) run.ensures.1 c.in-Done.is in (
+    joined_tables a.job.now a.index.now a.c a.starts.now a.names.now a.rows.now run.new.rows a.count a.items.now
+    run.new.items a.stretches.now run.new.stretches a.faces.now run.result c.in_ok-k.k (names_low pre.0) pre.1
+    run.auto.items run.auto.stretches (run.ensures.run a.faces.now pre.1.loops) run.ensures.fitting c.in_ok-k.was in (
       pre.0,
       tables,
-      spare_same (length (uses_in a.uses.now)) a.rows.now rows a.numbers.now a.vertices.now pre.4
-          run.auto.rows,
+      spare_same (length (uses_in a.uses.now)) a.rows.now run.new.rows a.numbers.now a.vertices.now pre.4 run.auto.rows,
     )
 
-pub returns-in-Refused : goal.returns-in-Refused
-returns-in-Refused c =
+pub returns-in_err-k : goal.returns-in_err-k
+returns-in_err-k c =
     let a = c.args in
-    let run = c.maximal_edges-r in
+    let run = c.maximal_edges in
+    let other = sym c.is_asked.ensures ∙ c.if-is_asked.false in
     let state = state_in a.rows.now a.count a.items.now a.stretches.now a.faces.now 0 0 in
-    let rows = run.new.rows in
-    let items = run.new.items in
-    let stretches = run.new.stretches in
-    let ran = run.ensures.0 a.faces.now c.requires.1.loops in
-    λ f H. edges_refused a.job.now a.index.now H a.stage a.out.now state rows items stretches a.faces.now run.result ran
-    c.if-stage-eq-EDGES.false
-    c.in-Refused.number c.in-Refused.place c.in-Refused.is
+    λ f H. edges_refused a.job.now a.index.now H a.stage a.out.now state run.new.rows run.new.items run.new.stretches
+    a.faces.now run.result (run.ensures.run a.faces.now c.requires.1.loops) other _ c.from_residual.result
+    c.in_err-k.was (hands_on c.from_residual.result c.from_residual.ensures.1)
 
-pub returns-in-Done : goal.returns-in-Done
-returns-in-Done c =
+pub returns : goal.returns
+returns c =
     let a = c.args in
-    let run = c.maximal_edges-r in
+    let run = c.maximal_edges in
     let next = c.on_joined in
+    let other = sym c.is_asked.ensures ∙ c.if-is_asked.false in
     let state = state_in a.rows.now a.count a.items.now a.stretches.now a.faces.now 0 0 in
-    let rows = run.new.rows in
-    let items = run.new.items in
-    let stretches = run.new.stretches in
-    let ran = run.ensures.0 a.faces.now c.requires.1.loops in
-    λ f H. edges_joined a.job.now a.index.now H a.stage a.out.now state rows items stretches a.faces.now run.result ran
-    c.if-stage-eq-EDGES.false
-    c.in-Done.k next.new.out next.result c.in-Done.is (next.ensures f H)
+    λ f H. edges_joined a.job.now a.index.now H a.stage a.out.now state run.new.rows run.new.items run.new.stretches
+    a.faces.now run.result (run.ensures.run a.faces.now c.requires.1.loops) other c.in_ok-k.k next.new.out next.result
+    c.in_ok-k.was (next.ensures f H)

@@ -6,8 +6,8 @@ use Rattle.replay.proofs.requests.Goals as goal
 pub loop-p-init : goal.loop-p-init
 loop-p-init c = (refl, omega arith)
 
-pub overflow_sub-end : goal.overflow_sub-end
-overflow_sub-end c = let w = rw c.in-At.is at c.loop_stretch-stretch.ensures.1 in omega (arith, w.0, w.1)
+pub overflow_sub-bytes : goal.overflow_sub-bytes
+overflow_sub-bytes c = omega (arith, c.in-Ok.ensures.within.0)
 
 pub overflow_add-n : goal.overflow_add-n
 overflow_add-n c = omega (arith, c.loop-p.invariant.1, c.loop-p-test.true)

@@ -4,8 +4,5 @@ use Prim.Native.Nat.{◌-◌, ◌≤◌}
 use mathlib.Core.Path.{◌≡◌}
 use Rattle.replay.proofs.run_answers.Given as goal
 
-abbrev pub invariant-loop-i : goal.invariant-loop-i
-invariant-loop-i g l = (length l.out ≡ length l.initial.out) × Counted l.t × (l.t.at ≤ length l.bytes)
-
-abbrev pub decreases-loop-i : goal.decreases-loop-i
-decreases-loop-i g l = l.count - l.i
+abbrev pub invariant-loop : goal.invariant-loop
+invariant-loop g l = (length l.out ≡ length l.initial.out) × Counted l.t × (l.t.at ≤ length l.bytes)

@@ -10,7 +10,7 @@ put_two-q-requires c =
     omega (
       arith,
       c.requires,
-      place_after_lem (c.wide.result ∷ c.sense_number-sense.result ∷ []) a.out.now
+      place_after_lem (c.wide.result ∷ c.from-sense.result ∷ []) a.out.now
           c.put_two-p.new.out a.at c.put_two-p.result c.put_two-p.ensures,
     )
 
@@ -20,7 +20,7 @@ put_two-r-requires c =
     omega (
       arith,
       c.requires,
-      place_after_lem (c.wide.result ∷ c.sense_number-sense.result ∷ []) a.out.now
+      place_after_lem (c.wide.result ∷ c.from-sense.result ∷ []) a.out.now
           c.put_two-p.new.out a.at c.put_two-p.result c.put_two-p.ensures,
       place_after_lem
           (c.wide-2.result ∷ c.wide-3.result ∷ []) c.put_two-p.new.out c.put_two-q.new.out c.put_two-p.result
@@ -33,7 +33,7 @@ put_word-requires c =
     omega (
       arith,
       c.requires,
-      place_after_lem (c.wide.result ∷ c.sense_number-sense.result ∷ []) a.out.now
+      place_after_lem (c.wide.result ∷ c.from-sense.result ∷ []) a.out.now
           c.put_two-p.new.out a.at c.put_two-p.result c.put_two-p.ensures,
       place_after_lem
           (c.wide-2.result ∷ c.wide-3.result ∷ []) c.put_two-p.new.out c.put_two-q.new.out c.put_two-p.result
@@ -48,7 +48,7 @@ returns c =
     let x = c.edge_at-x.result in
     edge_row_lem a.rows.now a.out.now c.put_two-p.new.out c.put_two-q.new.out c.put_two-r.new.out c.put_word.new.out a.at
     c.put_two-p.result c.put_two-q.result c.put_two-r.result c.put_word.result a.e c.wide.result
-    c.sense_number-sense.result c.wide-2.result c.wide-3.result c.wide-low.result c.wide-high.result
-    c.flag_number-active.result x c.edge_at-x.ensures c.wide.ensures c.sense_number-sense.ensures.0 c.wide-2.ensures
+    c.from-sense.result c.wide-2.result c.wide-3.result c.wide-low.result c.wide-high.result
+    c.flag_number-active.result x c.edge_at-x.ensures c.wide.ensures c.from-sense.ensures.0 c.wide-2.ensures
     c.wide-3.ensures c.wide-low.ensures c.wide-high.ensures c.flag_number-active.ensures.0 c.put_two-p.ensures
     c.put_two-q.ensures c.put_two-r.ensures c.put_word.ensures

@@ -1,18 +1,11 @@
-use Rattle.result_out.specs.Writing.{staged_fits, staged_refused}
-use Rattle.result_out.specs.Rows.{fan_rows}
-use Rattle.uses.specs.Table.{uses_in}
-use Rattle.job.specs.Lists.{edges_in}
+use Rattle.stages_out.specs.Writing.{staged_written, staged_short}
+use Rattle.result_out.specs.Writing.{four_each}
 use Rattle.result_out.proofs.write_fans.Goals as goal
 
-pub returns-then-out-needed : goal.returns-then-out-needed
-returns-then-out-needed c =
-    let a = c.args in
-    staged_refused (fan_rows (edges_in a.job.now a.c) (uses_in a.uses.now) a.removed.now a.fans.now a.starts.now) _ _
-    c.put_fans-needed.result c.put_fans-needed.ensures a.out.now c.if-out-needed.true
+pub returns-in_err-fits : goal.returns-in_err-fits
+returns-in_err-fits c =
+    staged_short _ _ _ c.fits.ensures (four_each _ _ _ _ c.put_fans-needed.ensures) _ c.in_err-fits.was c.from_residual.ensures.1
 
 pub returns : goal.returns
 returns c =
-    let a = c.args in
-    staged_fits (fan_rows (edges_in a.job.now a.c) (uses_in a.uses.now) a.removed.now a.fans.now a.starts.now) _ _
-    c.put_fans-needed.result c.put_fans-needed.ensures a.out.now c.put_fans.new.out c.put_fans.result
-    c.if-out-needed.false c.put_fans.ensures
+    staged_written _ _ _ c.fits.ensures (four_each _ _ _ _ c.put_fans-needed.ensures) _ _ c.in_ok-fits.was c.put_fans.ensures

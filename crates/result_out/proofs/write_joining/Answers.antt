@@ -1,17 +1,11 @@
-use Rattle.result_out.specs.Writing.{staged_fits, staged_refused}
-use Rattle.maximal_edges.specs.Joined.{state_in}
-use Rattle.rules.specs.Stage.{joining_fields}
+use Rattle.stages_out.specs.Writing.{staged_written, staged_short}
+use Rattle.result_out.specs.Writing.{four_each}
 use Rattle.result_out.proofs.write_joining.Goals as goal
 
-pub returns-then-out-needed : goal.returns-then-out-needed
-returns-then-out-needed c =
-    let a = c.args in
-    staged_refused (joining_fields (state_in a.rows.now a.n a.items.now a.stretches.now a.faces.now a.joins a.rings)) _ _
-    c.put_joining-needed.result c.put_joining-needed.ensures a.out.now c.if-out-needed.true
+pub returns-in_err-fits : goal.returns-in_err-fits
+returns-in_err-fits c =
+    staged_short _ _ _ c.fits.ensures (four_each _ _ _ _ c.put_joining-needed.ensures) _ c.in_err-fits.was c.from_residual.ensures.1
 
 pub returns : goal.returns
 returns c =
-    let a = c.args in
-    staged_fits (joining_fields (state_in a.rows.now a.n a.items.now a.stretches.now a.faces.now a.joins a.rings)) _ _
-    c.put_joining-needed.result c.put_joining-needed.ensures a.out.now c.put_joining.new.out c.put_joining.result
-    c.if-out-needed.false c.put_joining.ensures
+    staged_written _ _ _ c.fits.ensures (four_each _ _ _ _ c.put_joining-needed.ensures) _ _ c.in_ok-fits.was c.put_joining.ensures

@@ -1,18 +1,11 @@
-use Rattle.result_out.specs.Writing.{staged_fits, staged_refused}
-use Rattle.shells.specs.Table.{shells_in}
-use Rattle.rules.specs.Stage.{shell_fields}
-use mathlib.Core.List.{flat_map}
+use Rattle.stages_out.specs.Writing.{staged_written, staged_short}
+use Rattle.result_out.specs.Writing.{four_each}
 use Rattle.result_out.proofs.write_shells.Goals as goal
 
-pub returns-then-out-needed : goal.returns-then-out-needed
-returns-then-out-needed c =
-    let a = c.args in
-    staged_refused (flat_map shell_fields (shells_in a.boundaries.now a.members.now a.n a.table.now)) _ _
-    c.put_shells-needed.result c.put_shells-needed.ensures a.out.now c.if-out-needed.true
+pub returns-in_err-fits : goal.returns-in_err-fits
+returns-in_err-fits c =
+    staged_short _ _ _ c.fits.ensures (four_each _ _ _ _ c.put_shells-needed.ensures) _ c.in_err-fits.was c.from_residual.ensures.1
 
 pub returns : goal.returns
 returns c =
-    let a = c.args in
-    staged_fits (flat_map shell_fields (shells_in a.boundaries.now a.members.now a.n a.table.now)) _ _
-    c.put_shells-needed.result c.put_shells-needed.ensures a.out.now c.put_shells.new.out c.put_shells.result
-    c.if-out-needed.false c.put_shells.ensures
+    staged_written _ _ _ c.fits.ensures (four_each _ _ _ _ c.put_shells-needed.ensures) _ _ c.in_ok-fits.was c.put_shells.ensures

@@ -6,45 +6,10 @@ use lib.Seq.{length-take-le}
 use native.Mathlib.Omega.{arith}
 use Rattle.sewing.proofs.faces_of.Goals as goal
 
-pub slice_bounds-labels-end : goal.slice_bounds-labels-end
-slice_bounds-labels-end c =
-    c.requires.0
-
-pub slice_bounds-boundaries-end : goal.slice_bounds-boundaries-end
-unfolding zeros
-slice_bounds-boundaries-end c =
-    part_size c.args.n 256 c.requires.0
-
 pub boundaries-requires : goal.boundaries-requires
 unfolding zeros
 boundaries-requires c =
     omega (arith, sym (part_size c.args.n 256 c.requires.0), c.requires.0)
-
-pub slice_bounds-groups-end : goal.slice_bounds-groups-end
-slice_bounds-groups-end c =
-    omega (arith, c.requires.0, c.requires.1)
-
-pub slice_bounds-number-end : goal.slice_bounds-number-end
-slice_bounds-number-end c =
-    sym (length-take-le c.args.n c.args.groups (omega (arith, c.requires.0, c.requires.1)))
-
-pub slice_bounds-members-end : goal.slice_bounds-members-end
-slice_bounds-members-end c =
-    c.requires.0
-
-pub slice_bounds-number-end-2 : goal.slice_bounds-number-end-2
-unfolding zeros
-slice_bounds-number-end-2 c =
-    part_size c.args.n 256 c.requires.0
-
-pub slice_bounds-numbers-end : goal.slice_bounds-numbers-end
-slice_bounds-numbers-end c =
-    c.requires.0
-
-pub slice_bounds-number-end-3 : goal.slice_bounds-number-end-3
-unfolding zeros
-slice_bounds-number-end-3 c =
-    part_size c.args.n 256 c.requires.0
 
 pub number-merged-requires : goal.number-merged-requires
 unfolding zeros

@@ -1,4 +1,4 @@
-use Rattle.progress.specs.Parts.{lent_cut, lent_part, lent_room, part_size, zeros}
+use Rattle.progress.specs.Parts.{lent_cut, lent_part, part_size, zeros}
 use Prim.Native.Nat.{◌≤◌}
 use Rattle.sewing.specs.StepLaws.{ends_staged, following_back, loops_back}
 use Rattle.stages_out.specs.Rows.{round_rows}
@@ -8,28 +8,10 @@ use Rattle.walk.specs.Walks.{loops_in}
 use Rattle.uses.specs.Table.{uses_in}
 use mathlib.Core.Path.{refl, sym, ap, ◌∙◌}
 use mathlib.Core.List.{◌++◌}
-use lib.Seq.{length-take-le}
 use lib.ListN.{length, take, drop}
 use Prim.Native.Nat.{◌*◌}
 use native.Mathlib.Omega.{arith}
 use Rattle.sewing.proofs.put_loops.Goals as goal
-
-pub slice_bounds-ways-end : goal.slice_bounds-ways-end
-slice_bounds-ways-end c = c.requires.few
-
-pub slice_bounds-loops-end : goal.slice_bounds-loops-end
-unfolding zeros
-slice_bounds-loops-end c = part_size (length c.args.succ.now) 2048 c.requires.few
-
-pub overflow_mul-stretches : goal.overflow_mul-stretches
-overflow_mul-stretches c = omega (arith, c.requires.few)
-
-pub slice_bounds-stretches-end : goal.slice_bounds-stretches-end
-slice_bounds-stretches-end c = omega (arith, c.requires.few)
-
-pub slice_bounds-loops-end-2 : goal.slice_bounds-loops-end-2
-unfolding zeros
-slice_bounds-loops-end-2 c = part_size (2 * length c.args.succ.now) 4096 (omega (arith, c.requires.few))
 
 pub loops-k-requires : goal.loops-k-requires
 unfolding zeros
@@ -40,38 +22,6 @@ loops-k-requires c = (
   sym
       (part_size (2 * length c.args.succ.now) 4096 (omega (arith, c.requires.few))),
 )
-
-pub slice_bounds-numbers-end : goal.slice_bounds-numbers-end
-slice_bounds-numbers-end c = omega (arith, c.requires.faces, c.requires.numbers_size)
-
-pub slice_bounds-write_loops-end : goal.slice_bounds-write_loops-end
-slice_bounds-write_loops-end c =
-    sym (length-take-le c.args.c.faces c.args.m.numbers (omega (arith, c.requires.faces, c.requires.numbers_size)))
-
-pub slice_bounds-ways-end-2 : goal.slice_bounds-ways-end-2
-unfolding zeros
-slice_bounds-ways-end-2 c =
-    lent_room 2048 (length c.args.succ.now) c.loops-k.new.ways c.loops-k.auto.ways c.requires.few
-
-pub slice_bounds-write_loops-end-2 : goal.slice_bounds-write_loops-end-2
-unfolding zeros
-slice_bounds-write_loops-end-2 c =
-    lent_cut 2048 (length c.args.succ.now) c.loops-k.new.ways c.loops-k.auto.ways c.requires.few
-
-pub overflow_mul-stretches-2 : goal.overflow_mul-stretches-2
-overflow_mul-stretches-2 c = omega (arith, c.requires.few)
-
-pub slice_bounds-stretches-end-2 : goal.slice_bounds-stretches-end-2
-unfolding zeros
-slice_bounds-stretches-end-2 c =
-    lent_room 4096 (2 * length c.args.succ.now) c.loops-k.new.stretches c.loops-k.auto.stretches
-    (omega (arith, c.requires.few))
-
-pub slice_bounds-write_loops-end-3 : goal.slice_bounds-write_loops-end-3
-unfolding zeros
-slice_bounds-write_loops-end-3 c =
-    lent_cut 4096 (2 * length c.args.succ.now) c.loops-k.new.stretches c.loops-k.auto.stretches
-    (omega (arith, c.requires.few))
 
 pub write_loops-requires : goal.write_loops-requires
 unfolding zeros

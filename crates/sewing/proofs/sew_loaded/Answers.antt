@@ -5,14 +5,11 @@ use lib.ListN.{length}
 use Rattle.sewing.proofs.sew_loaded.Goals as goal
 
 pub returns-then-c-eq0 : goal.returns-then-c-eq0
-returns-then-c-eq0 c = let a = c.args in
-    ends_as _ _ a.out.now c.put_empty.new.out c.put_empty.result
-    (sym (sew_empty a.job.now a.index.now a.c (length a.out.now) c.requires c.if-c-eq0.true)) c.put_empty.ensures
-
-pub on_loaded-requires : goal.on_loaded-requires
-on_loaded-requires c = c.requires
+returns-then-c-eq0 c =
+    ends_as _ _ c.args.out.now c.put_empty.new.out c.put_empty.result
+    (sym (sew_empty (length c.args.out.now) c.requires c.if-c-eq0.true)) c.put_empty.ensures
 
 pub returns : goal.returns
-returns c = let a = c.args in
-    ends_as _ _ a.out.now c.on_loaded.new.out c.on_loaded.result
-    (sym (sew_solid a.job.now a.index.now a.c (length a.out.now) c.requires c.if-c-eq0.false)) c.on_loaded.ensures
+returns c =
+    ends_as _ _ c.args.out.now c.on_loaded.new.out c.on_loaded.result
+    (sym (sew_solid (length c.args.out.now) c.requires c.if-c-eq0.false)) c.on_loaded.ensures

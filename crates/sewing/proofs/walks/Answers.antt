@@ -1,10 +1,6 @@
 use Rattle.lists.specs.Lists.{sum_of}
-use mathlib.Core.Path.{refl, sym, ap, ◌∙◌}
-use lib.Seq.{length-take-le}
+use mathlib.Core.Path.{refl, ap, ◌∙◌}
 use Rattle.sewing.proofs.walks.Goals as goal
-
-pub slice_bounds-remove-end : goal.slice_bounds-remove-end
-slice_bounds-remove-end c = let a = c.args in sym (length-take-le a.c.faces a.m.groups c.requires.0)
 
 pub returns : goal.returns
 returns c = let removing = c.remove-gone.ensures in

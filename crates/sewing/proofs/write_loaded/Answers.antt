@@ -81,5 +81,5 @@ returns c =
     ends_staged _ (flat_map use_fields (uses_of (job_in a.job.now a.index.now a.c))) a.out.now c.write_read.new.out
     c.write_read.result
     (ap (flat_map use_fields) same)
-    (read_written a.job.now a.index.now a.c _ (length a.out.now) (record { opened = c.requires; uses = refl }))
+    (read_written (length a.out.now) (record { opened = c.requires; uses = refl }))
     c.write_read.ensures

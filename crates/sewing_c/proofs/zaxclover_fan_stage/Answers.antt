@@ -1,7 +1,6 @@
 use lib.ListN.{length}
 use Rattle.rules.specs.Rules.{ordinary}
 use Rattle.rules.specs.Stage.{fan_stage}
-use Rattle.sewing_c.specs.NumberLaws.{fans_numbered}
 use Rattle.sewing_c.specs.ToldLaws.{told}
 use Rattle.sewing_c.proofs.zaxclover_fan_stage.Goals as goal
 
@@ -9,4 +8,3 @@ pub returns : goal.returns
 returns c =
     told (fan_stage ordinary c.args.job.now (length c.args.out.now)) c.args.out.now c.fan_stage-ending.new.out
     c.fan_stage-ending.result c.tell.result c.tell.new.value c.fan_stage-ending.ensures c.tell.ensures
-    (fans_numbered ordinary c.args.job.now (length c.args.out.now))

@@ -1,7 +1,6 @@
 use lib.ListN.{length}
 use Rattle.rules.specs.Rules.{ordinary}
 use Rattle.rules.specs.Stage.{joining_stage}
-use Rattle.sewing_c.specs.NumberLaws.{joining_numbered}
 use Rattle.sewing_c.specs.ToldLaws.{told}
 use Rattle.sewing_c.proofs.zaxclover_joining_stage.Goals as goal
 
@@ -9,4 +8,3 @@ pub returns : goal.returns
 returns c =
     told (joining_stage ordinary c.args.job.now (length c.args.out.now)) c.args.out.now c.joining_stage-ending.new.out
     c.joining_stage-ending.result c.tell.result c.tell.new.value c.joining_stage-ending.ensures c.tell.ensures
-    (joining_numbered ordinary c.args.job.now (length c.args.out.now))

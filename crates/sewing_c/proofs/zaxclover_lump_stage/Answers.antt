@@ -1,7 +1,6 @@
 use lib.ListN.{length}
 use Rattle.rules.specs.Rules.{ordinary}
 use Rattle.rules.specs.Stage.{lump_stage}
-use Rattle.sewing_c.specs.NumberLaws.{lumps_numbered}
 use Rattle.sewing_c.specs.ToldLaws.{told}
 use Rattle.sewing_c.proofs.zaxclover_lump_stage.Goals as goal
 
@@ -9,4 +8,3 @@ pub returns : goal.returns
 returns c =
     told (lump_stage ordinary c.args.job.now (length c.args.out.now)) c.args.out.now c.lump_stage-ending.new.out
     c.lump_stage-ending.result c.tell.result c.tell.new.value c.lump_stage-ending.ensures c.tell.ensures
-    (lumps_numbered ordinary c.args.job.now (length c.args.out.now))

@@ -1,34 +1,21 @@
-use Rattle.shells.specs.NestLaws.{enclosing_start, enclosing_step, enclosing_refused, enclosing_end}
-use Rattle.job.specs.Lists.{answers_in}
-use native.Mathlib.Omega.{arith}
+use Rattle.shells.specs.NestLaws.{enclosing_start, enclosing_now, enclosing_end}
+use Rattle.rules.proofs.OutcomeLaws.{hands_on, bind_on, bind_stop}
+use Rattle.std.proofs.Common.{sym, ◌∙◌}
 use Rattle.shells.proofs.enclosing_shell.Goals as goal
 
 pub loop-k-init : goal.loop-k-init
-loop-k-init c =
-    let a = c.args in (omega arith, enclosing_start (answers_in a.job.now a.index.now a.c) a.void a.table.now a.n)
+loop-k-init c = (tt, enclosing_start _ _ _ _)
 
-pub enclosing_next-r-requires : goal.enclosing_next-r-requires
-enclosing_next-r-requires c = let pre = c.requires in (pre.0, pre.1, c.loop-k-test.true, pre.2)
-
-pub returns-in-Refused : goal.returns-in-Refused
-returns-in-Refused c =
-    let a = c.args in
-    let l = c.loop-k in
-    enclosing_refused (answers_in a.job.now a.index.now a.c) a.void a.table.now a.n l.taken l.k l.invariant.1
-    c.loop-k-test.true c.enclosing_next-r.result _ _ c.in-Refused.is c.enclosing_next-r.ensures
+pub returns-in_err-taken : goal.returns-in_err-taken
+returns-in_err-taken c =
+    rw (hands_on c.from_residual.result c.from_residual.ensures.1)
+    (sym (enclosing_now _ _ _ _ _ _ c.loop-k.invariant.1 c.loop-k-test.true ∙ bind_stop _ (sym c.in_err-taken.ensures.0)), tt)
 
 pub loop-k-preserved : goal.loop-k-preserved
-loop-k-preserved c =
-    let a = c.args in
-    let l = c.loop-k in (
-      omega arith,
-      enclosing_step (answers_in a.job.now a.index.now a.c) a.void a.table.now a.n l.taken l.k l.invariant.1
-          c.loop-k-test.true c.enclosing_next-r.result _ c.in-Value.is c.enclosing_next-r.ensures,
-    )
+loop-k-preserved c = (
+  c.in_ok-taken.ensures.1,
+  enclosing_now _ _ _ _ _ _ c.loop-k.invariant.1 c.loop-k-test.true ∙ bind_on _ (sym c.in_ok-taken.ensures.0),
+)
 
 pub returns : goal.returns
-returns c =
-    let a = c.args in
-    let l = c.loop-k in
-    enclosing_end (answers_in a.job.now a.index.now a.c) a.void a.table.now a.n l.taken l.k l.invariant.1
-    c.loop-k-test.false
+returns c = (enclosing_end _ _ _ _ _ _ c.loop-k.invariant.1 c.loop-k-test.false, c.loop-k.invariant.0)

@@ -3,6 +3,3 @@ use Rattle.shells.proofs.low_faces.Given as goal
 
 abbrev pub invariant-loop-f : goal.invariant-loop-f
 invariant-loop-f l = LowFrom l.boundaries l.members l.lows l.f
-
-abbrev pub decreases-loop-f : goal.decreases-loop-f
-decreases-loop-f l = l.f

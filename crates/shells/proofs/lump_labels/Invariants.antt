@@ -1,10 +1,5 @@
 use Rattle.shells.specs.LumpLaws.{LabelsAt}
-use lib.ListN.{length}
-use Prim.Native.Nat.{◌-◌}
 use Rattle.shells.proofs.lump_labels.Given as goal
 
 abbrev pub invariant-loop-f : goal.invariant-loop-f
 invariant-loop-f l = LabelsAt l.boundaries l.table l.labels l.count l.f
-
-abbrev pub decreases-loop-f : goal.decreases-loop-f
-decreases-loop-f l = length l.boundaries - l.f

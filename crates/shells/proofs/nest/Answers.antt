@@ -1,39 +1,20 @@
 use Rattle.shells.specs.NestLaws.{nest_start, nest_stop, nest_step, nest_end}
-use Rattle.shells.specs.Steps.{Asked32}
-use Rattle.job.specs.Lists.{answers_in}
-use mathlib.Core.Path.{subst}
-use native.Mathlib.Omega.{arith}
+use Rattle.rules.proofs.OutcomeLaws.{hands_on}
+use Rattle.std.proofs.Common.{arith}
 use Rattle.shells.proofs.nest.Goals as goal
 
 pub loop-k-init : goal.loop-k-init
-loop-k-init c = let a = c.args in nest_start (answers_in a.job.now a.index.now a.c) a.n a.table.now
+loop-k-init c = nest_start _ _ _
 
-pub home-r-requires : goal.home-r-requires
-home-r-requires c = let pre = c.requires in (pre.0, pre.2, c.loop-k-test.true)
-
-pub returns-in-Refused : goal.returns-in-Refused
-returns-in-Refused c =
-    let a = c.args in
-    let l = c.loop-k in
-    λ boundaries members s. (
-      nest_stop (answers_in a.job.now a.index.now a.c) a.n a.table.now l.table l.k l.invariant
-          c.loop-k-test.true c.home-r.result c.home-r.ensures.0 _ _ c.in-Refused.is boundaries members s,
-      tt,
-    )
-
-pub put-requires : goal.put-requires
-put-requires c = subst Asked32 c.in-Value.is c.home-r.ensures.1
+pub returns-in_err-home : goal.returns-in_err-home
+returns-in_err-home c = λ boundaries members s.
+    rw (hands_on c.from_residual.result c.from_residual.ensures.1)
+    (nest_stop _ _ _ _ _ c.loop-k.invariant c.loop-k-test.true c.in_err-home.ensures.0 boundaries members s, tt)
 
 pub loop-k-preserved : goal.loop-k-preserved
 loop-k-preserved c =
-    let a = c.args in
-    let l = c.loop-k in
-    nest_step (answers_in a.job.now a.index.now a.c) a.n a.table.now l.table l.k l.invariant c.loop-k-test.true
-    c.home-r.result c.home-r.ensures.0 _ c.put.new.t c.in-Value.is c.put.ensures
-    (omega (arith, l.invariant.size, c.requires.1, c.requires.2, c.loop-k-test.true))
+    nest_step _ _ _ _ _ c.loop-k.invariant c.loop-k-test.true _ _ c.in_ok-home.ensures.0 c.put.ensures
+    (omega (arith, c.loop-k.invariant.size, c.requires.1, c.requires.2, c.loop-k-test.true))
 
 pub returns : goal.returns
-returns c =
-    let a = c.args in
-    let l = c.loop-k in
-    nest_end (answers_in a.job.now a.index.now a.c) a.n a.table.now l.table l.k l.invariant c.loop-k-test.false
+returns c = nest_end _ _ _ _ _ c.loop-k.invariant c.loop-k-test.false

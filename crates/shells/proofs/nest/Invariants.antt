@@ -1,10 +1,6 @@
 use Rattle.shells.specs.NestLaws.{NestAt}
-use Prim.Native.Nat.{◌-◌}
 use Rattle.job.specs.Lists.{answers_in}
 use Rattle.shells.proofs.nest.Given as goal
 
 abbrev pub invariant-loop-k : goal.invariant-loop-k
 invariant-loop-k l = NestAt (answers_in l.job l.index l.c) l.n l.initial.table l.table l.k
-
-abbrev pub decreases-loop-k : goal.decreases-loop-k
-decreases-loop-k l = l.n - l.k

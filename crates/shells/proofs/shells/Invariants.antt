@@ -1,7 +1,6 @@
 use Rattle.shells.specs.ShellLaws.{ShellsAt}
 use Rattle.shells.specs.Steps.{LowFaces}
 use lib.ListN.{length}
-use Prim.Native.Nat.{◌-◌}
 use Rattle.rules.specs.Fields.{le32}
 use Rattle.job.specs.Lists.{answers_in}
 use mathlib.Core.Path.{◌≡◌}
@@ -11,6 +10,3 @@ abbrev pub invariant-loop-b : goal.invariant-loop-b
 invariant-loop-b l =
     (length l.lows ≡ 256) × LowFaces l.boundaries l.members l.lows × (length l.table ≡ length l.initial.table) ×
     ShellsAt (answers_in l.job l.index l.c) (le32 l.job 6) l.boundaries l.members l.table l.count l.b
-
-abbrev pub decreases-loop-b : goal.decreases-loop-b
-decreases-loop-b l = length l.boundaries - l.b

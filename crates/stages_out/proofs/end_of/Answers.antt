@@ -1,10 +1,9 @@
-use mathlib.Core.Path.{◌∙◌}
 use Rattle.stages_out.proofs.RowLaws.{end_none, end_at}
-use native.Mathlib.Omega.{arith}
+use Rattle.std.proofs.Common.{rules}
 use Rattle.stages_out.proofs.end_of.Goals as goal
 
 pub returns-then-k-eq0 : goal.returns-then-k-eq0
-returns-then-k-eq0 c = (end_none c.args.stretches.now c.args.k c.if-k-eq0.true, omega arith)
+returns-then-k-eq0 c = search (rules, end_none)
 
 pub returns : goal.returns
-returns c = (c.get.ensures.0 ∙ end_at c.args.stretches.now c.args.k c.if-k-eq0.false, c.get.ensures.1)
+returns c = search (rules, end_at)

@@ -1,20 +1,15 @@
-use Rattle.stages_out.proofs.RowLaws.{counted_start, counted_step, counted_end}
-use native.Mathlib.Omega.{arith}
+use Rattle.stages_out.proofs.RowLaws.{kept_uses_length}
+use Rattle.std.proofs.Common.{◌≡◌, arith, rules, tests, ◌∙◌, length}
+use Rattle.std.proofs.lemmas.Iterator.{YieldsList-from_slice}
+use Rattle.std.proofs.lemmas.Iterator.Consumers.{count_from_yields_List, YieldsList-from_filter}
+use Rattle.std.proofs.lemmas.List.Sums.{length-filter, count_by-le-length}
+use Rattle.std.specs.List.{filter}
+use Rattle.std.proofs.Math.Bool.{not}
 use Rattle.stages_out.proofs.kept_count.Goals as goal
 
-pub loop-h-init : goal.loop-h-init
-loop-h-init c = (omega arith, counted_start c.args.removed.now)
-
-pub loop-h-preserved : goal.loop-h-preserved
-loop-h-preserved c = (
-  omega arith,
-  counted_step c.args.removed.now c.loop-h.k c.loop-h.h c.kept_one-k.result c.kept_one-k.ensures.0
-      c.kept_one-k.ensures.1 c.loop-h.invariant.1,
-)
-
 pub returns : goal.returns
-returns c = (
-  counted_end c.args.removed.now c.loop-h.k c.loop-h.h (omega arith) c.loop-h.invariant.1,
-  omega
-      (arith, c.loop-h.invariant.1.small, c.requires),
-)
+returns c =
+    let counted : c.count.result ≡ length (filter not c.args.removed.now) =
+    count_from_yields_List c.filter.result _ c.count.ensures.ran
+    (YieldsList-from_filter _ not (YieldsList-from_slice c.args.removed.now cc) c.filter.ensures.closure (λ x r q k. search (rules, tests))) in
+    (counted ∙ kept_uses_length _, omega (arith, counted, length-filter not c.args.removed.now, count_by-le-length not c.args.removed.now))

@@ -1,12 +1,8 @@
 use Rattle.uses.specs.Table.{uses_in}
 use Rattle.stages_out.proofs.RowLaws.{loop_row}
-use Prim.Native.Nat.{◌-◌, ◌≤◌}
 use Rattle.stages_out.specs.Writing.{Rowed}
 use Rattle.stages_out.proofs.put_loops.Given as goal
 
 abbrev pub invariant-loop-i : goal.invariant-loop-i
 invariant-loop-i l =
-    (l.i ≤ l.k) × Rowed (loop_row (uses_in l.uses) l.numbers l.ways l.stretches) 2050 l.initial.out l.out l.p l.i
-
-abbrev pub decreases-loop-i : goal.decreases-loop-i
-decreases-loop-i l = l.k - l.i
+    Rowed (loop_row (uses_in l.uses) l.numbers l.ways l.stretches) 2050 l.initial.out l.out l.p l.i

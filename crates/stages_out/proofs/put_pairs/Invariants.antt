@@ -1,11 +1,6 @@
 use Rattle.stages_out.specs.Rows.{pair_row}
-use Prim.Native.Nat.{◌-◌, ◌≤◌}
-use lib.ListN.{length}
 use Rattle.stages_out.specs.Writing.{Rowed}
 use Rattle.stages_out.proofs.put_pairs.Given as goal
 
 abbrev pub invariant-loop-f : goal.invariant-loop-f
-invariant-loop-f l = (l.f ≤ length l.boundaries) × Rowed (pair_row l.boundaries l.groups) 2 l.initial.out l.out l.p l.f
-
-abbrev pub decreases-loop-f : goal.decreases-loop-f
-decreases-loop-f l = length l.boundaries - l.f
+invariant-loop-f l = Rowed (pair_row l.boundaries l.groups) 2 l.initial.out l.out l.p l.f

@@ -1,17 +1,9 @@
-use Prim.Native.Nat.{◌*◌}
-use Rattle.stages_out.specs.Rows.{kept_rows}
-use Rattle.stages_out.proofs.RowLaws.{kept_rows_length}
+use Rattle.stages_out.proofs.RowLaws.{kept_rows_needed}
 use Rattle.stages_out.specs.Writing.{staged_written, staged_short}
-use native.Mathlib.Omega.{arith}
 use Rattle.stages_out.proofs.write_kept.Goals as goal
 
-pub returns-then-out-needed : goal.returns-then-out-needed
-returns-then-out-needed c =
-    staged_short (kept_rows c.args.kept.now c.args.k) c.args.out.now (8 * c.args.k)
-    (omega (arith, kept_rows_length c.args.kept.now c.args.k)) c.if-out-needed.true
+pub returns-in_err-fits : goal.returns-in_err-fits
+returns-in_err-fits c = staged_short _ _ _ c.fits.ensures (kept_rows_needed _ _) _ c.in_err-fits.was c.from_residual.ensures.1
 
 pub returns : goal.returns
-returns c =
-    staged_written (kept_rows c.args.kept.now c.args.k) c.args.out.now c.put_kept.new.out (8 * c.args.k)
-    c.put_kept.result (omega (arith, kept_rows_length c.args.kept.now c.args.k)) c.if-out-needed.false
-    c.put_kept.ensures
+returns c = staged_written _ _ _ c.fits.ensures (kept_rows_needed _ _) _ _ c.in_ok-fits.was c.put_kept.ensures

@@ -1,31 +1,9 @@
-use Rattle.walk.specs.Walks.{loops_in}
-use Rattle.uses.specs.Table.{uses_in}
-use Prim.Native.Nat.{◌+◌, ◌*◌}
-use Rattle.stages_out.specs.Rows.{round_rows}
-use Rattle.stages_out.proofs.RowLaws.{round_rows_length}
+use Rattle.stages_out.proofs.RowLaws.{round_rows_needed}
 use Rattle.stages_out.specs.Writing.{staged_written, staged_short}
-use native.Mathlib.Omega.{arith}
 use Rattle.stages_out.proofs.write_loops.Goals as goal
 
-pub returns-then-out-needed : goal.returns-then-out-needed
-returns-then-out-needed c =
-    staged_short (round_rows (uses_in c.args.uses.now) c.args.numbers.now
-    (loops_in c.args.k c.args.ways.now c.args.stretches.now)) c.args.out.now (8 * c.args.k + 4 * c.end_of-end.result)
-    (omega (
-      arith,
-      c.end_of-end.ensures.0,
-      round_rows_length (uses_in c.args.uses.now) c.args.numbers.now
-          c.args.ways.now c.args.stretches.now c.args.k c.requires.0,
-    )) c.if-out-needed.true
+pub returns-in_err-fits : goal.returns-in_err-fits
+returns-in_err-fits c = staged_short _ _ _ c.fits.ensures (round_rows_needed _ _ _ _ _ c.requires.0 _ c.end_of-end.ensures.0) _ c.in_err-fits.was c.from_residual.ensures.1
 
 pub returns : goal.returns
-returns c =
-    staged_written (round_rows (uses_in c.args.uses.now) c.args.numbers.now
-    (loops_in c.args.k c.args.ways.now c.args.stretches.now)) c.args.out.now c.put_loops.new.out
-    (8 * c.args.k + 4 * c.end_of-end.result) c.put_loops.result
-    (omega (
-      arith,
-      c.end_of-end.ensures.0,
-      round_rows_length (uses_in c.args.uses.now) c.args.numbers.now
-          c.args.ways.now c.args.stretches.now c.args.k c.requires.0,
-    )) c.if-out-needed.false c.put_loops.ensures
+returns c = staged_written _ _ _ c.fits.ensures (round_rows_needed _ _ _ _ _ c.requires.0 _ c.end_of-end.ensures.0) _ _ c.in_ok-fits.was c.put_loops.ensures

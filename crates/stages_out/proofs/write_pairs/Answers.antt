@@ -1,19 +1,9 @@
-use lib.ListN.{length}
-use Prim.Native.Nat.{◌*◌}
-use Rattle.stages_out.specs.Rows.{pair_rows}
-use Rattle.stages_out.proofs.RowLaws.{pair_rows_length}
+use Rattle.stages_out.proofs.RowLaws.{pair_rows_needed}
 use Rattle.stages_out.specs.Writing.{staged_written, staged_short}
-use native.Mathlib.Omega.{arith}
 use Rattle.stages_out.proofs.write_pairs.Goals as goal
 
-pub returns-then-out-needed : goal.returns-then-out-needed
-returns-then-out-needed c =
-    staged_short (pair_rows c.args.boundaries.now c.args.groups.now) c.args.out.now (8 * length c.args.boundaries.now)
-    (omega (arith, pair_rows_length c.args.boundaries.now c.args.groups.now)) c.if-out-needed.true
+pub returns-in_err-fits : goal.returns-in_err-fits
+returns-in_err-fits c = staged_short _ _ _ c.fits.ensures (pair_rows_needed _ _) _ c.in_err-fits.was c.from_residual.ensures.1
 
 pub returns : goal.returns
-returns c =
-    staged_written (pair_rows c.args.boundaries.now c.args.groups.now) c.args.out.now c.put_pairs.new.out
-    (8 * length c.args.boundaries.now) c.put_pairs.result
-    (omega (arith, pair_rows_length c.args.boundaries.now c.args.groups.now)) c.if-out-needed.false
-    c.put_pairs.ensures
+returns c = staged_written _ _ _ c.fits.ensures (pair_rows_needed _ _) _ _ c.in_ok-fits.was c.put_pairs.ensures

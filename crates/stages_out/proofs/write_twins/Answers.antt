@@ -1,14 +1,9 @@
-use Prim.Native.Nat.{◌*◌}
-use mathlib.Core.Path.{refl}
-use lib.ListN.{length}
 use Rattle.stages_out.specs.Writing.{staged_written, staged_short}
+use Rattle.std.proofs.Common.{refl}
 use Rattle.stages_out.proofs.write_twins.Goals as goal
 
-pub returns-then-out-needed : goal.returns-then-out-needed
-returns-then-out-needed c =
-    staged_short c.args.twins.now c.args.out.now (4 * length c.args.twins.now) refl c.if-out-needed.true
+pub returns-in_err-fits : goal.returns-in_err-fits
+returns-in_err-fits c = staged_short _ _ _ c.fits.ensures refl _ c.in_err-fits.was c.from_residual.ensures.1
 
 pub returns : goal.returns
-returns c =
-    staged_written c.args.twins.now c.args.out.now c.put_table.new.out (4 * length c.args.twins.now) c.put_table.result
-    refl c.if-out-needed.false c.put_table.ensures
+returns c = staged_written _ _ _ c.fits.ensures refl _ _ c.in_ok-fits.was c.put_table.ensures

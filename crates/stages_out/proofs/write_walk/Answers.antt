@@ -1,24 +1,9 @@
-use Prim.Native.Nat.{◌*◌}
-use Rattle.stages_out.specs.Rows.{walk_rows}
-use Rattle.stages_out.proofs.RowLaws.{walked_rows_length}
+use Rattle.stages_out.proofs.RowLaws.{walked_rows_needed}
 use Rattle.stages_out.specs.Writing.{staged_written, staged_short}
-use native.Mathlib.Omega.{arith}
 use Rattle.stages_out.proofs.write_walk.Goals as goal
 
-pub returns-then-out-needed : goal.returns-then-out-needed
-returns-then-out-needed c =
-    staged_short (walk_rows c.args.removed.now c.args.succ.now c.args.passed.now) c.args.out.now
-    (12 * c.kept_count-needed.result) (omega
-    (arith, c.kept_count-needed.ensures.0, walked_rows_length c.args.removed.now c.args.succ.now c.args.passed.now))
-    c.if-out-needed.true
+pub returns-in_err-fits : goal.returns-in_err-fits
+returns-in_err-fits c = staged_short _ _ _ c.fits.ensures (walked_rows_needed _ _ _ _ c.kept_count.ensures.0) _ c.in_err-fits.was c.from_residual.ensures.1
 
 pub returns : goal.returns
-returns c =
-    staged_written (walk_rows c.args.removed.now c.args.succ.now c.args.passed.now) c.args.out.now c.put_walks.new.out
-    (12 * c.kept_count-needed.result) c.put_walks.result
-    (omega (
-      arith,
-      c.kept_count-needed.ensures.0,
-      walked_rows_length c.args.removed.now c.args.succ.now
-          c.args.passed.now,
-    )) c.if-out-needed.false c.put_walks.ensures
+returns c = staged_written _ _ _ c.fits.ensures (walked_rows_needed _ _ _ _ c.kept_count.ensures.0) _ _ c.in_ok-fits.was c.put_walks.ensures

@@ -4,4 +4,4 @@ use mathlib.Core.Path.{sym, ap, ◌∙◌}
 use Rattle.uses.proofs.use_sense.Goals as goal
 
 pub returns : goal.returns
-returns c = c.sense_of.ensures ∙ ap sense_of c.field_of.ensures.0 ∙ sym (sense_is c.args.uses.now c.args.h)
+returns c = c.from.ensures ∙ ap sense_of c.field_of.ensures.0 ∙ sym (sense_is c.args.uses.now c.args.h)

@@ -1,44 +1,25 @@
-use Rattle.vertex_loops.specs.KeptLaws.{left_start, left_step, left_found, left_refused, left_end}
-use Rattle.ask.specs.Told.{told_of}
-use Rattle.job.specs.Lists.{answers_in}
-use mathlib.Core.Path.{sym, ap, ◌∙◌}
-use native.Mathlib.Omega.{arith}
+use Rattle.vertex_loops.specs.KeptLaws.{left_start, left_now, left_end}
+use Rattle.rules.proofs.OutcomeLaws.{exits, bind_on}
+use Rattle.std.proofs.Common.{sym, ap, ◌∙◌, Ok}
 use Rattle.vertex_loops.proofs.already_there.Goals as goal
 
 pub loop-k-init : goal.loop-k-init
-loop-k-init c =
-    let a = c.args in (omega arith, left_start (answers_in a.job.now a.index.now a.c) a.face a.point a.kept.now a.count)
+loop-k-init c = left_start _ _ _ _ _
 
-pub held_against-t-requires : goal.held_against-t-requires
-held_against-t-requires c =
-    let l = c.loop-k in (c.requires.0, omega (arith, c.loop-k-test.true, c.requires.1), c.requires.2)
+pub returns-in_err-held_against : goal.returns-in_err-held_against
+returns-in_err-held_against c =
+    exits _ _ _ c.held_against.ensures c.in_err-held_against.was c.from_residual.ensures.1
+    ∙ sym (left_now _ _ _ _ _ _ c.loop-k.invariant c.loop-k-test.true)
 
-pub returns-in-Refused : goal.returns-in-Refused
-returns-in-Refused c =
-    let a = c.args in
-    let l = c.loop-k in
-    left_refused (answers_in a.job.now a.index.now a.c) a.face a.point a.kept.now a.count l.k l.invariant.1
-    c.loop-k-test.true _ _ (sym c.held_against-t.ensures ∙ ap told_of c.in-Refused.is)
-
-pub returns-in-Yes : goal.returns-in-Yes
-returns-in-Yes c =
-    let a = c.args in
-    let l = c.loop-k in
-    left_found (answers_in a.job.now a.index.now a.c) a.face a.point a.kept.now a.count l.k l.invariant.1
-    c.loop-k-test.true (sym c.held_against-t.ensures ∙ ap told_of c.in-Yes.is)
+pub returns-then-branch : goal.returns-then-branch
+returns-then-branch c =
+    sym (left_now _ _ _ _ _ _ c.loop-k.invariant c.loop-k-test.true
+    ∙ bind_on _ (sym c.held_against.ensures ∙ c.in_ok-held_against.was ∙ ap Ok c.if-branch.true))
 
 pub loop-k-preserved : goal.loop-k-preserved
 loop-k-preserved c =
-    let a = c.args in
-    let l = c.loop-k in (
-      omega arith,
-      left_step (answers_in a.job.now a.index.now a.c) a.face a.point a.kept.now a.count l.k l.invariant.1
-          c.loop-k-test.true (sym c.held_against-t.ensures ∙ ap told_of c.in-No.is),
-    )
+    left_now _ _ _ _ _ _ c.loop-k.invariant c.loop-k-test.true
+    ∙ bind_on _ (sym c.held_against.ensures ∙ c.in_ok-held_against.was ∙ ap Ok c.if-branch.false)
 
 pub returns : goal.returns
-returns c =
-    let a = c.args in
-    let l = c.loop-k in
-    left_end (answers_in a.job.now a.index.now a.c) a.face a.point a.kept.now a.count l.k l.invariant.1
-    c.loop-k-test.false
+returns c = left_end _ _ _ _ _ _ c.loop-k.invariant c.loop-k-test.false

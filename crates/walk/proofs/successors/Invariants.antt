@@ -1,13 +1,6 @@
-use Prim.Native.Nat.{◌-◌}
-use mathlib.Core.Path.{◌≡◌}
-use lib.ListN.{length}
 use Rattle.uses.specs.Table.{uses_in}
 use Rattle.walk.specs.PassLaws.{Filled}
 use Rattle.walk.proofs.successors.Given as goal
 
 abbrev pub invariant-loop-h : goal.invariant-loop-h
-invariant-loop-h l =
-    Filled (uses_in l.uses) l.twins l.removed l.succ l.passed l.total l.h × (l.n ≡ length (uses_in l.uses))
-
-abbrev pub decreases-loop-h : goal.decreases-loop-h
-decreases-loop-h l = l.n - l.h
+invariant-loop-h l = Filled (uses_in l.uses) l.twins l.removed l.succ l.passed l.total l.h

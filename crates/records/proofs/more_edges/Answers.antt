@@ -1,8 +1,0 @@
-use Rattle.rules.specs.Kinds.{number_of, part_of}
-use Rattle.rules.specs.Load.{counted}
-use mathlib.Core.Path.{refl}
-use Rattle.records.proofs.more_edges.Goals as goal
-
-pub returns : goal.returns
-unfolding counted number_of part_of
-returns c = refl
