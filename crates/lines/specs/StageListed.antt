@@ -213,6 +213,10 @@ abbrev pub StagedInto : Option Stage → List ℕ → List ℕ → List ℕ → 
 StagedInto None job before after = after ≡ before
 StagedInto (Some stage) job before after = (e : Outcome ℕ) × Ends (operation (Some stage) job (length before)) before after e
 
+-- where there is no stage, an output that stays is as it must be
+pub stays : (job before : List ℕ) → StagedInto None job before before
+stays job before = refl
+
 -- a page on which a stage's lines were put: the place after the text, which is at most 360,448, and the whole text where the page has room
 abbrev pub StageLists : Option Stage → List ℕ → List ℕ → List ℕ → ℕ → Type 0
 StageLists stage job page printed r = Printed (stage_listing stage ordinary job 131072) page printed 360448 r

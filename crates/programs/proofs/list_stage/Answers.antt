@@ -1,13 +1,13 @@
-use Rattle.std.proofs.Common.{refl, sym, subst}
+use Rattle.std.proofs.Common.{sym, subst}
 use Rattle.lines.specs.Listed.{bytes_below}
-use Rattle.lines.specs.StageListed.{StagedInto, StageLists, lists_stage, lists_none}
+use Rattle.lines.specs.StageListed.{StagedInto, StageLists, stays, lists_stage, lists_none}
 use Rattle.programs.proofs.list_stage.Goals as goal
 
 pub returns-in_default : goal.returns-in_default
 returns-in_default c =
     let a = c.args in
     subst (λ s. StagedInto s a.job.now a.out.now a.out.now × StageLists s a.job.now a.page.now a.page.now 0)
-    (sym c.in_default.is) (refl, lists_none a.job.now a.page.now)
+    (sym c.in_default.is) (stays a.job.now a.out.now, lists_none a.job.now a.page.now)
 
 pub returns : goal.returns
 returns c =
