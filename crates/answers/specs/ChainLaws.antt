@@ -8,6 +8,7 @@ use Rattle.std.proofs.Math.ListN.{get_or-eq_default}
 use Rattle.lists.specs.Lists.{◌∈◌}
 use Rattle.lists.specs.Tests.{cond_true, cond_false}
 use Rattle.rules.specs.declared.Counts.{Counts}
+use Rattle.rules.specs.Kinds.{number_of}
 use Rattle.fields.specs.Chains.{Falling, chain_end, chain_more, chain_below, chain_same}
 use Rattle.job.specs.Lists.{answer_byte}
 use Rattle.answers.specs.declared.Question.{Question}
@@ -18,7 +19,7 @@ use Rattle.answers.specs.Index.{next_answer, place_on, answers_on, place_for, Pl
 
 pub bucket_below : (q : Question) → bucket_of q < 1024
 unfolding bucket_of
-bucket_below q = mod-lt (131 * q.kind + q.a + 61 * q.b + 17 * q.c + 307 * q.d) (omega arith)
+bucket_below q = mod-lt (131 * number_of q.kind + q.a + 61 * q.b + 17 * q.c + 307 * q.d) (omega arith)
 
 pub next_at : (ix : List ℕ) (k : ℕ) → k < 2048 → next_answer ix k ≡ get_or ix (1024 + k) 0
 unfolding next_answer
@@ -50,7 +51,8 @@ module _ (bytes ix : List ℕ) (q : Question) where
   pub place_miss : (entry : ℕ) → Falling (next_answer ix) → 0 < entry → entry ≤ 2048 → one_question (question_in bytes (answer_byte ix (entry - 1))) q ≡ false
       → place_on bytes ix q (answers_on ix entry) ≡ place_on bytes ix q (answers_on ix (get_or ix (1024 + (entry - 1)) 0))
   place_miss entry f h l e =
-      place_first entry f h ∙ cond_false (one_question (question_in bytes (answer_byte ix (entry - 1))) q) _ _ e ∙ ap (λ n. place_on bytes ix q (answers_on ix n)) (next_at ix (entry - 1) (omega arith))
+      place_first entry f h ∙ cond_false (one_question (question_in bytes (answer_byte ix (entry - 1))) q) _ _ e
+      ∙ ap (λ n. place_on bytes ix q (answers_on ix n)) (next_at ix (entry - 1) (omega arith))
 
 -- the place found is one that the index can hold
 pub place_fits : (f : Option ℕ) (p : ℕ) → Place32 f → f ≡ Some p → p < 4294967296

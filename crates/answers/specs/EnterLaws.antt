@@ -25,7 +25,7 @@ use Rattle.job.specs.Lists.{answer_byte, fields_at, answer_in, answers_in}
 use Rattle.answers.specs.declared.Question.{Question}
 use Rattle.answers.specs.Question.{key_of, Shaped, one_question, question_in, bucket_of, RightAnswer}
 use Rattle.answers.specs.QuestionLaws.{one_question_lem, one_equal}
-use Rattle.answers.specs.RecordLaws.{question_padded, question_is}
+use Rattle.answers.specs.RecordLaws.{question_padded, question_kind, question_key}
 use Rattle.answers.specs.Index.{next_answer, place_on, answers_on, place_for, entered, value_at, Indexed}
 use Rattle.answers.specs.ChainLaws.{bucket_below, next_at, next_past, place_hit, place_miss, walk_same}
 use Rattle.answers.specs.IndexLaws.{same_places}
@@ -115,15 +115,6 @@ module _ (bytes ix : List ℕ) (k at : ℕ) (size : length ix ≡ 7424) (low : k
       next_at (entered bytes ix k at) j h ∙ entered_other (1024 + j) (λ e. omega arith) (λ e. n (omega arith)) (λ e. omega arith) ∙ sym (next_at ix j h))
       (λ f. let h = ltb-false j 2048 f in next_past (entered bytes ix k at) j h ∙ sym (next_past ix j h)) (both_ways (ltb j 2048))
 
--- the three stores that make it
-pub three_stores : (bytes ix x y z : List ℕ) (k at b head : ℕ) (q : Question) → q ≡ question_in bytes at → b ≡ bucket_of q → head ≡ get_or ix b 0
-    → x ≡ set ix (3072 + k) at → y ≡ set x (1024 + k) head → z ≡ set y b (k + 1) → z ≡ entered bytes ix k at
-unfolding entered
-three_stores bytes ix x y z k at b head q eq eb eh ex ey ez =
-    let e : b ≡ bucket_of (question_in bytes at) = eb ∙ ap bucket_of eq in
-    let h : head ≡ get_or ix (bucket_of (question_in bytes at)) 0 = eh ∙ ap (λ n. get_or ix n 0) e in
-    ez ∙ (λ t. set (ey t) (e t) (k + 1)) ∙ (λ t. set (set (ex t) (1024 + k) (h t)) (bucket_of (question_in bytes at)) (k + 1))
-
 -- ONE ANSWER MORE
 
 module _ (bytes ix : List ℕ) (c : Counts) (at : ℕ) (i : Indexed bytes ix c) (low : c.answers < 2048) where
@@ -162,7 +153,8 @@ module _ (bytes ix : List ℕ) (c : Counts) (at : ℕ) (i : Indexed bytes ix c) 
         let back : k + 1 - 1 ≡ k = omega arith in
         let head : get_or after (bucket_of q) 0 ≡ k + 1 = ap (λ x. get_or after x 0) b ∙ head_new bytes ix k at i.size low in
         let here : answer_byte after (k + 1 - 1) ≡ at = ap (answer_byte after) back ∙ place_new bytes ix k at i.size low in
-        let next : get_or after (1024 + (k + 1 - 1)) 0 ≡ get_or ix (bucket_of q) 0 = ap (λ x. get_or after (1024 + x) 0) back ∙ sym (next_at after k low) ∙ next_new bytes ix k at i.size low ∙ ap (λ x. get_or ix x 0) (sym b) in
+        let next : get_or after (1024 + (k + 1 - 1)) 0 ≡ get_or ix (bucket_of q) 0 = ap (λ x. get_or after (1024 + x) 0) back ∙ sym (next_at after k low)
+        ∙ next_new bytes ix k at i.size low ∙ ap (λ x. get_or ix x 0) (sym b) in
         ap (λ x. place_on bytes after q (answers_on after x)) head
         ∙ place_miss bytes after q (k + 1) falls (omega arith) (omega arith) (ap (λ x. one_question (question_in bytes x) q) here ∙ e)
         ∙ ap (λ x. place_on bytes after q (answers_on after x)) next
@@ -188,28 +180,25 @@ module _ (bytes ix : List ℕ) (c : Counts) (at : ℕ) (i : Indexed bytes ix c) 
       (d : Counts) (count : d.answers ≡ c.answers + 1)
     where
       -- the new answer's question in the definitions and in the code
-      tests_agree : (q : Question) → (eqb (answer_in bytes at).kind q.kind && same (answer_in bytes at).question (key_of q)) ≡ one_question (question_in bytes at) q
+      tests_agree : (q : Question) → (eqb (answer_in bytes at).kind (number_of q.kind) && same (answer_in bytes at).question (key_of q)) ≡ one_question (question_in bytes at) q
       unfolding answer_in
       tests_agree q =
-          let w = question_is bytes at r in
-          let e = w.number ∙ sym w.kind in
-          λ t. eqb (e t) q.kind && same (sym w.key t) (key_of q)
+          λ t. eqb (number_of (sym (question_kind bytes at) t)) (number_of q.kind) && same (sym (question_key bytes at r) t) (key_of q)
 
-      finds_after : (q : Question) → Shaped q → value_at bytes (place_for bytes after q) ≡ find (answers_in bytes after d) q.kind (key_of q)
+      finds_after : (q : Question) → Shaped q → value_at bytes (place_for bytes after q) ≡ find (answers_in bytes after d) (number_of q.kind) (key_of q)
       unfolding answer_in
       finds_after q s =
           let l = answers_in bytes ix c in
           let a = answer_in bytes at in
-          let w = question_is bytes at r in
-          let whole = ap (λ x. find x q.kind (key_of q)) (answers_enter d count) in
+          let whole = ap (λ x. find x (number_of q.kind) (key_of q)) (answers_enter d count) in
           ⊎_elim (λ t.
           let own : question_in bytes at ≡ q = one_question_lem (question_in bytes at) q (question_padded bytes at) s.padded t in
-          let absent : find l q.kind (key_of q) ≡ None =
-          ap (λ x. find l x.kind (key_of x)) (sym own) ∙ (λ z. find l ((w.kind ∙ sym w.number) z) (w.key z)) ∙ new in
+          let absent : find l (number_of q.kind) (key_of q) ≡ None =
+          ap (λ x. find l (number_of x.kind) (key_of x)) (sym own) ∙ (λ z. find l (number_of (question_kind bytes at z)) (question_key bytes at r z)) ∙ new in
           ap (λ x. value_at bytes (place_for bytes after x)) (sym own) ∙ ap (value_at bytes) place_own
-          ∙ sym (find_new q.kind (key_of q) a l (tests_agree q ∙ t) absent) ∙ sym whole)
+          ∙ sym (find_new (number_of q.kind) (key_of q) a l (tests_agree q ∙ t) absent) ∙ sym whole)
           (λ f.
-          ap (value_at bytes) (place_before q f) ∙ i.finds q s ∙ sym (find_other q.kind (key_of q) a l (tests_agree q ∙ f)) ∙ sym whole)
+          ap (value_at bytes) (place_before q f) ∙ i.finds q s ∙ sym (find_other (number_of q.kind) (key_of q) a l (tests_agree q ∙ f)) ∙ sym whole)
           (both_ways (one_question (question_in bytes at) q))
 
       -- an answer to a question that had none is entered

@@ -3,7 +3,7 @@ use Rattle.std.specs.Prelude.{ℕ, ◌+◌, ◌≤◌, ◌<◌, ◌≡◌, List,
 use Rattle.rules.specs.declared.Counts.{Counts}
 use Rattle.rules.specs.Fields.{le16}
 use Rattle.rules.specs.Questions.{find}
-use Rattle.rules.specs.Kinds.{kind_of, question_length}
+use Rattle.rules.specs.Kinds.{kind_of, number_of, question_length}
 use Rattle.fields.specs.Chains.{chain, Falling}
 use Rattle.job.specs.Lists.{answer_byte, fields_at, answers_in}
 use Rattle.answers.specs.declared.Question.{Question}
@@ -56,4 +56,4 @@ pub record Indexed (bytes ix : List ℕ) (c : Counts) : Type 0 where
   pub falling : Falling (next_answer ix)
   pub heads : (b : ℕ) → b < 1024 → get_or ix b 0 ≤ c.answers
   pub right : (k : ℕ) → k < c.answers → RightAnswer bytes (answer_byte ix k)
-  pub finds : (q : Question) → Shaped q → value_at bytes (place_for bytes ix q) ≡ find (answers_in bytes ix c) q.kind (key_of q)
+  pub finds : (q : Question) → Shaped q → value_at bytes (place_for bytes ix q) ≡ find (answers_in bytes ix c) (number_of q.kind) (key_of q)

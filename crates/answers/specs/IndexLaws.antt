@@ -1,6 +1,6 @@
 -- The index through loading: blank, with one answer more, with other parts changed.
-use Rattle.std.specs.Prelude.{ℕ, ◌+◌, ◌<◌, ◌≤◌, ◌≡◌, refl, true, false, ◌&&◌, length, get_or, set, replicate, ltb, Option, Some, None, is_some}
-use Rattle.std.proofs.Common.{arith, sym, subst, ◌∙◌, ⊎_elim, true≢false, length-set, get_or-set_other, ltb-true, ltb-false}
+use Rattle.std.specs.Prelude.{ℕ, ◌+◌, ◌<◌, ◌≤◌, ◌≡◌, refl, ◌&&◌, length, get_or, set, replicate, ltb, Option, Some, None, is_some}
+use Rattle.std.proofs.Common.{arith, sym, subst, ◌∙◌, ⊎_elim, length-set, get_or-set_other, ltb-true, ltb-false}
 use Rattle.std.proofs.Math.Path.{ap}
 use mathlib.Core.List.{List, [], map}
 use Rattle.std.proofs.lemmas.List.{length-replicate}
@@ -10,16 +10,14 @@ use Rattle.lists.specs.Constants.{get_or_constant}
 use Rattle.lists.specs.Runs.{below_in, from_none}
 use Rattle.lists.specs.Members.{map_same}
 use Rattle.rules.specs.declared.Counts.{Counts}
-use Rattle.rules.specs.declared.Kind.{Kind}
 use Rattle.rules.specs.Fields.{le16}
-use Rattle.rules.specs.Job.{Answer}
-use Rattle.rules.specs.Kinds.{kind_of, number_of, is_answer, question_of}
+use Rattle.rules.specs.Kinds.{kind_of, number_of}
 use Rattle.rules.specs.Questions.{find}
 use Rattle.rules.specs.Load.{answered_before}
 use Rattle.job.specs.Lists.{answer_byte, fields_at, answer_in, answers_in}
 use Rattle.answers.specs.declared.Question.{Question}
 use Rattle.answers.specs.Question.{key_of, Shaped, question_in, bucket_of, RightAnswer}
-use Rattle.answers.specs.RecordLaws.{question_is}
+use Rattle.answers.specs.RecordLaws.{question_kind, question_key}
 use Rattle.answers.specs.Index.{next_answer, place_on, answers_on, place_for, value_at, Indexed}
 use Rattle.answers.specs.ChainLaws.{bucket_below, next_at, next_past, place_end, walk_same}
 
@@ -48,7 +46,8 @@ indexed_blank bytes ix c e blank n = record {
   falling = λ k. ⊎_elim (λ t. omega (arith, next_at ix k (ltb-true k 2048 t), blank (1024 + k))) (λ f. omega (arith, next_past ix k (ltb-false k 2048 f))) (both_ways (ltb k 2048));
   heads = λ b h. omega (arith, blank b);
   right = λ k h. absurd (omega arith);
-  finds = λ q s. ap (value_at bytes) (place_end bytes ix q (get_or ix (bucket_of q) 0) (omega (arith, blank (bucket_of q)))) ∙ sym (ap (λ l. find l q.kind (key_of q)) (no_answers bytes ix c n) ∙ find_none q.kind (key_of q));
+  finds = λ q s. ap (value_at bytes) (place_end bytes ix q (get_or ix (bucket_of q) 0) (omega (arith, blank (bucket_of q))))
+      ∙ sym (ap (λ l. find l (number_of q.kind) (key_of q)) (no_answers bytes ix c n) ∙ find_none (number_of q.kind) (key_of q));
 }
 
 -- no answers, before the first record
@@ -85,16 +84,13 @@ module _ (bytes ix iy : List ℕ) (c d : Counts) (agree : (j : ℕ) → j < 5120
         ap (value_at bytes) (ap (λ n. place_on bytes iy q (answers_on iy n)) head
         ∙ walk_same bytes ix iy q (get_or ix (bucket_of q) 0) i.falling (λ k h. sym (next_agree k)) (λ k h. agree (3072 + k) (omega (arith, i.limit))))
         ∙ i.finds q s
-        ∙ sym (ap (λ l. find l q.kind (key_of q)) (answers_agree i));
+        ∙ sym (ap (λ l. find l (number_of q.kind) (key_of q)) (answers_agree i));
   }
 
 -- one store past the answers, and counts with as many answers
 pub indexed_same : (bytes ix : List ℕ) (c d : Counts) (j v : ℕ) → 5120 ≤ j → d.answers ≡ c.answers → Indexed bytes ix c → Indexed bytes (set ix j v) d
 indexed_same bytes ix c d j v h n i =
     indexed_agree bytes ix (set ix j v) c d (λ k l. get_or-set_other ix j k v 0 (λ e. omega arith)) n (length-set ix j v ∙ i.size) i
-
-pub answers_same : (bytes ix : List ℕ) (c d : Counts) (j v : ℕ) → 5120 ≤ j → d.answers ≡ c.answers → Indexed bytes ix c → answers_in bytes (set ix j v) d ≡ answers_in bytes ix c
-answers_same bytes ix c d j v h n i = answers_agree bytes ix (set ix j v) c d (λ k l. get_or-set_other ix j k v 0 (λ e. omega arith)) n i
 
 -- ANSWERED BEFORE
 
@@ -103,9 +99,8 @@ pub before_is : (bytes ix : List ℕ) (c : Counts) (at : ℕ) → Indexed bytes 
     → answered_before (kind_of (le16 bytes (at + 4))) (answers_in bytes ix c) (fields_at bytes at) ≡ is_some (value_at bytes (place_for bytes ix (question_in bytes at)))
 unfolding answered_before
 before_is bytes ix c at i r s =
-    let w = question_is bytes at r in
     let l = answers_in bytes ix c in
-    (λ t. r.0 t && is_some (find l ((w.number ∙ sym w.kind) t) (sym w.key t))) ∙ ap is_some (sym (i.finds (question_in bytes at) s))
+    (λ t. r.0 t && is_some (find l (number_of (sym (question_kind bytes at) t)) (sym (question_key bytes at r) t))) ∙ ap is_some (sym (i.finds (question_in bytes at) s))
 
 -- a place has a record, and so a value
 some_at : (bytes : List ℕ) (f : Option ℕ) → is_some (value_at bytes f) ≡ is_some f
@@ -121,12 +116,3 @@ module _ (bytes ix : List ℕ) (c : Counts) (at : ℕ) (i : Indexed bytes ix c) 
 
     pub before_found : is_some f ≡ answered_before (kind_of (le16 bytes (at + 4))) (answers_in bytes ix c) (fields_at bytes at)
     before_found = sym (finds_before ∙ some_at bytes f)
-
--- an answer whose question is not answered before finds nothing
-pub not_before : (kind : Kind) (l : List Answer) (x : List ℕ) → is_answer kind ≡ true → answered_before kind l x ≡ false → find l (number_of kind) (question_of kind x) ≡ None
-unfolding answered_before
-not_before kind l x e n = go (find l (number_of kind) (question_of kind x)) (ap (λ t. t && is_some (find l (number_of kind) (question_of kind x))) (sym e) ∙ n)
-  where
-    go : (f : Option (List ℕ)) → is_some f ≡ false → f ≡ None
-    go None h = refl
-    go (Some v) h = absurd (true≢false h)

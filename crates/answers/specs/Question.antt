@@ -4,7 +4,7 @@ use Rattle.lists.specs.Lists.{same}
 use Rattle.rules.specs.declared.Kind.{Kind}
 use Rattle.rules.specs.declared.Kind.TheVariants.{Unknown, Head, Vertex, EdgeRecord, FaceRecord, LoopRecord, VertexLoop, Radial, Surface, Points, Curves, Singular, Orientation, Inside}
 use Rattle.rules.specs.Fields.{le16, le32}
-use Rattle.rules.specs.Kinds.{kind_of, is_answer, right_length}
+use Rattle.rules.specs.Kinds.{kind_of, number_of, is_answer, right_length}
 use Rattle.answers.specs.declared.Question.{Question}
 
 -- the numbers that make a question
@@ -21,53 +21,52 @@ pub record Padded (q : Question) : Type 0 where
 
 -- and each number is one that a field holds
 pub record Shaped (q : Question) : Type 0 where
-  pub kind : q.kind < 65536
   pub a : q.a < 4294967296
   pub b : q.b < 4294967296
   pub c : q.c < 4294967296
   pub d : q.d < 4294967296
   pub padded : Padded q
 
-abbrev pub about_none : ℕ → Question
+abbrev pub about_none : Kind → Question
 about_none k = record { kind = k; words = 0; a = 0; b = 0; c = 0; d = 0 }
 
-abbrev pub about_one : ℕ → ℕ → Question
+abbrev pub about_one : Kind → ℕ → Question
 about_one k a = record { kind = k; words = 1; a = a; b = 0; c = 0; d = 0 }
 
-abbrev pub about_two : ℕ → ℕ → ℕ → Question
+abbrev pub about_two : Kind → ℕ → ℕ → Question
 about_two k a b = record { kind = k; words = 2; a = a; b = b; c = 0; d = 0 }
 
 -- the lower number first
-abbrev pub about_either : ℕ → ℕ → ℕ → Question
+abbrev pub about_either : Kind → ℕ → ℕ → Question
 about_either k a b = cond (leb a b) (about_two k a b) (about_two k b a)
 
-abbrev pub about_four : ℕ → ℕ → ℕ → ℕ → ℕ → Question
+abbrev pub about_four : Kind → ℕ → ℕ → ℕ → ℕ → Question
 about_four k a b c d = record { kind = k; words = 4; a = a; b = b; c = c; d = d }
 
 -- two questions are one, as a test
 abbrev pub one_question : Question → Question → Bool
-one_question q r = eqb q.kind r.kind && same (key_of q) (key_of r)
+one_question q r = eqb (number_of q.kind) (number_of r.kind) && same (key_of q) (key_of r)
 
--- the question of a record of a kind, k as a number, whose payload stands at a place
-unfoldable pub question_by : Kind → ℕ → List ℕ → ℕ → Question
-question_by Unknown k bytes p = about_none k
-question_by Head k bytes p = about_none k
-question_by Vertex k bytes p = about_none k
-question_by EdgeRecord k bytes p = about_none k
-question_by FaceRecord k bytes p = about_none k
-question_by LoopRecord k bytes p = about_none k
-question_by VertexLoop k bytes p = about_none k
-question_by Radial k bytes p = about_one k (le32 bytes p)
-question_by Surface k bytes p = about_one k (le32 bytes p)
-question_by Points k bytes p = about_either k (le32 bytes p) (le32 bytes (p + 4))
-question_by Curves k bytes p = about_either k (le32 bytes p) (le32 bytes (p + 4))
-question_by Singular k bytes p = about_four k (le32 bytes p) (le32 bytes (p + 4)) (le32 bytes (p + 8)) (le32 bytes (p + 12))
-question_by Orientation k bytes p = about_one k (le32 bytes p)
-question_by Inside k bytes p = about_two k (le32 bytes p) (le32 bytes (p + 4))
+-- the question of a record of a kind, whose payload stands at a place
+unfoldable pub question_by : Kind → List ℕ → ℕ → Question
+question_by Unknown bytes p = about_none Unknown
+question_by Head bytes p = about_none Head
+question_by Vertex bytes p = about_none Vertex
+question_by EdgeRecord bytes p = about_none EdgeRecord
+question_by FaceRecord bytes p = about_none FaceRecord
+question_by LoopRecord bytes p = about_none LoopRecord
+question_by VertexLoop bytes p = about_none VertexLoop
+question_by Radial bytes p = about_one Radial (le32 bytes p)
+question_by Surface bytes p = about_one Surface (le32 bytes p)
+question_by Points bytes p = about_either Points (le32 bytes p) (le32 bytes (p + 4))
+question_by Curves bytes p = about_either Curves (le32 bytes p) (le32 bytes (p + 4))
+question_by Singular bytes p = about_four Singular (le32 bytes p) (le32 bytes (p + 4)) (le32 bytes (p + 8)) (le32 bytes (p + 12))
+question_by Orientation bytes p = about_one Orientation (le32 bytes p)
+question_by Inside bytes p = about_two Inside (le32 bytes p) (le32 bytes (p + 4))
 
 -- the question of the record at a byte
 unfoldable pub question_in : List ℕ → ℕ → Question
-question_in bytes at = question_by (kind_of (le16 bytes (at + 4))) (le16 bytes (at + 4)) bytes (at + 6)
+question_in bytes at = question_by (kind_of (le16 bytes (at + 4))) bytes (at + 6)
 
 -- the record at a byte is an answer of the right length, and so has a question
 abbrev pub RightAnswer : List ℕ → ℕ → Type 0
@@ -75,4 +74,4 @@ RightAnswer bytes at = (is_answer (kind_of (le16 bytes (at + 4))) ≡ true) × (
 
 -- the bucket of a question
 unfoldable pub bucket_of : Question → ℕ
-bucket_of q = (131 * q.kind + q.a + 61 * q.b + 17 * q.c + 307 * q.d) % 1024
+bucket_of q = (131 * number_of q.kind + q.a + 61 * q.b + 17 * q.c + 307 * q.d) % 1024

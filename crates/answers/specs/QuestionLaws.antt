@@ -1,10 +1,15 @@
 -- Laws of questions: equal by kind and key, and the question of a record that is a right answer.
+use denote.Enum.Bare.{sameb, same_true, true_same}
 use Rattle.std.specs.Prelude.{ℕ, zero, suc, ◌<◌, ◌≡◌, refl, List, [], ◌∷◌, Bool, true, false, ◌&&◌, cond, length, get_or, take, eqb, leb}
 use Rattle.std.proofs.Common.{arith, sym, ap, ◌∙◌, ⊎_elim, length-take-le, eqb-true, eq-eqb, true≢false}
 use Rattle.lists.specs.Lists.{same}
 use Rattle.lists.specs.Tests.{both_ways, and_both, both_and}
 use Rattle.lists.specs.SameLists.{same_self, same_is}
+use Rattle.rules.specs.declared.Kind.{Kind}
+use Rattle.rules.specs.contracts.Kind.{the_type as Kind_type}
+use Rattle.rules.specs.Kinds.{number_of}
 use Rattle.rules.specs.Questions.{unordered}
+use Rattle.rules.proofs.KindLaws.{one_kind}
 use Rattle.answers.specs.declared.Question.{Question}
 use Rattle.answers.specs.Question.{key_of, Padded, Shaped, about_none, about_one, about_two, about_either, about_four, one_question}
 
@@ -55,30 +60,30 @@ same_question q r p s k e =
 
 pub one_question_lem : (q r : Question) → Padded q → Padded r → one_question q r ≡ true → q ≡ r
 one_question_lem q r p s e =
-    let w = and_both (eqb q.kind r.kind) (same (key_of q) (key_of r)) e in
-    same_question q r p s (eqb-true q.kind r.kind w.0) (same_is (key_of q) (key_of r) w.1)
+    let w = and_both (eqb (number_of q.kind) (number_of r.kind)) (same (key_of q) (key_of r)) e in
+    same_question q r p s (one_kind q.kind r.kind (eqb-true (number_of q.kind) (number_of r.kind) w.0)) (same_is (key_of q) (key_of r) w.1)
 
 pub one_equal : (q r : Question) → q ≡ r → one_question q r ≡ true
 one_equal q r e =
-    both_and (eqb q.kind r.kind) (same (key_of q) (key_of r)) (eq-eqb q.kind r.kind (ap (λ x. x.kind) e))
-    (ap (λ x. same (key_of q) (key_of x)) (sym e) ∙ same_self (key_of q))
+    both_and (eqb (number_of q.kind) (number_of r.kind)) (same (key_of q) (key_of r))
+    (eq-eqb (number_of q.kind) (number_of r.kind) (ap (λ x. number_of x.kind) e)) (ap (λ x. same (key_of q) (key_of x)) (sym e) ∙ same_self (key_of q))
 
-pub one_differ : (q r : Question) → Padded q → Padded r → (q ≡ r → ⊥) → one_question q r ≡ false
+one_differ : (q r : Question) → Padded q → Padded r → (q ≡ r → ⊥) → one_question q r ≡ false
 one_differ q r p s n = ⊎_elim (λ t. absurd (n (one_question_lem q r p s t))) (λ f. f) (both_ways (one_question q r))
 
 -- `==` of questions, field by field
 abbrev pub equal : Question → Question → Bool
-equal q r = eqb q.kind r.kind && (eqb q.words r.words && (eqb q.a r.a && (eqb q.b r.b && (eqb q.c r.c && eqb q.d r.d))))
+equal q r = sameb Kind_type q.kind r.kind && (eqb q.words r.words && (eqb q.a r.a && (eqb q.b r.b && (eqb q.c r.c && eqb q.d r.d))))
 
 equal_is : (q r : Question) → equal q r ≡ true → q ≡ r
 equal_is q r e =
-    let k = and_both (eqb q.kind r.kind) _ e in
+    let k = and_both (sameb Kind_type q.kind r.kind) _ e in
     let w = and_both (eqb q.words r.words) _ k.1 in
     let x = and_both (eqb q.a r.a) _ w.1 in
     let y = and_both (eqb q.b r.b) _ x.1 in
     let z = and_both (eqb q.c r.c) (eqb q.d r.d) y.1 in
     λ i. record {
-      kind = eqb-true q.kind r.kind k.0 i;
+      kind = same_true Kind_type tt q.kind r.kind k.0 i;
       words = eqb-true q.words r.words w.0 i;
       a = eqb-true q.a r.a x.0 i;
       b = eqb-true q.b r.b y.0 i;
@@ -88,7 +93,7 @@ equal_is q r e =
 
 equal_self : (q r : Question) → q ≡ r → equal q r ≡ true
 equal_self q r e =
-    let self : equal q q ≡ true = rw (eq-eqb q.kind q.kind refl, eq-eqb q.words q.words refl, eq-eqb q.a q.a refl, eq-eqb q.b q.b refl, eq-eqb q.c q.c refl, eq-eqb q.d q.d refl) in
+    let self : equal q q ≡ true = rw (true_same Kind_type q.kind q.kind refl, eq-eqb q.words q.words refl, eq-eqb q.a q.a refl, eq-eqb q.b q.b refl, eq-eqb q.c q.c refl, eq-eqb q.d q.d refl) in
     ap (equal q) (sym e) ∙ self
 
 -- it is the test of the definitions
@@ -101,16 +106,16 @@ equal_one q r p s =
 
 -- ABOUT ONE, TWO, FOUR NUMBERS
 
-pub padded_none : (k : ℕ) → Padded (about_none k)
+pub padded_none : (k : Kind) → Padded (about_none k)
 padded_none k = record { words = omega arith; no_a = λ h. refl; no_b = λ h. refl; no_c = λ h. refl; no_d = λ h. refl }
 
-pub padded_one : (k a : ℕ) → Padded (about_one k a)
+pub padded_one : (k : Kind) (a : ℕ) → Padded (about_one k a)
 padded_one k a = record { words = omega arith; no_a = λ h. absurd (omega arith); no_b = λ h. refl; no_c = λ h. refl; no_d = λ h. refl }
 
-pub padded_two : (k a b : ℕ) → Padded (about_two k a b)
+pub padded_two : (k : Kind) (a b : ℕ) → Padded (about_two k a b)
 padded_two k a b = record { words = omega arith; no_a = λ h. absurd (omega arith); no_b = λ h. absurd (omega arith); no_c = λ h. refl; no_d = λ h. refl }
 
-pub padded_four : (k a b c d : ℕ) → Padded (about_four k a b c d)
+pub padded_four : (k : Kind) (a b c d : ℕ) → Padded (about_four k a b c d)
 padded_four k a b c d = record {
   words = omega arith;
   no_a = λ h. absurd (omega arith);
@@ -124,32 +129,34 @@ either : (P : Question → Type 0) (t : Bool) (q r : Question) → P q → P r �
 either P true q r p s = p
 either P false q r p s = s
 
-pub shaped_none : (k : ℕ) → k < 65536 → Shaped (about_none k)
-shaped_none k hk = record { kind = hk; a = omega arith; b = omega arith; c = omega arith; d = omega arith; padded = padded_none k }
+pub shaped_none : (k : Kind) → Shaped (about_none k)
+shaped_none k = record { a = omega arith; b = omega arith; c = omega arith; d = omega arith; padded = padded_none k }
 
-pub shaped_one : (k a : ℕ) → k < 65536 → a < 4294967296 → Shaped (about_one k a)
-shaped_one k a hk ha = record { kind = hk; a = ha; b = omega arith; c = omega arith; d = omega arith; padded = padded_one k a }
+pub shaped_one : (k : Kind) (a : ℕ) → a < 4294967296 → Shaped (about_one k a)
+shaped_one k a ha = record { a = ha; b = omega arith; c = omega arith; d = omega arith; padded = padded_one k a }
 
-pub shaped_two : (k a b : ℕ) → k < 65536 → a < 4294967296 → b < 4294967296 → Shaped (about_two k a b)
-shaped_two k a b hk ha hb = record { kind = hk; a = ha; b = hb; c = omega arith; d = omega arith; padded = padded_two k a b }
+pub shaped_two : (k : Kind) (a b : ℕ) → a < 4294967296 → b < 4294967296 → Shaped (about_two k a b)
+shaped_two k a b ha hb = record { a = ha; b = hb; c = omega arith; d = omega arith; padded = padded_two k a b }
 
-pub shaped_either : (k a b : ℕ) → k < 65536 → a < 4294967296 → b < 4294967296 → Shaped (about_either k a b)
-shaped_either k a b hk ha hb = either Shaped (leb a b) (about_two k a b) (about_two k b a) (shaped_two k a b hk ha hb) (shaped_two k b a hk hb ha)
+pub shaped_either : (k : Kind) (a b : ℕ) → a < 4294967296 → b < 4294967296 → Shaped (about_either k a b)
+shaped_either k a b ha hb = either Shaped (leb a b) (about_two k a b) (about_two k b a) (shaped_two k a b ha hb) (shaped_two k b a hb ha)
 
-pub shaped_four : (k a b c d : ℕ) → k < 65536 → a < 4294967296 → b < 4294967296 → c < 4294967296 → d < 4294967296 → Shaped (about_four k a b c d)
-shaped_four k a b c d hk ha hb hc hd = record { kind = hk; a = ha; b = hb; c = hc; d = hd; padded = padded_four k a b c d }
+pub shaped_four : (k : Kind) (a b c d : ℕ) → a < 4294967296 → b < 4294967296 → c < 4294967296 → d < 4294967296 → Shaped (about_four k a b c d)
+shaped_four k a b c d ha hb hc hd = record { a = ha; b = hb; c = hc; d = hd; padded = padded_four k a b c d }
 
-pub padded_either : (k a b : ℕ) → Padded (about_either k a b)
+pub ruleset shaped = (shaped_none, shaped_one, shaped_two, shaped_either, shaped_four)
+
+pub padded_either : (k : Kind) (a b : ℕ) → Padded (about_either k a b)
 padded_either k a b = either Padded (leb a b) (about_two k a b) (about_two k b a) (padded_two k a b) (padded_two k b a)
 
-pub either_kind : (k a b : ℕ) → (about_either k a b).kind ≡ k
+pub either_kind : (k : Kind) (a b : ℕ) → (about_either k a b).kind ≡ k
 either_kind k a b = either (λ q. q.kind ≡ k) (leb a b) (about_two k a b) (about_two k b a) refl refl
 
-pub either_words : (k a b : ℕ) → (about_either k a b).words ≡ 2
+pub either_words : (k : Kind) (a b : ℕ) → (about_either k a b).words ≡ 2
 either_words k a b = either (λ q. q.words ≡ 2) (leb a b) (about_two k a b) (about_two k b a) refl refl
 
 -- the key of a question without order
-pub either_key : (k a b : ℕ) → key_of (about_either k a b) ≡ unordered a b
+pub either_key : (k : Kind) (a b : ℕ) → key_of (about_either k a b) ≡ unordered a b
 either_key k a b = go (leb a b)
   where
     go : (t : Bool) → key_of (cond t (about_two k a b) (about_two k b a)) ≡ cond t (a ∷ b ∷ []) (b ∷ a ∷ [])

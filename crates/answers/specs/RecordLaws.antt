@@ -1,7 +1,7 @@
 -- The question of a record, as the code has it and as the definitions have it.
-use Rattle.std.specs.Prelude.{ℕ, zero, suc, ◌+◌, ◌*◌, ◌/◌, ◌%◌, ◌<◌, ◌≤◌, ◌≡◌, refl, true, ◌&&◌, get_or, take, drop, eqb, ltb}
+use Rattle.std.specs.Prelude.{ℕ, ◌+◌, ◌*◌, ◌/◌, ◌%◌, ◌<◌, ◌≤◌, ◌≡◌, refl, true, ◌&&◌, get_or, take, drop, eqb, ltb}
 use native.Mathlib.Omega.{arith}
-use Rattle.std.proofs.Common.{sym, subst, ◌∙◌, eqb-true, ltb-true}
+use Rattle.std.proofs.Common.{sym, ◌∙◌, eqb-true, ltb-true}
 use Rattle.std.proofs.Math.Path.{ap}
 use mathlib.Core.List.{List, [], ◌∷◌}
 use Rattle.std.proofs.lemmas.Bool.{false≢true}
@@ -13,30 +13,10 @@ use Rattle.rules.specs.Kinds.{kind_of, number_of, is_answer, right_length, quest
 use Rattle.rules.specs.Questions.{unordered}
 use Rattle.job.specs.Lists.{fields_at}
 use Rattle.job.specs.FieldLaws.{take_fields, field_in, fields_first}
-use Rattle.answers.specs.declared.Question.{Question}
-use Rattle.answers.specs.Question.{key_of, Padded, Shaped, about_none, about_one, about_two, about_either, about_four, question_by, question_in, RightAnswer}
-use Rattle.answers.specs.QuestionLaws.{padded_none, padded_one, padded_two, padded_four, padded_either, either_kind, either_words, either_key, shaped_none, shaped_one, shaped_two, shaped_either, shaped_four}
+use Rattle.answers.specs.Question.{key_of, Padded, about_one, about_two, about_either, about_four, question_by, question_in, RightAnswer}
+use Rattle.answers.specs.QuestionLaws.{padded_none, padded_one, padded_two, padded_four, padded_either, either_kind, either_words, either_key}
 
 -- KINDS
-
--- a number that is an answer's kind is its kind's number
-pub answer_number : (k : ℕ) → is_answer (kind_of k) ≡ true → number_of (kind_of k) ≡ k
-unfolding kind_of number_of
-answer_number zero e = absurd (false≢true e)
-answer_number (suc zero) e = absurd (false≢true e)
-answer_number (suc (suc zero)) e = absurd (false≢true e)
-answer_number (suc (suc (suc zero))) e = absurd (false≢true e)
-answer_number (suc (suc (suc (suc zero)))) e = absurd (false≢true e)
-answer_number (suc (suc (suc (suc (suc zero))))) e = absurd (false≢true e)
-answer_number (suc (suc (suc (suc (suc (suc zero)))))) e = absurd (false≢true e)
-answer_number (suc (suc (suc (suc (suc (suc (suc zero))))))) e = refl
-answer_number (suc (suc (suc (suc (suc (suc (suc (suc zero)))))))) e = refl
-answer_number (suc (suc (suc (suc (suc (suc (suc (suc (suc zero))))))))) e = refl
-answer_number (suc (suc (suc (suc (suc (suc (suc (suc (suc (suc zero)))))))))) e = refl
-answer_number (suc (suc (suc (suc (suc (suc (suc (suc (suc (suc (suc zero))))))))))) e = refl
-answer_number (suc (suc (suc (suc (suc (suc (suc (suc (suc (suc (suc (suc zero)))))))))))) e = refl
-answer_number (suc (suc (suc (suc (suc (suc (suc (suc (suc (suc (suc (suc (suc zero))))))))))))) e = refl
-answer_number (suc (suc (suc (suc (suc (suc (suc (suc (suc (suc (suc (suc (suc (suc k)))))))))))))) e = absurd (false≢true e)
 
 -- so many bytes as n fields have are n fields
 long : (n size : ℕ) → eqb size (4 * n) ≡ true → size / 4 ≡ n
@@ -65,8 +45,8 @@ question_fits Singular size e = omega (arith, long 5 size e)
 question_fits Orientation size e = omega (arith, long 2 size e)
 question_fits Inside size e = omega (arith, long 3 size e)
 
--- and, but for kind 7, one field more
-pub value_fits : (kind : Kind) (size : ℕ) → is_answer kind ≡ true → (number_of kind ≡ 7 → ⊥) → right_length kind size ≡ true → question_length kind < size / 4
+-- and, but for a radial order, one field more
+pub value_fits : (kind : Kind) (size : ℕ) → is_answer kind ≡ true → (kind ≡ Radial → ⊥) → right_length kind size ≡ true → question_length kind < size / 4
 unfolding right_length question_length number_of
 value_fits Unknown size t n e = absurd (false≢true t)
 value_fits Head size t n e = absurd (false≢true t)
@@ -85,56 +65,56 @@ value_fits Inside size t n e = omega (arith, long 3 size e)
 
 -- THE QUESTION OF A RECORD
 
-padded_by : (kind : Kind) (k : ℕ) (bytes : List ℕ) (p : ℕ) → Padded (question_by kind k bytes p)
+padded_by : (kind : Kind) (bytes : List ℕ) (p : ℕ) → Padded (question_by kind bytes p)
 unfolding question_by
-padded_by Unknown k bytes p = padded_none k
-padded_by Head k bytes p = padded_none k
-padded_by Vertex k bytes p = padded_none k
-padded_by EdgeRecord k bytes p = padded_none k
-padded_by FaceRecord k bytes p = padded_none k
-padded_by LoopRecord k bytes p = padded_none k
-padded_by VertexLoop k bytes p = padded_none k
-padded_by Radial k bytes p = padded_one k (le32 bytes p)
-padded_by Surface k bytes p = padded_one k (le32 bytes p)
-padded_by Points k bytes p = padded_either k (le32 bytes p) (le32 bytes (p + 4))
-padded_by Curves k bytes p = padded_either k (le32 bytes p) (le32 bytes (p + 4))
-padded_by Singular k bytes p = padded_four k (le32 bytes p) (le32 bytes (p + 4)) (le32 bytes (p + 8)) (le32 bytes (p + 12))
-padded_by Orientation k bytes p = padded_one k (le32 bytes p)
-padded_by Inside k bytes p = padded_two k (le32 bytes p) (le32 bytes (p + 4))
+padded_by Unknown bytes p = padded_none Unknown
+padded_by Head bytes p = padded_none Head
+padded_by Vertex bytes p = padded_none Vertex
+padded_by EdgeRecord bytes p = padded_none EdgeRecord
+padded_by FaceRecord bytes p = padded_none FaceRecord
+padded_by LoopRecord bytes p = padded_none LoopRecord
+padded_by VertexLoop bytes p = padded_none VertexLoop
+padded_by Radial bytes p = padded_one Radial (le32 bytes p)
+padded_by Surface bytes p = padded_one Surface (le32 bytes p)
+padded_by Points bytes p = padded_either Points (le32 bytes p) (le32 bytes (p + 4))
+padded_by Curves bytes p = padded_either Curves (le32 bytes p) (le32 bytes (p + 4))
+padded_by Singular bytes p = padded_four Singular (le32 bytes p) (le32 bytes (p + 4)) (le32 bytes (p + 8)) (le32 bytes (p + 12))
+padded_by Orientation bytes p = padded_one Orientation (le32 bytes p)
+padded_by Inside bytes p = padded_two Inside (le32 bytes p) (le32 bytes (p + 4))
 
-kind_by : (kind : Kind) (k : ℕ) (bytes : List ℕ) (p : ℕ) → (question_by kind k bytes p).kind ≡ k
+kind_by : (kind : Kind) (bytes : List ℕ) (p : ℕ) → (question_by kind bytes p).kind ≡ kind
 unfolding question_by
-kind_by Unknown k bytes p = refl
-kind_by Head k bytes p = refl
-kind_by Vertex k bytes p = refl
-kind_by EdgeRecord k bytes p = refl
-kind_by FaceRecord k bytes p = refl
-kind_by LoopRecord k bytes p = refl
-kind_by VertexLoop k bytes p = refl
-kind_by Radial k bytes p = refl
-kind_by Surface k bytes p = refl
-kind_by Points k bytes p = either_kind k (le32 bytes p) (le32 bytes (p + 4))
-kind_by Curves k bytes p = either_kind k (le32 bytes p) (le32 bytes (p + 4))
-kind_by Singular k bytes p = refl
-kind_by Orientation k bytes p = refl
-kind_by Inside k bytes p = refl
+kind_by Unknown bytes p = refl
+kind_by Head bytes p = refl
+kind_by Vertex bytes p = refl
+kind_by EdgeRecord bytes p = refl
+kind_by FaceRecord bytes p = refl
+kind_by LoopRecord bytes p = refl
+kind_by VertexLoop bytes p = refl
+kind_by Radial bytes p = refl
+kind_by Surface bytes p = refl
+kind_by Points bytes p = either_kind Points (le32 bytes p) (le32 bytes (p + 4))
+kind_by Curves bytes p = either_kind Curves (le32 bytes p) (le32 bytes (p + 4))
+kind_by Singular bytes p = refl
+kind_by Orientation bytes p = refl
+kind_by Inside bytes p = refl
 
-words_by : (kind : Kind) (k : ℕ) (bytes : List ℕ) (p : ℕ) → (question_by kind k bytes p).words ≡ question_length kind
+words_by : (kind : Kind) (bytes : List ℕ) (p : ℕ) → (question_by kind bytes p).words ≡ question_length kind
 unfolding question_by question_length
-words_by Unknown k bytes p = refl
-words_by Head k bytes p = refl
-words_by Vertex k bytes p = refl
-words_by EdgeRecord k bytes p = refl
-words_by FaceRecord k bytes p = refl
-words_by LoopRecord k bytes p = refl
-words_by VertexLoop k bytes p = refl
-words_by Radial k bytes p = refl
-words_by Surface k bytes p = refl
-words_by Points k bytes p = either_words k (le32 bytes p) (le32 bytes (p + 4))
-words_by Curves k bytes p = either_words k (le32 bytes p) (le32 bytes (p + 4))
-words_by Singular k bytes p = refl
-words_by Orientation k bytes p = refl
-words_by Inside k bytes p = refl
+words_by Unknown bytes p = refl
+words_by Head bytes p = refl
+words_by Vertex bytes p = refl
+words_by EdgeRecord bytes p = refl
+words_by FaceRecord bytes p = refl
+words_by LoopRecord bytes p = refl
+words_by VertexLoop bytes p = refl
+words_by Radial bytes p = refl
+words_by Surface bytes p = refl
+words_by Points bytes p = either_words Points (le32 bytes p) (le32 bytes (p + 4))
+words_by Curves bytes p = either_words Curves (le32 bytes p) (le32 bytes (p + 4))
+words_by Singular bytes p = refl
+words_by Orientation bytes p = refl
+words_by Inside bytes p = refl
 
 -- the first one, two and four fields at a place
 module _ (bytes : List ℕ) (p : ℕ) where
@@ -159,16 +139,16 @@ module _ (bytes : List ℕ) (p : ℕ) where
       ∙ ap {B = List ℕ} (λ l. le32 bytes p ∷ le32 bytes (p + 4) ∷ le32 bytes (p + 8) ∷ l) (fields_first 0 bytes (p + 12))
 
   -- the question of so many fields, each kind
-  one_question_lem : (k n : ℕ) → 1 ≤ n → key_of (about_one k (le32 bytes p)) ≡ take 1 (fields_in n (drop p bytes))
+  one_question_lem : (k : Kind) (n : ℕ) → 1 ≤ n → key_of (about_one k (le32 bytes p)) ≡ take 1 (fields_in n (drop p bytes))
   one_question_lem k n h = sym (take_fields 1 n (drop p bytes) h ∙ one_field)
 
-  two_question : (k n : ℕ) → 2 ≤ n → key_of (about_two k (le32 bytes p) (le32 bytes (p + 4))) ≡ take 2 (fields_in n (drop p bytes))
+  two_question : (k : Kind) (n : ℕ) → 2 ≤ n → key_of (about_two k (le32 bytes p) (le32 bytes (p + 4))) ≡ take 2 (fields_in n (drop p bytes))
   two_question k n h = sym (take_fields 2 n (drop p bytes) h ∙ two_fields)
 
-  four_question : (k n : ℕ) → 4 ≤ n → key_of (about_four k (le32 bytes p) (le32 bytes (p + 4)) (le32 bytes (p + 8)) (le32 bytes (p + 12))) ≡ take 4 (fields_in n (drop p bytes))
+  four_question : (k : Kind) (n : ℕ) → 4 ≤ n → key_of (about_four k (le32 bytes p) (le32 bytes (p + 4)) (le32 bytes (p + 8)) (le32 bytes (p + 12))) ≡ take 4 (fields_in n (drop p bytes))
   four_question k n h = sym (take_fields 4 n (drop p bytes) h ∙ four_fields_lem)
 
-  either_question : (k n : ℕ) → 2 ≤ n
+  either_question : (k : Kind) (n : ℕ) → 2 ≤ n
       → key_of (about_either k (le32 bytes p) (le32 bytes (p + 4))) ≡ unordered (get_or (fields_in n (drop p bytes)) 0 0) (get_or (fields_in n (drop p bytes)) 1 0)
   either_question k n h =
       let e : p + 0 ≡ p = omega arith in
@@ -176,71 +156,39 @@ module _ (bytes : List ℕ) (p : ℕ) where
       let b : get_or (fields_in n (drop p bytes)) 1 0 ≡ le32 bytes (p + 4) = field_in n bytes p 1 (omega arith) in
       either_key k (le32 bytes p) (le32 bytes (p + 4)) ∙ sym (λ i. unordered (a i) (b i))
 
-key_by : (kind : Kind) (k n : ℕ) (bytes : List ℕ) (p : ℕ) → question_length kind ≤ n → key_of (question_by kind k bytes p) ≡ question_of kind (fields_in n (drop p bytes))
+key_by : (kind : Kind) (n : ℕ) (bytes : List ℕ) (p : ℕ) → question_length kind ≤ n → key_of (question_by kind bytes p) ≡ question_of kind (fields_in n (drop p bytes))
 unfolding question_by question_length question_of
-key_by Unknown k n bytes p h = refl
-key_by Head k n bytes p h = refl
-key_by Vertex k n bytes p h = refl
-key_by EdgeRecord k n bytes p h = refl
-key_by FaceRecord k n bytes p h = refl
-key_by LoopRecord k n bytes p h = refl
-key_by VertexLoop k n bytes p h = refl
-key_by Radial k n bytes p h = one_question_lem bytes p k n h
-key_by Surface k n bytes p h = one_question_lem bytes p k n h
-key_by Points k n bytes p h = either_question bytes p k n h
-key_by Curves k n bytes p h = either_question bytes p k n h
-key_by Singular k n bytes p h = four_question bytes p k n h
-key_by Orientation k n bytes p h = one_question_lem bytes p k n h
-key_by Inside k n bytes p h = two_question bytes p k n h
+key_by Unknown n bytes p h = refl
+key_by Head n bytes p h = refl
+key_by Vertex n bytes p h = refl
+key_by EdgeRecord n bytes p h = refl
+key_by FaceRecord n bytes p h = refl
+key_by LoopRecord n bytes p h = refl
+key_by VertexLoop n bytes p h = refl
+key_by Radial n bytes p h = one_question_lem bytes p Radial n h
+key_by Surface n bytes p h = one_question_lem bytes p Surface n h
+key_by Points n bytes p h = either_question bytes p Points n h
+key_by Curves n bytes p h = either_question bytes p Curves n h
+key_by Singular n bytes p h = four_question bytes p Singular n h
+key_by Orientation n bytes p h = one_question_lem bytes p Orientation n h
+key_by Inside n bytes p h = two_question bytes p Inside n h
 
 pub question_padded : (bytes : List ℕ) (at : ℕ) → Padded (question_in bytes at)
 unfolding question_in
-question_padded bytes at = padded_by (kind_of (le16 bytes (at + 4))) (le16 bytes (at + 4)) bytes (at + 6)
+question_padded bytes at = padded_by (kind_of (le16 bytes (at + 4))) bytes (at + 6)
 
 pub question_words : (bytes : List ℕ) (at : ℕ) → (question_in bytes at).words ≡ question_length (kind_of (le16 bytes (at + 4)))
 unfolding question_in
-question_words bytes at = words_by (kind_of (le16 bytes (at + 4))) (le16 bytes (at + 4)) bytes (at + 6)
+question_words bytes at = words_by (kind_of (le16 bytes (at + 4))) bytes (at + 6)
 
--- the kind and the numbers of a right answer's question are those of the definitions
-pub record QuestionIs (bytes : List ℕ) (at : ℕ) : Type 0 where
-  pub kind : (question_in bytes at).kind ≡ le16 bytes (at + 4)
-  pub number : number_of (kind_of (le16 bytes (at + 4))) ≡ le16 bytes (at + 4)
-  pub key : key_of (question_in bytes at) ≡ question_of (kind_of (le16 bytes (at + 4))) (fields_at bytes at)
+-- the kind of a record's question is the record's
+pub question_kind : (bytes : List ℕ) (at : ℕ) → (question_in bytes at).kind ≡ kind_of (le16 bytes (at + 4))
+unfolding question_in
+question_kind bytes at = kind_by (kind_of (le16 bytes (at + 4))) bytes (at + 6)
 
-pub question_is : (bytes : List ℕ) (at : ℕ) → RightAnswer bytes at → QuestionIs bytes at
+-- the numbers of a right answer's question are those of the definitions
+pub question_key : (bytes : List ℕ) (at : ℕ) → RightAnswer bytes at → key_of (question_in bytes at) ≡ question_of (kind_of (le16 bytes (at + 4))) (fields_at bytes at)
 unfolding question_in fields_at
-question_is bytes at r =
-    let k = le16 bytes (at + 4) in
-    record {
-      kind = kind_by (kind_of k) k bytes (at + 6);
-      number = answer_number k r.0;
-      key = key_by (kind_of k) k (le32 bytes at / 4) bytes (at + 6) (question_fits (kind_of k) (le32 bytes at) r.1);
-    }
-
--- AS THE CODE READS IT
-
-module _ (bytes : List ℕ) (at k : ℕ) (kind : Kind) (q : Question) (ek : k ≡ le16 bytes (at + 4)) (hk : k < 65536) (es : kind ≡ kind_of k) where
-  read : q ≡ question_by kind k bytes (at + 6) → q ≡ question_in bytes at
-  unfolding question_in
-  read e = e ∙ (λ t. question_by ((es ∙ ap kind_of ek) t) (ek t) bytes (at + 6))
-
-  pub read_none : question_by kind k bytes (at + 6) ≡ about_none k → q ≡ about_none k → (q ≡ question_in bytes at) × Shaped q
-  read_none e eq = (read (eq ∙ sym e), subst Shaped (sym eq) (shaped_none k hk))
-
-  module _ (a : ℕ) (ea : a ≡ le32 bytes (at + 6)) (ha : a < 4294967296) where
-    pub read_one : question_by kind k bytes (at + 6) ≡ about_one k (le32 bytes (at + 6)) → q ≡ about_one k a → (q ≡ question_in bytes at) × Shaped q
-    read_one e eq = (read (eq ∙ ap (about_one k) ea ∙ sym e), subst Shaped (sym eq) (shaped_one k a hk ha))
-
-    module _ (b : ℕ) (eb : b ≡ le32 bytes (at + 6 + 4)) (hb : b < 4294967296) where
-      pub read_two : question_by kind k bytes (at + 6) ≡ about_two k (le32 bytes (at + 6)) (le32 bytes (at + 6 + 4)) → q ≡ about_two k a b
-          → (q ≡ question_in bytes at) × Shaped q
-      read_two e eq = (read (eq ∙ (λ t. about_two k (ea t) (eb t)) ∙ sym e), subst Shaped (sym eq) (shaped_two k a b hk ha hb))
-
-      pub read_either : question_by kind k bytes (at + 6) ≡ about_either k (le32 bytes (at + 6)) (le32 bytes (at + 6 + 4)) → q ≡ about_either k a b
-          → (q ≡ question_in bytes at) × Shaped q
-      read_either e eq = (read (eq ∙ (λ t. about_either k (ea t) (eb t)) ∙ sym e), subst Shaped (sym eq) (shaped_either k a b hk ha hb))
-
-      pub read_four : (c d : ℕ) → c ≡ le32 bytes (at + 6 + 8) → c < 4294967296 → d ≡ le32 bytes (at + 6 + 12) → d < 4294967296
-          → question_by kind k bytes (at + 6) ≡ about_four k (le32 bytes (at + 6)) (le32 bytes (at + 6 + 4)) (le32 bytes (at + 6 + 8)) (le32 bytes (at + 6 + 12))
-          → q ≡ about_four k a b c d → (q ≡ question_in bytes at) × Shaped q
-      read_four c d ec hc ed hd e eq = (read (eq ∙ (λ t. about_four k (ea t) (eb t) (ec t) (ed t)) ∙ sym e), subst Shaped (sym eq) (shaped_four k a b c d hk ha hb hc hd))
+question_key bytes at r =
+    let kind = kind_of (le16 bytes (at + 4)) in
+    key_by kind (le32 bytes at / 4) bytes (at + 6) (question_fits kind (le32 bytes at) r.1)

@@ -7,18 +7,20 @@ ghost use Rattle.std.specs.Prelude.{◌≡◌, ◌+◌, ◌<◌};
 ghost use Rattle.rules.specs.Fields.{le16};
 ghost use Rattle.rules.specs.Kinds.{kind_of};
 ghost use Rattle.rules.specs.Load.{answered_before};
-ghost use Rattle.job.specs.Lists.{fields_at, answers_in};
+ghost use Rattle.job.specs.Lists.{fields_at};
+ghost use Rattle.job.specs.Raw.{answers};
 ghost use Rattle.answers.specs.Question.{Padded, Shaped, about_one, about_two, about_either, question_in, bucket_of, RightAnswer};
 ghost use Rattle.answers.specs.Index.{place_for, Place32, entered, Chained, Indexed};
 
 use fields::{get, half, put, word};
-use job::{ANSWERS, BUCKETS, CHAIN};
-use rules::{Counts, Kind};
+use job::{ANSWERS, BUCKETS, CHAIN, RawJob};
+use rules::Kind;
 
-// The kind of an answer, and the one, two or four numbers that it is asked about.
+// The kind of an answer, and the one, two or four numbers that it is asked about; the rest are 0. All questions have one
+// shape, so that along a chain they are told apart by one comparison.
 #[derive(Clone, Copy, PartialEq, Eq)]
 pub struct Question {
-    pub kind: usize,
+    pub kind: Kind,
     pub words: usize,
     pub a: usize,
     pub b: usize,
@@ -27,7 +29,7 @@ pub struct Question {
 }
 
 // A question about one number, about two, about two without order.
-pub fn about_one(kind: usize, a: usize) -> Question
+pub fn about_one(kind: Kind, a: usize) -> Question
     ensures { result ≡ about_one kind a }
 {
     Question {
@@ -40,7 +42,7 @@ pub fn about_one(kind: usize, a: usize) -> Question
     }
 }
 
-pub fn about_two(kind: usize, a: usize, b: usize) -> Question
+pub fn about_two(kind: Kind, a: usize, b: usize) -> Question
     ensures { result ≡ about_two kind a b }
 {
     Question {
@@ -53,8 +55,8 @@ pub fn about_two(kind: usize, a: usize, b: usize) -> Question
     }
 }
 
-// Kinds 9 and 10 have no order of their two.
-pub fn about_either(kind: usize, a: usize, b: usize) -> Question
+// Points and curves have no order of their two.
+pub fn about_either(kind: Kind, a: usize, b: usize) -> Question
     ensures { result ≡ about_either kind a b }
 {
     if a <= b {
@@ -64,24 +66,25 @@ pub fn about_either(kind: usize, a: usize, b: usize) -> Question
 }
 
 // The question of the answer whose record stands at a byte.
+#[tactic(auto, using(crate::specs::QuestionLaws::shaped), unfolding(crate::specs::Question::question_in, crate::specs::Question::question_by))]
+#[inline(always)]
 pub fn question_at(job: &[u8], at: usize) -> Question
     requires { at < 4294967296 }
     ensures { (result ≡ question_in job.now at) × Shaped result }
 {
-    let k = half(job, at + 4);
+    let kind = Kind::from(half(job, at + 4));
     let p = at + 6;
     let a = word(job, p);
     let b = word(job, p + 4);
-    let kind = Kind::from(k);
     match kind {
-        Kind::Radial | Kind::Surface | Kind::Orientation => about_one(k, a),
-        Kind::Points | Kind::Curves => about_either(k, a, b),
-        Kind::Inside => about_two(k, a, b),
+        Kind::Radial | Kind::Surface | Kind::Orientation => about_one(kind, a),
+        Kind::Points | Kind::Curves => about_either(kind, a, b),
+        Kind::Inside => about_two(kind, a, b),
         Kind::Singular => {
             let c = word(job, p + 8);
             let d = word(job, p + 12);
             Question {
-                kind: k,
+                kind,
                 words: 4,
                 a,
                 b,
@@ -90,7 +93,7 @@ pub fn question_at(job: &[u8], at: usize) -> Question
             }
         }
         _ => Question {
-            kind: k,
+            kind,
             words: 0,
             a: 0,
             b: 0,
@@ -101,39 +104,44 @@ pub fn question_at(job: &[u8], at: usize) -> Question
 }
 
 // The chain in which a question's answer stands.
+#[tactic(auto, unfolding(crate::specs::Question::bucket_of))]
 fn bucket(q: Question) -> usize
     requires { Shaped q }
     ensures { (result ≡ bucket_of q) × (result < 1024) }
 {
-    (131 * q.kind + q.a + 61 * q.b + 17 * q.c + 307 * q.d) % BUCKETS
+    (131 * q.kind.number() + q.a + 61 * q.b + 17 * q.c + 307 * q.d) % BUCKETS
 }
 
 // The first byte of the record that answers a question.
-pub fn find(job: &[u8], index: &[u32], q: Question) -> Option<usize>
-    requires { Shaped q × Chained index.now }
-    ensures { (result ≡ place_for job.now index.now q) × Place32 result }
+#[tactic(auto, using(crate::specs::ChainLaws::walk_start, crate::specs::ChainLaws::walk_end))]
+pub fn find(raw: &RawJob<'_>, q: Question) -> Option<usize>
+    requires { Shaped q × Chained raw.now.index.now }
+    ensures { (result ≡ place_for raw.now.bytes.now raw.now.index.now q) × Place32 result }
 {
-    let mut i = get(index, bucket(q));
+    // a `while`: only an entry of the chain tells the next
+    let mut i = get(raw.index, bucket(q));
     while 0 < i {
         let k = i - 1;
-        let p = get(index, ANSWERS + k);
-        if question_at(job, p) == q {
+        let p = get(raw.index, ANSWERS + k);
+        if question_at(raw.bytes, p) == q {
             return Some(p);
         }
-        i = get(index, CHAIN + k);
+        i = get(raw.index, CHAIN + k);
     }
     None
 }
 
 // The question of the record at a byte is answered before.
-pub fn answered_before(job: &[u8], index: &[u32], c: Counts, at: usize) -> bool
-    requires { Indexed job.now index.now c × RightAnswer job.now at × (at < 4294967296) }
-    ensures { result ≡ answered_before (kind_of (le16 job.now (at + 4))) (answers_in job.now index.now c) (fields_at job.now at) }
+#[tactic(auto, using(crate::specs::IndexLaws::before_found, crate::specs::ChainLaws::chained))]
+pub fn answered_before(raw: &RawJob<'_>, at: usize) -> bool
+    requires { Indexed raw.now.bytes.now raw.now.index.now raw.now.counts × RightAnswer raw.now.bytes.now at × (at < 4294967296) }
+    ensures { result ≡ answered_before (kind_of (le16 raw.now.bytes.now (at + 4))) (answers raw.now) (fields_at raw.now.bytes.now at) }
 {
-    find(job, index, question_at(job, at)).is_some()
+    find(raw, question_at(raw.bytes, at)).is_some()
 }
 
 // The answer with number k, whose record stands at a byte, is entered in front of its chain.
+#[tactic(auto, unfolding(crate::specs::Index::entered))]
 pub fn enter(job: &[u8], index: &mut [u32], k: usize, at: usize)
     requires { (k < 2048) × (at < 4294967296) }
     ensures { index.new ≡ entered job.now index.old k at }

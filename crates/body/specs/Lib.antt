@@ -1,8 +1,7 @@
 pub mod Numbers
 pub mod Vertices
 pub mod Writing
-pub mod Rows
-pub mod RowLaws
+pub mod Solids
+pub mod FaceLaws
 pub mod ShellLaws
-pub mod Sized
 pub mod BodyLaws

@@ -1,13 +1,21 @@
 -- Numbers from 0 given to the members of a list, in a table that has each number plus one, and 0 for none.
-use Rattle.std.specs.Prelude.{ℕ, suc, ◌+◌, ◌-◌, ◌<◌, ◌≡◌, refl, ◌⊎◌, List, [], ◌∷◌, ◌++◌, cond, length, get_or, set, replicate, eqb}
+use Rattle.std.specs.Prelude.{ℕ, suc, ◌+◌, ◌-◌, ◌<◌, ◌≡◌, refl, ◌⊎◌, List, [], ◌∷◌, ◌++◌, map, false, cond, length, get_or, set, replicate, eqb}
+use Rattle.std.proofs.lemmas.Bool.Decides.{nat_tests}
 use Rattle.std.proofs.Math.Decide.{ℕ_discrete}
 use Rattle.std.proofs.Common.{arith, sym, ap, ◌∙◌, inl, inr, ⊎_elim, eq-eqb, ne_eqb}
 use mathlib.Core.List.Memᴰ
-use Rattle.lists.specs.Lists.{◌∈◌, position, index_of}
-use Rattle.lists.specs.Tests.{cond_true, cond_false}
+use Rattle.lists.specs.Lists.{◌∈◌, keep, position, index_of}
 use Rattle.lists.specs.Constants.{get_or_constant}
 use Rattle.lists.specs.Tables.{set_each, length_snoc}
+use Rattle.rules.specs.declared.Edge.{Edge}
+use Rattle.rules.specs.declared.EdgeData.{EdgeData}
+use Rattle.rules.specs.declared.Item.{Item}
+use Rattle.rules.specs.declared.Sense.TheVariants.{Same}
+use Rattle.rules.specs.Frame.{framed}
 use Rattle.rules.specs.Job.{unset}
+use Rattle.rules.specs.Edges.{FaceLoop}
+use Rattle.rules.specs.Body.{vertex_of, with_vertices, edge_record, loops_in}
+use Rattle.edges.specs.Table.{item_in}
 
 -- the entry of v: its number plus one, or none
 abbrev pub Entry : List ℕ → ℕ → ℕ → Type 0
@@ -26,22 +34,27 @@ number_of t count v = cond (eqb (get_or t v 0) 0) count (get_or t v 0 - 1)
 unfoldable pub vertex_in : List ℕ → ℕ → ℕ → ℕ
 vertex_in t count v = cond (eqb v unset) unset (number_of t count v)
 
--- as the code finds them
-pub number_none : (t : List ℕ) (count v x : ℕ) → x ≡ get_or t v 0 → x ≡ 0 → count ≡ number_of t count v
-unfolding number_of
-number_none t count v x e z = sym (cond_true (eqb (get_or t v 0) 0) count (get_or t v 0 - 1) (eq-eqb (get_or t v 0) 0 (sym e ∙ z)))
+-- an edge between vertices, by such a table
+abbrev pub placed : List ℕ → ℕ → EdgeData → Edge
+placed t count x = record { curve = x.curve; sense = x.sense; start = vertex_in t count x.start; end = vertex_in t count x.end }
 
-pub number_some : (t : List ℕ) (count v x : ℕ) → x ≡ get_or t v 0 → (x ≡ 0 → ⊥) → x - 1 ≡ number_of t count v
-unfolding number_of
-number_some t count v x e n = ap (λ y. y - 1) e ∙ sym (cond_false (eqb (get_or t v 0) 0) count (get_or t v 0 - 1) (ne_eqb (get_or t v 0) 0 (λ z. n (e ∙ z))))
+-- what a loop over edges reads past the last
+abbrev pub blank : EdgeData
+blank = record { curve = 0; sense = Same; start = 0; end = 0; faces = []; active = false }
 
-pub vertex_none : (t : List ℕ) (count v : ℕ) → v ≡ unset → unset ≡ vertex_in t count v
-unfolding vertex_in
-vertex_none t count v e = sym (cond_true (eqb v unset) unset (number_of t count v) (eq-eqb v unset e))
+-- the record of an edge, where it is active
+abbrev pub edge_row : List ℕ → ℕ → EdgeData → List ℕ
+edge_row t count x = cond x.active (framed (edge_record (placed t count x))) []
 
-pub vertex_some : (t : List ℕ) (count v : ℕ) → (v ≡ unset → ⊥) → number_of t count v ≡ vertex_in t count v
-unfolding vertex_in
-vertex_some t count v n = sym (cond_false (eqb v unset) unset (number_of t count v) (ne_eqb v unset n))
+-- an item, the items of a loop, and the loops of merged face f, by such a table
+abbrev pub renumbered_by : List ℕ → ℕ → Item → Item
+renumbered_by t count x = record { edge = number_of t count x.edge; sense = x.sense }
+
+abbrev pub items_by : List ℕ → ℕ → List ℕ → List Item
+items_by t count part = map (renumbered_by t count) (map item_in part)
+
+abbrev pub loops_by : List ℕ → ℕ → List FaceLoop → ℕ → List (List Item)
+loops_by t count ls f = map (λ l. map (renumbered_by t count) l.items) (keep (λ l. eqb l.face f) ls)
 
 -- INDICES
 
@@ -83,12 +96,23 @@ module _ (l t : List ℕ) (count : ℕ) (n : Numbering l t count) where
   entry_in v h = ⊎_elim (λ w. w.0) (λ w. absurd (h w.1)) (n.entries v)
 
   -- the number is the place in the list, or its length
-  pub number_is : (v : ℕ) → number_of t count v ≡ index_of v l
+  number_is : (v : ℕ) → number_of t count v ≡ index_of v l
+  unfolding number_of
   number_is v =
       ⊎_elim
-      (λ w. let e = number_some t count v (get_or t v 0) refl (λ z. omega (arith, w.1, z)) in omega (arith, e, w.1))
-      (λ w. sym (number_none t count v (get_or t v 0) refl w.1) ∙ n.counted ∙ sym (index_none v l w.0))
+      (λ w. rw w.1 (grind (arith, nat_tests)))
+      (λ w. rw w.1 (n.counted ∙ sym (index_none v l w.0)))
       (n.entries v)
+
+  -- so the tables give what the lists give
+  pub placed_is : placed t count ≡ with_vertices l
+  unfolding vertex_in
+  placed_is =
+      let vertex : (v : ℕ) → vertex_in t count v ≡ vertex_of l v = λ v. ap (cond (eqb v unset) unset) (number_is v) in
+      λ i x. record { curve = x.curve; sense = x.sense; start = vertex x.start i; end = vertex x.end i }
+
+  pub loops_are : (ls : List FaceLoop) (f : ℕ) → loops_by t count ls f ≡ loops_in l ls f
+  loops_are ls f i = map (λ x. map (λ y. record { edge = number_is y.edge i; sense = y.sense }) x.items) (keep (λ x. eqb x.face f) ls)
 
   -- one more
   pub numbering_more : (v : ℕ) (t' : List ℕ) → v < length t → ¬ (v ∈ l) → t' ≡ set t v (count + 1) → Numbering (l ++ (v ∷ [])) t' (count + 1)

@@ -3,35 +3,55 @@
 
 #![tactic(auto)]
 
-ghost use Rattle.std.specs.Prelude.{◌≡◌, ℕ, ◌+◌, ◌*◌, ◌<◌, ◌≤◌, ◌^◌, length};
+ghost use Rattle.std.specs.Prelude.{◌≡◌, ℕ, ◌+◌, ◌*◌, ◌<◌, ◌≤◌, ◌^◌, true, length};
 ghost use mathlib.Core.List.{List, [], ◌∷◌, map, flat_map};
 ghost use Rattle.rules.specs.Fields.{field_bytes};
 ghost use Rattle.rules.specs.Frame.{framed, framed_all};
-ghost use Rattle.rules.specs.Join.{edge_data_at, active_edges};
-ghost use Rattle.rules.specs.Shells.{shell_faces, lumps};
-ghost use Rattle.rules.specs.Groups.{members_of, lowest_members, Lowest};
-ghost use Rattle.rules.specs.Body.{rec, still_active, meet, met_fans, member_at, member_fields, members_record, body_faces, face_records, lump_records, body_records, empty_body, solid_body};
+ghost use Rattle.rules.specs.Join.{active_edges};
+ghost use Rattle.rules.specs.Job.{face_at};
+ghost use Rattle.rules.specs.Shells.{shell_faces, voids_of, lump_of, lumps};
+ghost use Rattle.rules.specs.Groups.{members_of, Lowest};
+ghost use Rattle.rules.specs.Body.{rec, still_active, meet, met_fans, points_in, member_at, member_fields, members_record, item_fields, loop_record, vertex_loop_record, edge_record, face_records, lump_records, totals_record, body_records, empty_body};
 ghost use Rattle.rules.specs.Sew.{fitting, Ends};
 ghost use Rattle.fields.specs.Wrote.{Wrote};
-ghost use Rattle.job.specs.Lists.{faces_in};
-ghost use Rattle.edges.specs.Table.{rows_in, face_loops_in};
-ghost use Rattle.vertex_loops.specs.Kept.{kept_in};
-ghost use Rattle.shells.specs.Table.{nested_in};
-ghost use Rattle.body.specs.Numbers.{Numbering, number_of, vertex_in};
-ghost use Rattle.body.specs.Vertices.{EndOk, EndsOk, Meeting, met_below, active_below};
-ghost use Rattle.body.specs.Rows.{totals_in, vertex_and_edge_bytes, edge_row, item_row, loop_row, loop_rows, vertex_loop_row, vertex_loop_rows, face_head, member_rows, shell_face_row, void_row, void_rows, lump_row};
-ghost use Rattle.body.specs.Sized.{LoopsSized, BodySized};
 ghost use Rattle.members.specs.Group.{Chained, Leading};
+ghost use Rattle.shells.specs.Table.{nested_one};
+ghost use Rattle.body.specs.Numbers.{Numbering, number_of, vertex_in, placed, items_by, loops_by};
+ghost use Rattle.body.specs.Vertices.{EndOk, EdgeOk, EndsOk, Meeting};
+ghost use Rattle.body.specs.Solids.{record_number, totals_in, head_record, face_loops, merged_faces, nested_by, body_in, Sized};
 
-use edges::{edge_active, edge_at, edge_end, edge_start};
-use fields::{UNSET, get, put, put_head, put_word};
+use fields::{Span, UNSET, get, put, put_head, put_word, span_at};
+use loaded::Loaded;
 use members::{chain, group_size};
-use rules::{Counts, Refusal};
-use shells::{shell_boundary, shell_home, shell_outer};
-use stages_out::{fits, put_two};
+use merge_faces::Faces;
+use rules::{EdgeData, KeptVertexLoop, Refusal};
+use shells::ShellRow;
+use stages_out::{count_shell_faces, fits, put_shell_faces, put_two};
+
+// The kinds of a body's records.
+#[derive(Clone, Copy)]
+enum BodyRecord {
+    Body = 21,
+    Vertex = 22,
+    Edge = 23,
+    Face = 24,
+    Loop = 25,
+    VertexLoop = 26,
+    Lump = 27,
+    Shell = 28,
+    Members = 29,
+}
+
+impl BodyRecord {
+    fn number(self) -> usize
+        ensures { result ≡ record_number self }
+    {
+        self as usize
+    }
+}
 
 // How many uses, removed uses, uses passed over, joins, rings and face joins there were.
-#[derive(Clone, Copy, Default)]
+#[derive(Clone, Copy)]
 pub struct Totals {
     pub uses: usize,
     pub removed: usize,
@@ -41,33 +61,55 @@ pub struct Totals {
     pub merges: usize,
 }
 
+// What a body is written from: the tables of the stages before it.
+#[derive(Clone, Copy)]
+pub struct Solid<'a> {
+    pub totals: Totals,
+    pub job: &'a Loaded<'a>,
+    pub faces: &'a Faces,
+    pub starts: &'a [u32],
+    pub rows: &'a [EdgeData],
+    pub items: &'a [u32],
+    pub stretches: &'a [Span],
+    pub loop_faces: &'a [u32],
+    pub kept: &'a [KeptVertexLoop],
+    pub shells: &'a [ShellRow],
+}
+
 // RECORDS
 
 // A record of some fields at a place; gives the place after it, as each function here does that writes at a place.
-fn put_record(out: &mut [u8], at: usize, kind: usize, fields: &[usize]) -> usize
-    requires { (at < 2 ^ 59) × (length fields.now ≤ 7) }
-    ensures { Wrote out.old at (framed (rec kind fields.now)) out.new result × (result ≡ at + 6 + 4 * length fields.now) }
+fn put_record<const N: usize>(
+    out: &mut [u8],
+    at: usize,
+    kind: BodyRecord,
+    fields: &[usize; N],
+) -> usize
+    requires { (at < 2 ^ 59) × (N ≤ 7) }
+    ensures { Wrote out.old at (framed (rec (record_number kind) fields.now)) out.new result × (result ≡ at + 6 + 4 * N) }
 {
-    let mut p = put_head(out, at, kind, fields.len());
+    let mut p = put_head(out, at, kind.number(), N);
     for field in fields {
         p = put_word(out, p, *field);
     }
     p
 }
 
-// Kind 21 at the output's start: 0 for an empty body or 1 for a solid, and the totals.
-fn put_totals(out: &mut [u8], solid: usize, t: Totals) -> usize
-    ensures { Wrote out.old 0 (framed (rec 21 (solid ∷ t.uses ∷ t.removed ∷ t.passed ∷ t.joins ∷ t.rings ∷ t.merges ∷ []))) out.new result × (result ≡ 34) }
+// The totals of a solid, or of the empty body, at the output's start.
+fn put_totals(out: &mut [u8], totals: Option<Totals>) -> usize
+    ensures { Wrote out.old 0 (framed (totals_record (totals_in totals))) out.new result × (result ≡ 34) }
 {
-    let fields = [
-        solid, t.uses, t.removed, t.passed, t.joins, t.rings, t.merges,
-    ];
-    put_record(out, 0, 21, &fields)
+    let fields = match totals {
+        None => [0; 7],
+        Some(t) => [1, t.uses, t.removed, t.passed, t.joins, t.rings, t.merges],
+    };
+    put_record(out, 0, BodyRecord::Body, &fields)
 }
 
 // NUMBERS
 
 // The number of v in a table that has each number plus one, and 0 for none; without a number, how many numbers there are.
+// Table and count are two parameters here and below: a record of both, with its borrow, would have two moments in `ensures`.
 #[tactic(auto, unfolding(crate::specs::Numbers::number_of))]
 fn number_of(numbers: &[u32], count: usize, v: usize) -> usize
     ensures { result ≡ number_of numbers.now count v }
@@ -80,14 +122,14 @@ fn number_of(numbers: &[u32], count: usize, v: usize) -> usize
 }
 
 // Active edges are renumbered from 0, in a table that has 0 for the others. Gives how many there are.
-fn number_edges(rows: &[u32], numbers: &mut [u32]) -> usize
-    requires { (length rows.now ≤ 14336) × (length rows.now ≤ 7 * length numbers.old) }
-    ensures { Numbering (active_edges (rows_in rows.now)) numbers.new result }
+fn number_edges(rows: &[EdgeData], numbers: &mut [u32]) -> usize
+    requires { (length rows.now ≤ 2048) × (length rows.now ≤ length numbers.old) }
+    ensures { Numbering (active_edges rows.now) numbers.new result }
 {
     numbers.fill(0);
     let mut count = 0;
-    for e in 0..rows.len() / 7 {
-        if edge_active(rows, e) {
+    for (e, row) in rows.iter().enumerate() {
+        if row.active {
             count += 1;
             put(numbers, e, count);
         }
@@ -97,7 +139,7 @@ fn number_edges(rows: &[u32], numbers: &mut [u32]) -> usize
 
 // VERTICES
 
-// Fan v takes the next number, with its record of kind 22, unless it is none or has a number. The records stand from
+// Fan v takes the next number, with its record, unless it is none or has a number. The records stand from
 // `at` on, so the count gives the place. Gives how many fans have numbers then.
 fn meet_fan(
     starts: &[u32],
@@ -108,7 +150,9 @@ fn meet_fan(
     at: usize,
 ) -> usize
     requires { (at < 2 ^ 58) × (count < 8192) }
-    ensures { (result ≤ count + 1) × ((before met : List ℕ) → EndOk (length vertices.old) v → Meeting starts.now before at met vertices.old out.old count → Meeting starts.now before at (meet met v) vertices.new out.new result) }
+    ensures { (result ≤ count + 1)
+        × ((before met : List ℕ) → EndOk (length vertices.old) v → Meeting starts.now before at met vertices.old out.old count
+        → Meeting starts.now before at (meet met v) vertices.new out.new result) }
 {
     if v == UNSET {
         return count;
@@ -117,48 +161,46 @@ fn meet_fan(
         return count;
     }
     put(vertices, v, count + 1);
-    put_record(out, at + 10 * count, 22, &[get(starts, v)]);
+    put_record(out, at + 10 * count, BodyRecord::Vertex, &[get(starts, v)]);
     count + 1
 }
 
-// The fans where edge e starts and ends, in this order, where it is active.
+// The fans where an active edge starts and ends, in this order.
 fn meet_ends(
-    rows: &[u32],
     starts: &[u32],
     vertices: &mut [u32],
     count: usize,
-    e: usize,
+    edge: EdgeData,
     out: &mut [u8],
     at: usize,
 ) -> usize
-    requires { (at < 2 ^ 58) × (count < 8190) × EndsOk (length vertices.old) (rows_in rows.now) × (e < length (rows_in rows.now)) }
-    ensures { (result ≤ count + 2) × ((before : List ℕ) → Meeting starts.now before at (met_below (rows_in rows.now) e) vertices.old out.old count → Meeting starts.now before at (met_below (rows_in rows.now) (e + 1)) vertices.new out.new result) }
+    requires { (at < 2 ^ 58) × (count < 8190) × EdgeOk (length vertices.old) edge }
+    ensures { (result ≤ count + 2)
+        × ((before met : List ℕ) → Meeting starts.now before at met vertices.old out.old count
+        → Meeting starts.now before at (meet (meet met edge.start) edge.end) vertices.new out.new result) }
 {
-    if edge_active(rows, e) {
-        let v = edge_start(rows, e);
-        let n = meet_fan(starts, vertices, count, v, out, at);
-        let w = edge_end(rows, e);
-        return meet_fan(starts, vertices, n, w, out, at);
-    }
-    count
+    let n = meet_fan(starts, vertices, count, edge.start as usize, out, at);
+    meet_fan(starts, vertices, n, edge.end as usize, out, at)
 }
 
-// Kind 22: the points of the fans first met over active edges, start then end; each fan's number in a table that has 0
+// The points of the fans first met over active edges, start then end; each fan's number in a table that has 0
 // for the others. Gives how many there are.
 fn put_vertices(
-    rows: &[u32],
+    rows: &[EdgeData],
     starts: &[u32],
     vertices: &mut [u32],
     out: &mut [u8],
     at: usize,
 ) -> usize
-    requires { (at < 2 ^ 58) × (length rows.now ≤ 14336) × EndsOk (length vertices.old) (rows_in rows.now) }
-    ensures { (result ≤ 4096) × Meeting starts.now out.old at (met_fans (still_active (rows_in rows.now))) vertices.new out.new result }
+    requires { (at < 2 ^ 58) × (length rows.now ≤ 2048) × EndsOk (length vertices.old) rows.now }
+    ensures { (result ≤ 4096) × Meeting starts.now out.old at (met_fans (still_active rows.now)) vertices.new out.new result }
 {
     vertices.fill(0);
     let mut count = 0;
-    for e in 0..rows.len() / 7 {
-        count = meet_ends(rows, starts, vertices, count, e, out, at);
+    for edge in rows {
+        if edge.active {
+            count = meet_ends(starts, vertices, count, *edge, out, at);
+        }
     }
     count
 }
@@ -176,37 +218,32 @@ fn vertex_of(vertices: &[u32], count: usize, v: usize) -> usize
     number_of(vertices, count, v)
 }
 
-// Kind 23: edge e where it is active.
-#[tactic(auto, unfolding(crate::specs::Rows::edge_row))]
-fn put_edge(
-    rows: &[u32],
-    vertices: &[u32],
-    count: usize,
-    e: usize,
-    out: &mut [u8],
-    at: usize,
-) -> usize
+// An edge between vertices.
+fn put_edge(edge: EdgeData, vertices: &[u32], count: usize, out: &mut [u8], at: usize) -> usize
     requires { at < 2 ^ 58 }
-    ensures { Wrote out.old at (edge_row vertices.now count (edge_data_at (rows_in rows.now) e)) out.new result × (result ≤ at + 22) }
+    ensures { Wrote out.old at (framed (edge_record (placed vertices.now count edge))) out.new result × (result ≡ at + 22) }
 {
-    if edge_active(rows, e) {
-        let x = edge_at(rows, e);
-        let sense = usize::from(x.sense);
-        let start = vertex_of(vertices, count, x.start as usize);
-        let end = vertex_of(vertices, count, x.end as usize);
-        return put_record(out, at, 23, &[x.curve as usize, sense, start, end]);
-    }
-    at
+    let sense = usize::from(edge.sense);
+    let start = vertex_of(vertices, count, edge.start as usize);
+    let end = vertex_of(vertices, count, edge.end as usize);
+    put_record(
+        out,
+        at,
+        BodyRecord::Edge,
+        &[edge.curve as usize, sense, start, end],
+    )
 }
 
-// Kind 23: the active edges.
-fn put_edges(rows: &[u32], vertices: &[u32], count: usize, out: &mut [u8], at: usize) -> usize
-    requires { (at < 2 ^ 57) × (length rows.now ≤ 14336) }
-    ensures { Wrote out.old at (flat_map (edge_row vertices.now count) (rows_in rows.now)) out.new result × (result ≤ at + 45056) }
+// The active edges.
+fn put_edges(rows: &[EdgeData], vertices: &[u32], count: usize, out: &mut [u8], at: usize) -> usize
+    requires { (at < 2 ^ 57) × (length rows.now ≤ 2048) }
+    ensures { Wrote out.old at (framed_all (map edge_record (map (placed vertices.now count) (still_active rows.now)))) out.new result × (result ≤ at + 45056) }
 {
     let mut p = at;
-    for e in 0..rows.len() / 7 {
-        p = put_edge(rows, vertices, count, e, out, p);
+    for edge in rows {
+        if edge.active {
+            p = put_edge(*edge, vertices, count, out, p);
+        }
     }
     p
 }
@@ -216,7 +253,7 @@ fn put_edges(rows: &[u32], vertices: &[u32], count: usize, out: &mut [u8], at: u
 // The items of a loop: each one's edge by its number, and its sense.
 fn put_items(part: &[u32], numbers: &[u32], count: usize, out: &mut [u8], at: usize) -> usize
     requires { (at < 2 ^ 57) × (length part.now ≤ 2048) }
-    ensures { Wrote out.old at (field_bytes (flat_map (item_row numbers.now count) part.now)) out.new result × (result ≤ at + 16384) }
+    ensures { Wrote out.old at (field_bytes (flat_map item_fields (items_by numbers.now count part.now))) out.new result × (result ≤ at + 16384) }
 {
     let mut p = at;
     for x in part {
@@ -227,319 +264,196 @@ fn put_items(part: &[u32], numbers: &[u32], count: usize, out: &mut [u8], at: us
     p
 }
 
-// Kind 25: loop k where it is of merged face f.
-fn put_loop(
-    items: &[u32],
-    stretches: &[u32],
-    faces: &[u32],
-    numbers: &[u32],
-    count: usize,
-    f: usize,
-    k: usize,
-    out: &mut [u8],
-    at: usize,
-) -> usize
-    requires { (at < 2 ^ 56) × LoopsSized items.now stretches.now faces.now × (k < length faces.now) }
-    ensures { Wrote out.old at (loop_row items.now stretches.now faces.now numbers.now count f k) out.new result × (result ≤ at + 16390) }
+// A loop of these items.
+fn put_loop(part: &[u32], numbers: &[u32], count: usize, out: &mut [u8], at: usize) -> usize
+    requires { (at < 2 ^ 56) × (length part.now ≤ 2048) }
+    ensures { Wrote out.old at (framed (loop_record (items_by numbers.now count part.now))) out.new result × (result ≤ at + 16390) }
 {
-    if get(faces, k) != f {
-        return at;
-    }
-    let a = get(stretches, 2 * k);
-    let e = get(stretches, 2 * k + 1);
-    let p = put_head(out, at, 25, 2 * (e - a));
-    put_items(&items[a..e], numbers, count, out, p)
+    let p = put_head(out, at, BodyRecord::Loop.number(), 2 * part.len());
+    put_items(part, numbers, count, out, p)
 }
 
-// Kind 25: the loops of merged face f.
+// The loops of merged face f. By number, and not over `zip`, where the facts of a loop are of the pairs so far.
 fn put_loops(
-    items: &[u32],
-    stretches: &[u32],
-    faces: &[u32],
+    s: &Solid<'_>,
     numbers: &[u32],
     count: usize,
     f: usize,
     out: &mut [u8],
     at: usize,
 ) -> usize
-    requires { (at < 2 ^ 55) × LoopsSized items.now stretches.now faces.now }
-    ensures { Wrote out.old at (loop_rows items.now stretches.now faces.now numbers.now count f) out.new result × (result ≤ at + 33566720) }
+    requires { (at < 2 ^ 55) × Sized s.now }
+    ensures { Wrote out.old at (framed_all (map loop_record (loops_by numbers.now count (face_loops s.now) f))) out.new result × (result ≤ at + 33566720) }
 {
     let mut p = at;
-    for k in 0..faces.len() {
-        p = put_loop(items, stretches, faces, numbers, count, f, k, out, p);
-    }
-    p
-}
-
-// Kind 26: the vertex loops of merged face f, of k there are.
-#[tactic(auto, unfolding(crate::specs::Rows::vertex_loop_rows))]
-fn put_vertex_loops(kept: &[u32], k: usize, f: usize, out: &mut [u8], at: usize) -> usize
-    requires { (at < 2 ^ 55) × (k ≤ 1024) }
-    ensures { Wrote out.old at (vertex_loop_rows kept.now k f) out.new result × (result ≤ at + 10240) }
-{
-    let mut p = at;
-    for i in 0..k {
-        if get(kept, 2 * i) == f {
-            p = put_record(out, p, 26, &[get(kept, 2 * i + 1)]);
+    for (k, face) in s.loop_faces.iter().enumerate() {
+        if *face as usize == f {
+            let span = span_at(s.stretches, k);
+            let part = &s.items[span.start as usize..span.end as usize];
+            p = put_loop(part, numbers, count, out, p);
         }
     }
     p
 }
 
-// Kind 24: surface and stored sense of selected face r.
-fn put_face(job: &[u8], index: &[u32], c: Counts, r: usize, out: &mut [u8], at: usize) -> usize
-    requires { (at < 2 ^ 56) × (c.faces ≤ 256) }
-    ensures { Wrote out.old at (framed (face_head (faces_in job.now index.now c) r)) out.new result × (result ≤ at + 14) }
+// The vertex loops of merged face f.
+fn put_vertex_loops(kept: &[KeptVertexLoop], f: usize, out: &mut [u8], at: usize) -> usize
+    requires { (at < 2 ^ 55) × (length kept.now ≤ 1024) }
+    ensures { Wrote out.old at (framed_all (map vertex_loop_record (points_in kept.now f))) out.new result × (result ≤ at + 10240) }
 {
-    let surface = job::face_surface(job, index, c, r);
-    let sense = usize::from(job::stored_sense(job, index, c, r));
-    put_record(out, at, 24, &[surface, sense])
+    let mut p = at;
+    for k in kept {
+        if k.face as usize == f {
+            p = put_record(out, p, BodyRecord::VertexLoop, &[k.point as usize]);
+        }
+    }
+    p
+}
+
+// Surface and stored sense of selected face r.
+fn put_face(job: &Loaded<'_>, r: usize, out: &mut [u8], at: usize) -> usize
+    requires { at < 2 ^ 56 }
+    ensures { Wrote out.old at (framed (head_record (face_at job.now.faces r))) out.new result × (result ≡ at + 14) }
+{
+    let face = job.face(r);
+    let sense = usize::from(face.stored_sense());
+    put_record(out, at, BodyRecord::Face, &[face.surface as usize, sense])
 }
 
 // Body and source face of selected face i.
 #[tactic(auto, using(fields::specs::Tabled::length_field_bytes))]
-fn put_member(job: &[u8], index: &[u32], c: Counts, i: usize, out: &mut [u8], at: usize) -> usize
-    requires { (at < 2 ^ 58) × (c.faces ≤ 256) }
-    ensures { Wrote out.old at (field_bytes (member_fields (member_at (faces_in job.now index.now c) i))) out.new result × (result ≤ at + 8) }
+fn put_member(job: &Loaded<'_>, i: usize, out: &mut [u8], at: usize) -> usize
+    requires { at < 2 ^ 58 }
+    ensures { Wrote out.old at (field_bytes (member_fields (member_at job.now.faces i))) out.new result × (result ≤ at + 8) }
 {
-    let body = job::face_body(job, index, c, i);
-    let source = job::face_source(job, index, c, i);
-    put_two(out, at, body, source)
+    let face = job.face(i);
+    put_two(out, at, face.body as usize, face.source as usize)
 }
 
 // Body and source face of each selected face of the merged group with label m, ascending: from the lowest, which is
 // the label, along the chain.
 fn put_group(
-    job: &[u8],
-    index: &[u32],
-    c: Counts,
+    job: &Loaded<'_>,
     groups: &[u32],
     next: &[u32],
     m: usize,
     out: &mut [u8],
     at: usize,
 ) -> usize
-    requires { (at < 2 ^ 57) × (c.faces ≤ 256) × Chained groups.now next.now × Leading groups.now m }
-    ensures { Wrote out.old at (field_bytes (member_rows (faces_in job.now index.now c) groups.now m)) out.new result × (result ≤ at + 2048) }
+    requires { (at < 2 ^ 57) × Chained groups.now next.now × Leading groups.now m }
+    ensures { Wrote out.old at (field_bytes (flat_map member_fields (map (member_at job.now.faces) (members_of groups.now m)))) out.new result × (result ≤ at + 2048) }
 {
     let mut p = at;
     let mut i = m;
     while i < groups.len() {
-        p = put_member(job, index, c, i, out, p);
+        p = put_member(job, i, out, p);
         i = get(next, i);
     }
     p
 }
 
-// Kind 29: the members of the merged group with label m, two fields for each.
+// The members of the merged group with label m, two fields for each.
 fn put_members(
-    job: &[u8],
-    index: &[u32],
-    c: Counts,
+    job: &Loaded<'_>,
     groups: &[u32],
     next: &[u32],
     m: usize,
     out: &mut [u8],
     at: usize,
 ) -> usize
-    requires { (at < 2 ^ 56) × (c.faces ≤ 256) × Chained groups.now next.now × Leading groups.now m }
-    ensures { Wrote out.old at (framed (members_record (map (member_at (faces_in job.now index.now c)) (members_of groups.now m)))) out.new result × (result ≤ at + 2054) }
+    requires { (at < 2 ^ 56) × Chained groups.now next.now × Leading groups.now m }
+    ensures { Wrote out.old at (framed (members_record (map (member_at job.now.faces) (members_of groups.now m)))) out.new result × (result ≤ at + 2054) }
 {
     let size = group_size(groups, next, m);
-    let p = put_head(out, at, 29, 2 * size);
-    put_group(job, index, c, groups, next, m, out, p)
+    let p = put_head(out, at, BodyRecord::Members.number(), 2 * size);
+    put_group(job, groups, next, m, out, p)
 }
 
-// Kind 24: the merged faces, each with its members and its loops after it, vertex loops last.
-fn put_faces(
-    job: &[u8],
-    index: &[u32],
-    c: Counts,
-    groups: &[u32],
-    rows: &[u32],
-    items: &[u32],
-    stretches: &[u32],
-    faces: &[u32],
-    members: &[u32],
-    kept: &[u32],
-    k: usize,
-    numbers: &mut [u32],
-    out: &mut [u8],
-    at: usize,
-) -> usize
-    requires { (at < 2 ^ 53) × (c.faces ≤ 256) × (length rows.now ≤ 14336) × (length rows.now ≤ 7 * length numbers.old) × LoopsSized items.now stretches.now faces.now × (k ≤ 1024) × (length members.now ≤ 256) × (length groups.now ≤ 256) × Lowest groups.now × (members.now ≡ lowest_members groups.now) }
-    ensures { Wrote out.old at (framed_all (flat_map face_records (body_faces (faces_in job.now index.now c) groups.now (active_edges (rows_in rows.now)) (face_loops_in items.now stretches.now faces.now) (kept_in k kept.now) 0 members.now))) out.new result × (result ≤ at + 8596231168) }
+// The merged faces, each with its members and its loops after it, vertex loops last.
+fn put_faces(s: &Solid<'_>, numbers: &mut [u32], out: &mut [u8], at: usize) -> usize
+    requires { (at < 2 ^ 53) × Sized s.now × (length s.now.rows.now ≤ length numbers.old) }
+    ensures { Wrote out.old at (framed_all (flat_map face_records (merged_faces s.now))) out.new result × (result ≤ at + 8596231168) }
 {
-    let count = number_edges(rows, numbers);
+    let count = number_edges(s.rows, numbers);
+    let groups = s.faces.groups();
+    let members = s.faces.members();
     let mut room = [0u32; 256];
     let next = &mut room[..groups.len()];
     chain(groups, next);
     let mut p = at;
     for (f, m) in members.iter().enumerate() {
         let m = *m as usize;
-        let q = put_face(job, index, c, m, out, p);
-        let r = put_members(job, index, c, groups, next, m, out, q);
-        let s = put_loops(items, stretches, faces, numbers, count, f, out, r);
-        p = put_vertex_loops(kept, k, f, out, s);
+        let q = put_face(s.job, m, out, p);
+        let r = put_members(s.job, groups, next, m, out, q);
+        let t = put_loops(s, numbers, count, f, out, r);
+        p = put_vertex_loops(s.kept, f, out, t);
     }
     p
 }
 
 // SHELLS
 
-// The merged faces of the boundary with label b.
-fn put_shell_faces(
-    boundaries: &[u32],
-    members: &[u32],
-    b: usize,
-    out: &mut [u8],
-    at: usize,
-) -> usize
-    requires { (at < 2 ^ 57) × (length members.now ≤ 256) }
-    ensures { Wrote out.old at (field_bytes (shell_faces boundaries.now members.now b)) out.new result × (result ≤ at + 1024) }
+// The boundary with label b.
+fn put_shell(faces: &Faces, b: usize, out: &mut [u8], at: usize) -> usize
+    requires { at < 2 ^ 56 }
+    ensures { Wrote out.old at (framed (rec 28 (shell_faces faces.now.boundaries faces.now.members b))) out.new result × (result ≤ at + 1030) }
+{
+    let size = count_shell_faces(faces, b);
+    let p = put_head(out, at, BodyRecord::Shell.number(), size);
+    put_shell_faces(faces, b, out, p)
+}
+
+// The voids of the lump whose outer shell has the lowest merged face `home`.
+fn put_voids(faces: &Faces, shells: &[ShellRow], home: u32, out: &mut [u8], at: usize) -> usize
+    requires { (at < 2 ^ 55) × (length shells.now ≤ 256) }
+    ensures { Wrote out.old at (framed_all (map (rec 28) (voids_of (nested_by faces.now shells.now) home))) out.new result × (result ≤ at + 263680) }
 {
     let mut p = at;
-    for (f, m) in members.iter().enumerate() {
-        if get(boundaries, *m as usize) == b {
-            p = put_word(out, p, f);
+    for s in shells {
+        if !s.outer && s.home == home {
+            p = put_shell(faces, s.boundary as usize, out, p);
         }
     }
     p
 }
 
-// How many merged faces the boundary with label b has.
-fn faces_of(boundaries: &[u32], members: &[u32], b: usize) -> usize
-    ensures { (result ≡ length (shell_faces boundaries.now members.now b)) × (result ≤ length members.now) }
+// The lump of an outer shell; the shell, then its voids.
+fn put_lump(faces: &Faces, shells: &[ShellRow], outer: ShellRow, out: &mut [u8], at: usize) -> usize
+    requires { (at < 2 ^ 54) × (length shells.now ≤ 256) }
+    ensures { Wrote out.old at (framed_all (lump_records (lump_of (nested_by faces.now shells.now) (nested_one faces.now.boundaries faces.now.members outer)))) out.new result
+        × (result ≤ at + 264716) }
 {
-    members
-        .iter()
-        .filter(|m| get(boundaries, **m as usize) == b)
-        .count()
+    let p = put_record(out, at, BodyRecord::Lump, &[]);
+    let q = put_shell(faces, outer.boundary as usize, out, p);
+    put_voids(faces, shells, outer.home, out, q)
 }
 
-// Kind 28: the boundary with label b.
-fn put_shell(boundaries: &[u32], members: &[u32], b: usize, out: &mut [u8], at: usize) -> usize
-    requires { (at < 2 ^ 56) × (length members.now ≤ 256) }
-    ensures { Wrote out.old at (framed (rec 28 (shell_faces boundaries.now members.now b))) out.new result × (result ≤ at + 1030) }
-{
-    let size = faces_of(boundaries, members, b);
-    let p = put_head(out, at, 28, size);
-    put_shell_faces(boundaries, members, b, out, p)
-}
-
-// Kind 28: the voids of the lump whose outer shell has the lowest merged face o, of n shells there are.
-#[tactic(auto, unfolding(crate::specs::Rows::void_rows))]
-fn put_voids(
-    boundaries: &[u32],
-    members: &[u32],
-    table: &[u32],
-    n: usize,
-    o: usize,
-    out: &mut [u8],
-    at: usize,
-) -> usize
-    requires { (at < 2 ^ 55) × (length members.now ≤ 256) × (n ≤ 256) }
-    ensures { Wrote out.old at (void_rows boundaries.now members.now table.now n o) out.new result × (result ≤ at + 263680) }
+// The lumps.
+fn put_lumps(faces: &Faces, shells: &[ShellRow], out: &mut [u8], at: usize) -> usize
+    requires { (at < 2 ^ 53) × (length shells.now ≤ 256) }
+    ensures { Wrote out.old at (framed_all (flat_map lump_records (lumps (nested_by faces.now shells.now)))) out.new result }
 {
     let mut p = at;
-    for k in 0..n {
-        if !shell_outer(table, k) && shell_home(table, k) == o {
-            p = put_shell(boundaries, members, shell_boundary(table, k), out, p);
+    for s in shells {
+        if s.outer {
+            p = put_lump(faces, shells, *s, out, p);
         }
-    }
-    p
-}
-
-// Kind 27: the lump of shell k where that is outer; the shell, then its voids.
-fn put_lump(
-    boundaries: &[u32],
-    members: &[u32],
-    table: &[u32],
-    n: usize,
-    k: usize,
-    out: &mut [u8],
-    at: usize,
-) -> usize
-    requires { (at < 2 ^ 54) × (length members.now ≤ 256) × (n ≤ 256) × (k < 256) }
-    ensures { Wrote out.old at (lump_row boundaries.now members.now table.now n k) out.new result × (result ≤ at + 264716) }
-{
-    if shell_outer(table, k) {
-        let b = shell_boundary(table, k);
-        let o = shell_home(table, k);
-        let p = put_record(out, at, 27, &[]);
-        let q = put_shell(boundaries, members, b, out, p);
-        return put_voids(boundaries, members, table, n, o, out, q);
-    }
-    at
-}
-
-// Kind 27: the lumps of n shells.
-fn put_lumps(
-    boundaries: &[u32],
-    members: &[u32],
-    table: &[u32],
-    n: usize,
-    out: &mut [u8],
-    at: usize,
-) -> usize
-    requires { (at < 2 ^ 53) × (length members.now ≤ 256) × (n ≤ 256) }
-    ensures { Wrote out.old at (framed_all (flat_map lump_records (lumps (nested_in boundaries.now members.now n table.now)))) out.new result }
-{
-    let mut p = at;
-    for k in 0..n {
-        p = put_lump(boundaries, members, table, n, k, out, p);
     }
     p
 }
 
 // THE BODY
 
-// The records of vertices and edges, from byte 34 on, after the totals.
-fn put_vertices_and_edges(
-    rows: &[u32],
-    starts: &[u32],
-    vertices: &mut [u32],
-    out: &mut [u8],
-) -> usize
-    requires { (length rows.now ≤ 14336) × EndsOk (length vertices.old) (rows_in rows.now) }
-    ensures { Wrote out.old 34 (vertex_and_edge_bytes starts.now (rows_in rows.now)) out.new result × (result ≤ 86050) }
+// All records of a body; `numbers` and `vertices` are spare tables.
+fn put_records(s: &Solid<'_>, numbers: &mut [u32], vertices: &mut [u32], out: &mut [u8]) -> usize
+    requires { Sized s.now × (length s.now.rows.now ≤ length numbers.old) × EndsOk (length vertices.old) s.now.rows.now }
+    ensures { Wrote out.old 0 (framed_all (body_records (body_in s.now))) out.new result }
 {
-    let count = put_vertices(rows, starts, vertices, out, 34);
-    put_edges(rows, vertices, count, out, 34 + 10 * count)
-}
-
-// All records of a body of k kept vertex loops and n shells; `numbers` and `vertices` are spare tables.
-fn put_records(
-    totals: Totals,
-    job: &[u8],
-    index: &[u32],
-    c: Counts,
-    groups: &[u32],
-    starts: &[u32],
-    rows: &[u32],
-    items: &[u32],
-    stretches: &[u32],
-    faces: &[u32],
-    members: &[u32],
-    kept: &[u32],
-    k: usize,
-    boundaries: &[u32],
-    table: &[u32],
-    n: usize,
-    numbers: &mut [u32],
-    vertices: &mut [u32],
-    out: &mut [u8],
-) -> usize
-    requires { BodySized c groups.now rows.now items.now stretches.now faces.now members.now k n numbers.old vertices.old }
-    ensures { Wrote out.old 0 (framed_all (body_records (solid_body (totals_in totals) (faces_in job.now index.now c) groups.now starts.now (rows_in rows.now) (face_loops_in items.now stretches.now faces.now) members.now (kept_in k kept.now) (lumps (nested_in boundaries.now members.now n table.now))))) out.new result }
-{
-    put_totals(out, 1, totals);
-    let p = put_vertices_and_edges(rows, starts, vertices, out);
-    let q = put_faces(
-        job, index, c, groups, rows, items, stretches, faces, members, kept, k, numbers, out, p,
-    );
-    put_lumps(boundaries, members, table, n, out, q)
+    put_totals(out, Some(s.totals));
+    let count = put_vertices(s.rows, s.starts, vertices, out, 34);
+    let p = put_edges(s.rows, vertices, count, out, 34 + 10 * count);
+    let q = put_faces(s, numbers, out, p);
+    put_lumps(s.faces, s.shells, out, q)
 }
 
 // The body of a job without selected faces: one record, or refusal 40 with the bytes needed.
@@ -547,43 +461,21 @@ pub fn put_empty(out: &mut [u8]) -> Result<usize, Refusal>
     ensures { Ends (fitting (length out.old) (framed_all (body_records empty_body))) out.old out.new result }
 {
     fits(out, 34)?;
-    Ok(put_totals(out, 0, Totals::default()))
+    Ok(put_totals(out, None))
 }
 
-// The body of a job with faces, of k kept vertex loops and n shells: all records, or refusal 40 with the bytes
-// needed. `numbers` and `vertices` are spare tables with an entry for each edge and each fan.
+// The body of a job with faces: all records, or refusal 40 with the bytes needed. `numbers` and `vertices` are spare
+// tables with an entry for each edge and each fan.
 pub fn put_body(
-    totals: Totals,
-    job: &[u8],
-    index: &[u32],
-    c: Counts,
-    groups: &[u32],
-    starts: &[u32],
-    rows: &[u32],
-    items: &[u32],
-    stretches: &[u32],
-    faces: &[u32],
-    members: &[u32],
-    kept: &[u32],
-    k: usize,
-    boundaries: &[u32],
-    table: &[u32],
-    n: usize,
+    s: &Solid<'_>,
     numbers: &mut [u32],
     vertices: &mut [u32],
     out: &mut [u8],
 ) -> Result<usize, Refusal>
-    requires { BodySized c groups.now rows.now items.now stretches.now faces.now members.now k n numbers.old vertices.old }
-    ensures { Ends (fitting (length out.old) (framed_all (body_records (solid_body (totals_in totals) (faces_in job.now index.now c) groups.now starts.now (rows_in rows.now) (face_loops_in items.now stretches.now faces.now) members.now (kept_in k kept.now) (lumps (nested_in boundaries.now members.now n table.now)))))) out.old out.new result }
+    requires { Sized s.now × (length s.now.rows.now ≤ length numbers.old) × EndsOk (length vertices.old) s.now.rows.now }
+    ensures { Ends (fitting (length out.old) (framed_all (body_records (body_in s.now)))) out.old out.new result }
 {
-    let mut none = [0u8; 0];
-    let needed = put_records(
-        totals, job, index, c, groups, starts, rows, items, stretches, faces, members, kept, k,
-        boundaries, table, n, numbers, vertices, &mut none,
-    );
+    let needed = put_records(s, numbers, vertices, &mut []);
     fits(out, needed)?;
-    Ok(put_records(
-        totals, job, index, c, groups, starts, rows, items, stretches, faces, members, kept, k,
-        boundaries, table, n, numbers, vertices, out,
-    ))
+    Ok(put_records(s, numbers, vertices, out))
 }

@@ -7,30 +7,36 @@ ghost use Rattle.std.specs.Prelude.{◌≡◌, ◌+◌, ◌≤◌, ◌<◌, leng
 ghost use Rattle.lists.specs.Lists.{repeats, some};
 ghost use Rattle.rules.specs.Pair.{uses_of_edge};
 ghost use Rattle.rules.specs.Contact.{pair_labels, edge_touches, edges_clear, points_clear};
-ghost use Rattle.fields.specs.Chains.{chain, Falling};
-ghost use Rattle.uses.specs.Table.{uses_in};
-ghost use Rattle.edge_uses.specs.Links.{Linked};
+ghost use Rattle.fields.specs.Chains.{chain, next_in, Falling};
 ghost use Rattle.contact.specs.Clear.{LowLabels};
 ghost use Rattle.contact.specs.Stamps.{Stale, meets, stamped_by};
-ghost use Rattle.contact.specs.Buckets.{next_fan, stands_with, Bucketed, is_lower, lowered};
+ghost use Rattle.contact.specs.Buckets.{stands_with, Bucketed, is_lower, lowered};
 
-use fields::{get, put};
-use rules::{Fault, Refusal};
+use edge_uses::EdgeUses;
+use fields::{Chain, get, put};
+use rules::{Fault, Refusal, Use};
 use uses::use_face;
 
 // EDGES
 
 // Use h is the lower of its pair, and its label was met before at edge e. `stamps` has e + 1 at each label met.
 #[tactic(auto, unfolding(crate::specs::Stamps::meets, crate::specs::Stamps::stamped_by))]
-fn meet(uses: &[u32], twins: &[u32], labels: &[u32], stamps: &mut [u32], e: usize, h: usize) -> bool
+fn meet(
+    linked: &EdgeUses<'_>,
+    twins: &[u32],
+    labels: &[u32],
+    stamps: &mut [u32],
+    e: usize,
+    h: usize,
+) -> bool
     requires { e < 1024 }
-    ensures { (result ≡ meets (uses_in uses.now) twins.now labels.now stamps.old e h) × (stamps.new ≡ stamped_by (uses_in uses.now) twins.now labels.now stamps.old e h) }
+    ensures { (result ≡ meets linked.now.uses twins.now labels.now stamps.old e h) × (stamps.new ≡ stamped_by linked.now.uses twins.now labels.now stamps.old e h) }
 {
     let t = get(twins, h);
     if t <= h {
         return false;
     }
-    let l = get(labels, use_face(uses, h));
+    let l = get(labels, use_face(linked.uses(), h));
     let stamp = get(stamps, l);
     put(stamps, l, e + 1);
     stamp == e + 1
@@ -38,63 +44,56 @@ fn meet(uses: &[u32], twins: &[u32], labels: &[u32], stamps: &mut [u32], e: usiz
 
 // Two pairs of edge e have one label.
 fn pairs_meet(
-    uses: &[u32],
+    linked: &EdgeUses<'_>,
     twins: &[u32],
-    firsts: &[u32],
-    nexts: &[u32],
     labels: &[u32],
     stamps: &mut [u32],
     e: usize,
 ) -> bool
-    requires { Linked (uses_in uses.now) firsts.now nexts.now × LowLabels labels.now × (e < length firsts.now) × (e < 1024) × (length stamps.old ≡ 256) × Stale stamps.old e }
-    ensures { (result ≡ repeats (pair_labels (uses_in uses.now) twins.now labels.now (uses_of_edge (uses_in uses.now) e))) × Stale stamps.new (e + 1) }
+    requires { LowLabels labels.now × (e < linked.now.edges) × (e < 1024) × (length stamps.old ≡ 256) × Stale stamps.old e }
+    ensures { (result ≡ repeats (pair_labels linked.now.uses twins.now labels.now (uses_of_edge linked.now.uses e))) × Stale stamps.new (e + 1) }
 {
-    let mut i = get(firsts, e);
-    while 0 < i {
-        if meet(uses, twins, labels, stamps, e, i - 1) {
+    for h in linked.of(e) {
+        if meet(linked, twins, labels, stamps, e, h) {
             return true;
         }
-        i = get(nexts, i - 1);
     }
     false
 }
 
 // Edge e has more than two uses, and two of its pairs have one label.
+#[tactic(auto, using(crate::specs::StampLaws::stale_on), unfolding(rules::specs::Contact::edge_touches))]
 fn edge_touches(
-    uses: &[u32],
+    linked: &EdgeUses<'_>,
     twins: &[u32],
-    firsts: &[u32],
-    nexts: &[u32],
     labels: &[u32],
     stamps: &mut [u32],
     e: usize,
 ) -> bool
-    requires { Linked (uses_in uses.now) firsts.now nexts.now × LowLabels labels.now × (e < length firsts.now) × (e < 1024) × (length stamps.old ≡ 256) × Stale stamps.old e }
-    ensures { (result ≡ edge_touches (uses_in uses.now) twins.now labels.now e) × Stale stamps.new (e + 1) }
+    requires { LowLabels labels.now × (e < linked.now.edges) × (e < 1024) × (length stamps.old ≡ 256) × Stale stamps.old e }
+    ensures { (result ≡ edge_touches linked.now.uses twins.now labels.now e) × Stale stamps.new (e + 1) }
 {
-    let n = edge_uses::count_of(firsts, nexts, e);
+    let n = linked.count(e);
     if n <= 2 {
         return false;
     }
-    pairs_meet(uses, twins, firsts, nexts, labels, stamps, e)
+    pairs_meet(linked, twins, labels, stamps, e)
 }
 
 // Pairs: the lowest edge with more than two uses of which two pairs have one label.
 #[tactic(auto, using(crate::specs::ClearLaws::none_done))]
 pub fn edges_clear(
     fault: Fault,
-    uses: &[u32],
+    linked: &EdgeUses<'_>,
     twins: &[u32],
-    firsts: &[u32],
-    nexts: &[u32],
     labels: &[u32],
 ) -> Result<(), Refusal>
-    requires { Linked (uses_in uses.now) firsts.now nexts.now × LowLabels labels.now × (length firsts.now ≤ 1024) }
-    ensures { result ≡ edges_clear fault (uses_in uses.now) twins.now labels.now (length firsts.now) }
+    requires { LowLabels labels.now × (linked.now.edges ≤ 1024) }
+    ensures { result ≡ edges_clear fault linked.now.uses twins.now labels.now linked.now.edges }
 {
     let mut stamps = [0u32; 256];
-    for e in 0..firsts.len() {
-        if edge_touches(uses, twins, firsts, nexts, labels, &mut stamps, e) {
+    for e in 0..linked.edges() {
+        if edge_touches(linked, twins, labels, &mut stamps, e) {
             return Err(Refusal { fault, place: e });
         }
     }
@@ -105,15 +104,15 @@ pub fn edges_clear(
 
 // Fan g stands at point p and has label l.
 #[tactic(auto, unfolding(crate::specs::Buckets::stands_with))]
-fn stands_with(uses: &[u32], starts: &[u32], labels: &[u32], p: usize, l: usize, g: usize) -> bool
-    ensures { result ≡ stands_with (uses_in uses.now) starts.now labels.now p l g }
+fn stands_with(uses: &[Use], starts: &[u32], labels: &[u32], p: usize, l: usize, g: usize) -> bool
+    ensures { result ≡ stands_with uses.now starts.now labels.now p l g }
 {
     p == get(starts, g) && l == get(labels, use_face(uses, g))
 }
 
 // One of the fans on a chain stands at point p and has label l. A chain's entries are places in `names` plus one.
 fn one_stands(
-    uses: &[u32],
+    uses: &[Use],
     starts: &[u32],
     labels: &[u32],
     names: &[u32],
@@ -122,18 +121,10 @@ fn one_stands(
     p: usize,
     l: usize,
 ) -> bool
-    requires { Falling (next_fan nexts.now) }
-    ensures { result ≡ some (λ k. stands_with (uses_in uses.now) starts.now labels.now p l (get_or names.now k 0)) (chain (next_fan nexts.now) entry) }
+    requires { Falling (next_in nexts.now) }
+    ensures { result ≡ some (λ k. stands_with uses.now starts.now labels.now p l (get_or names.now k 0)) (chain (next_in nexts.now) entry) }
 {
-    let mut i = entry;
-    while 0 < i {
-        let g = get(names, i - 1);
-        if stands_with(uses, starts, labels, p, l, g) {
-            return true;
-        }
-        i = get(nexts, i - 1);
-    }
-    false
+    Chain::new(nexts, entry).any(|k| stands_with(uses, starts, labels, p, l, get(names, k)))
 }
 
 // Point p is lower than the lowest point so far.
@@ -145,7 +136,7 @@ fn is_lower(p: usize, lowest: Option<usize>) -> bool
 
 // The lowest point so far, or the point of the fan at place k where that is lower and the fan touches an earlier one.
 fn lower(
-    uses: &[u32],
+    uses: &[Use],
     starts: &[u32],
     labels: &[u32],
     names: &[u32],
@@ -155,7 +146,7 @@ fn lower(
     lowest: Option<usize>,
 ) -> Option<usize>
     requires { (k < length names.now) × (0 < length heads.now) × Bucketed (length heads.now) starts.now names.now heads.now nexts.now k }
-    ensures { result ≡ lowered (uses_in uses.now) starts.now labels.now names.now k lowest }
+    ensures { result ≡ lowered uses.now starts.now labels.now names.now k lowest }
 {
     let f = get(names, k);
     let p = get(starts, f);
@@ -186,7 +177,7 @@ fn enter(starts: &[u32], names: &[u32], heads: &mut [u32], nexts: &mut [u32], k:
 #[tactic(auto, using(crate::specs::ContactLaws::lowest_more, crate::specs::ContactLaws::lowest_found, crate::specs::ContactLaws::lowest_nowhere))]
 fn points_chained(
     fault: Fault,
-    uses: &[u32],
+    uses: &[Use],
     starts: &[u32],
     labels: &[u32],
     names: &[u32],
@@ -195,7 +186,7 @@ fn points_chained(
 ) -> Result<(), Refusal>
     requires room { (0 < length heads.old) × (length names.now ≤ length nexts.old) × (length nexts.old ≤ 2048) }
     requires blank { (heads.old ≡ replicate (length heads.old) 0) × (nexts.old ≡ replicate (length nexts.old) 0) }
-    ensures { result ≡ points_clear fault (uses_in uses.now) starts.now labels.now names.now }
+    ensures { result ≡ points_clear fault uses.now starts.now labels.now names.now }
 {
     let mut lowest = None;
     for k in 0..names.len() {
@@ -211,13 +202,13 @@ fn points_chained(
 // In tables of `HEADS` chains for up to `FANS` fans.
 fn points_in<const HEADS: usize, const FANS: usize>(
     fault: Fault,
-    uses: &[u32],
+    uses: &[Use],
     starts: &[u32],
     labels: &[u32],
     names: &[u32],
 ) -> Result<(), Refusal>
     requires { (0 < HEADS) × (HEADS ≤ FANS) × (length names.now ≤ FANS) × (FANS ≤ 2048) }
-    ensures { result ≡ points_clear fault (uses_in uses.now) starts.now labels.now names.now }
+    ensures { result ≡ points_clear fault uses.now starts.now labels.now names.now }
 {
     let mut heads = [0u32; HEADS];
     let mut nexts = [0u32; FANS];
@@ -229,13 +220,13 @@ fn points_in<const HEADS: usize, const FANS: usize>(
 // stack deeper.
 pub fn points_clear(
     fault: Fault,
-    uses: &[u32],
+    uses: &[Use],
     starts: &[u32],
     labels: &[u32],
     names: &[u32],
 ) -> Result<(), Refusal>
     requires { length names.now ≤ 2048 }
-    ensures { result ≡ points_clear fault (uses_in uses.now) starts.now labels.now names.now }
+    ensures { result ≡ points_clear fault uses.now starts.now labels.now names.now }
 {
     if names.len() <= 64 {
         return points_in::<64, 64>(fault, uses, starts, labels, names);

@@ -1,12 +1,13 @@
 -- One use more on the chains, and what is on the chain of an edge.
-use Rattle.std.specs.Prelude.{ℕ, zero, suc, ◌+◌, ◌-◌, ◌<◌, ◌≤◌, ◌≡◌, Bool, true, false, cond, length, get_or, set, take, replicate, eqb, ltb}
+use Rattle.std.specs.Prelude.{ℕ, zero, suc, ◌+◌, ◌<◌, ◌≤◌, ◌≡◌, Bool, true, false, cond, length, get_or, set, take, replicate, eqb, ltb}
 use Rattle.std.proofs.Common.{add-one, arith, sym, ap, ◌∙◌, subst, ⊎_elim, length-set, get_or-set_same, get_or-set_other, take-suc, take-suc-set, take_all, length-take-le}
 use borrow.Author.Tests.{eq-eqb, ne_eqb, ltb-true, ltb-false}
-use mathlib.Core.List.{List, [], ◌∷◌, ◌++◌, reverse_aux, reverse as backwards, reverse-append, reverse-reverse, append-nil}
+use mathlib.Core.List.{List, [], ◌∷◌, ◌++◌, reverse as backwards, reverse-append, append-nil}
 use Rattle.std.proofs.lemmas.List.{length-reverse}
 use Rattle.std.proofs.Math.ListN.{get_or-eq_default}
 use Rattle.std.proofs.Math.Seq.{set_out}
 use Rattle.lists.specs.Lists.{positions}
+use Rattle.lists.specs.Members.{positions_length, keep_length}
 use Rattle.lists.specs.Tests.{both_ways, equal_or_not}
 use Rattle.lists.specs.Tables.{set_each, get_or_snoc_before, get_or_snoc_last, length_snoc}
 use Rattle.lists.specs.Constants.{get_or_constant}
@@ -14,8 +15,8 @@ use Rattle.lists.specs.ListEnds.{positions_append}
 use Rattle.rules.specs.declared.Use.{Use}
 use Rattle.rules.specs.Read.{no_use, use_at}
 use Rattle.rules.specs.Pair.{on_edge, uses_of_edge}
-use Rattle.fields.specs.Chains.{chain, Falling, chain_end, chain_on, chain_more, chain_same}
-use Rattle.edge_uses.specs.Links.{next_use, uses_on, Linked}
+use Rattle.fields.specs.Chains.{chain, next_in, Falling, chain_end, chain_on, chain_same}
+use Rattle.edge_uses.specs.Links.{uses_on, Linked}
 
 -- no use, empty chains
 pub linked_none : (firsts : List ℕ) → firsts ≡ replicate (length firsts) 0 → Linked [] firsts []
@@ -25,7 +26,7 @@ linked_none firsts q =
     record {
       falling = λ k. omega arith;
       heads = λ e. omega (arith, zeros e);
-      chains = λ e h. ap (chain (next_use [])) (zeros e) ∙ chain_end (next_use []);
+      chains = λ e h. ap (chain (next_in [])) (zeros e) ∙ chain_end (next_in []);
     }
 
 -- the uses of an edge after one use more
@@ -52,25 +53,25 @@ module _ (us : List Use) (firsts nexts : List ℕ) (u : Use) (long : length next
   abbrev nexts' : List ℕ
   nexts' = nexts ++ (head ∷ [])
 
-  before : (k : ℕ) → k < length us → next_use nexts k ≡ next_use nexts' k
+  before : (k : ℕ) → k < length us → next_in nexts k ≡ next_in nexts' k
   before k h = sym (get_or_snoc_before nexts head 0 k (omega arith))
 
-  last : next_use nexts' (length us) ≡ head
-  last = ap (next_use nexts') (sym long) ∙ get_or_snoc_last nexts head 0
+  last : next_in nexts' (length us) ≡ head
+  last = ap (next_in nexts') (sym long) ∙ get_or_snoc_last nexts head 0
 
-  falls : Falling (next_use nexts')
+  falls : Falling (next_in nexts')
   falls k =
       ⊎_elim
       (λ t. omega (arith, before k (ltb-true k (length us) t), l.falling k))
       (λ t. ⊎_elim
-      (λ q. omega (arith, ap (next_use nexts') q.0, last, l.heads u.edge))
+      (λ q. omega (arith, ap (next_in nexts') q.0, last, l.heads u.edge))
       (λ q. omega (arith, get_or-eq_default nexts' 0 {n = k} (omega (arith, length_snoc nexts head, ltb-false k (length us) t, q.0))))
       (equal_or_not k (length us)))
       (both_ways (ltb k (length us)))
 
   -- the chain of an edge that has no more uses
-  kept : (e : ℕ) → uses_on firsts nexts e ≡ chain (next_use nexts') (get_or firsts e 0)
-  kept e = chain_same (next_use nexts) (next_use nexts') l.falling (get_or firsts e 0) (λ k h. before k (omega (arith, l.heads e)))
+  kept : (e : ℕ) → uses_on firsts nexts e ≡ chain (next_in nexts') (get_or firsts e 0)
+  kept e = chain_same (next_in nexts) (next_in nexts') l.falling (get_or firsts e 0) (λ k h. before k (omega (arith, l.heads e)))
 
   entry : (e : ℕ) → get_or firsts' e 0 ≤ suc (length us)
   entry e =
@@ -81,14 +82,14 @@ module _ (us : List Use) (firsts nexts : List ℕ) (u : Use) (long : length next
 
   on : (e : ℕ) → e ≡ u.edge → e < length firsts → uses_on firsts' nexts' e ≡ backwards (uses_of_edge (us ++ (u ∷ [])) e)
   on e q h =
-      ap (chain (next_use nexts')) (ap (λ k. get_or (set firsts k (suc (length us))) e 0) (sym q) ∙ get_or-set_same firsts e (suc (length us)) 0 h)
-      ∙ chain_on (next_use nexts') falls (length us)
-      ∙ ap {B = List ℕ} (λ r. length us ∷ r) (ap (chain (next_use nexts')) (last ∙ ap (λ k. get_or firsts k 0) (sym q)) ∙ sym (kept e) ∙ l.chains e h)
+      ap (chain (next_in nexts')) (ap (λ k. get_or (set firsts k (suc (length us))) e 0) (sym q) ∙ get_or-set_same firsts e (suc (length us)) 0 h)
+      ∙ chain_on (next_in nexts') falls (length us)
+      ∙ ap {B = List ℕ} (λ r. length us ∷ r) (ap (chain (next_in nexts')) (last ∙ ap (λ k. get_or firsts k 0) (sym q)) ∙ sym (kept e) ∙ l.chains e h)
       ∙ sym (more_on us u e q)
 
   off : (e : ℕ) → (e ≡ u.edge → ⊥) → e < length firsts → uses_on firsts' nexts' e ≡ backwards (uses_of_edge (us ++ (u ∷ [])) e)
   off e q h =
-      ap (chain (next_use nexts')) (get_or-set_other firsts u.edge e (suc (length us)) 0 q)
+      ap (chain (next_in nexts')) (get_or-set_other firsts u.edge e (suc (length us)) 0 q)
       ∙ sym (kept e) ∙ l.chains e h ∙ sym (more_off us u e q)
 
   linked_more : Linked (us ++ (u ∷ [])) firsts' nexts'
@@ -125,38 +126,8 @@ linked_all us firsts nexts h l long le =
     subst (λ ns. Linked us firsts ns) (take_all h nexts le)
     (subst (λ (xs : List Use). Linked xs firsts (take h nexts)) (take_all h us (omega arith)) l)
 
--- the chain of an edge has as many as the edge has uses
-pub count_linked : (us : List Use) (firsts nexts : List ℕ) → Linked us firsts nexts → (e : ℕ) → e < length firsts → length (uses_on firsts nexts e) ≡ length (uses_of_edge us e)
-count_linked us firsts nexts l e h = ap length (l.chains e h) ∙ length-reverse (uses_of_edge us e)
+-- an edge has no more uses than there are
+pub uses_few : (us : List Use) (e : ℕ) → length (uses_of_edge us e) ≤ length us
+uses_few us e = omega (arith, positions_length (on_edge e) 0 us, keep_length (on_edge e) us)
 
--- COUNTING ALONG A CHAIN
-
-pub count_more : (next : ℕ → ℕ) → Falling next → (n i j whole : ℕ) → n + length (chain next i) ≡ whole → 0 < i → j ≡ next (i - 1) → n + 1 + length (chain next j) ≡ whole
-count_more next f n i j whole e h q =
-    let on : length (chain next i) ≡ suc (length (chain next (next (i - 1)))) = ap length (chain_more next f i h) in
-    omega (arith, ap (λ k. length (chain next k)) q)
-
-pub count_all : (next : ℕ → ℕ) (n i whole : ℕ) → n + length (chain next i) ≡ whole → i ≤ 0 → n ≡ whole
-count_all next n i whole e h =
-    let z : i ≡ zero = omega arith in
-    let none : length (chain next zero) ≡ zero = ap length (chain_end next) in
-    omega (arith, ap (λ k. length (chain next k)) z)
-
--- GOING ALONG A CHAIN
-
--- the uses on the chain from an entry on, and after them those passed, the last passed first, are the uses of the edge
-abbrev pub Along : List Use → List ℕ → ℕ → ℕ → List ℕ → Type 0
-Along us nexts e i passed = reverse_aux (chain (next_use nexts) i) passed ≡ uses_of_edge us e
-
-pub along_none : (us : List Use) (firsts nexts : List ℕ) → Linked us firsts nexts → (e i : ℕ) → e < length firsts → i ≡ get_or firsts e 0 → Along us nexts e i []
-along_none us firsts nexts l e i lt q = ap (λ k. backwards (chain (next_use nexts) k)) q ∙ ap backwards (l.chains e lt) ∙ reverse-reverse (uses_of_edge us e)
-
-pub along_more : (us : List Use) (nexts : List ℕ) → Falling (next_use nexts) → (e i j : ℕ) (passed : List ℕ) → Along us nexts e i passed → 0 < i → j ≡ get_or nexts (i - 1) 0
-    → Along us nexts e j ((i - 1) ∷ passed)
-along_more us nexts f e i j passed a h q =
-    ap (λ k. reverse_aux (chain (next_use nexts) k) ((i - 1) ∷ passed)) q ∙ sym (ap (λ l. reverse_aux l passed) (chain_more (next_use nexts) f i h)) ∙ a
-
-pub along_all : (us : List Use) (nexts : List ℕ) (e i : ℕ) (passed : List ℕ) → Along us nexts e i passed → i ≤ 0 → passed ≡ uses_of_edge us e
-along_all us nexts e i passed a h =
-    let z : i ≡ zero = omega arith in
-    sym (ap (λ k. reverse_aux (chain (next_use nexts) k) passed) z ∙ ap (λ l. reverse_aux l passed) (chain_end (next_use nexts))) ∙ a
+pub ruleset counts = (length-reverse, uses_few)

@@ -3,36 +3,78 @@
 
 #![tactic(auto)]
 
-ghost use Rattle.std.specs.Prelude.{◌≡◌, ◌≤◌, length, replicate};
-ghost use Rattle.uses.specs.Table.{uses_in};
-ghost use Rattle.fields.specs.Chains.{Falling};
-ghost use Rattle.edge_uses.specs.Links.{next_use, uses_on, Linked};
+ghost use Rattle.std.specs.Prelude.{◌≡◌, ◌<◌, ◌≤◌, length, replicate, reverse as backwards};
+ghost use Rattle.rules.specs.Pair.{uses_of_edge};
 
-use fields::{get, put};
+use fields::{Chain, get, put};
+use rules::Use;
+use std::marker::Model;
 use uses::use_edge;
 
-// The chains of all uses; each chain is empty at first.
-pub fn link(uses: &[u32], firsts: &mut [u32], nexts: &mut [u32])
-    requires { (firsts.old ≡ replicate (length firsts.old) 0) × (length nexts.old ≡ length (uses_in uses.now)) × (length nexts.old ≤ 2048) }
-    ensures { Linked (uses_in uses.now) firsts.new nexts.new }
+// The uses, and those of each edge on its chain, at one place, so that no step is given the chains of other uses.
+#[derive(Drop)]
+pub struct EdgeUses<'a> {
+    uses: &'a [Use],
+    firsts: &'a [u32],
+    nexts: &'a [u32],
+}
+
+impl<'a> Model for EdgeUses<'a> {
+    ghost use Rattle.std.specs.Prelude.{◌≤◌, length};
+    ghost use Rattle.edge_uses.specs.Links.{ByEdge, Linked};
+
+    ghost Value = { ByEdge };
+
+    ghost view = { λ t. record { uses = t.uses.now; edges = length t.firsts.now } };
+
+    ghost invariant = { λ t. Linked t.uses.now t.firsts.now t.nexts.now × (length t.uses.now ≤ 2048) };
+}
+
+// The uses on their chains, in tables where each chain is empty at first.
+pub fn link<'a>(uses: &'a [Use], firsts: &'a mut [u32], nexts: &'a mut [u32]) -> EdgeUses<'a>
+    requires { (firsts.old ≡ replicate (length firsts.old) 0) × (length nexts.old ≡ length uses.now) × (length nexts.old ≤ 2048) }
+    ensures { (result.uses ≡ uses.now) × (result.edges ≡ length firsts.old) }
 {
     for h in 0..nexts.len() {
         let e = use_edge(uses, h);
         put(nexts, h, get(firsts, e));
         put(firsts, e, h + 1);
     }
+    EdgeUses {
+        uses,
+        firsts,
+        nexts,
+    }
 }
 
-// How many uses an edge has.
-pub fn count_of(firsts: &[u32], nexts: &[u32], e: usize) -> usize
-    requires { Falling (next_use nexts.now) }
-    ensures { result ≡ length (uses_on firsts.now nexts.now e) }
-{
-    let mut n: usize = 0;
-    let mut i = get(firsts, e);
-    while 0 < i {
-        n += 1;
-        i = get(nexts, i - 1);
+impl<'a> EdgeUses<'a> {
+    pub fn uses(&self) -> &'a [Use]
+        ensures { result.now ≡ self.now.uses }
+    {
+        self.uses
     }
-    n
+
+    // How many edges there are.
+    pub fn edges(&self) -> usize
+        ensures { result ≡ self.now.edges }
+    {
+        self.firsts.len()
+    }
+
+    // The uses of an edge, the last first. Each use's number fits a table of twins.
+    pub fn of(&self, e: usize) -> Chain<'a>
+        requires { e < self.now.edges }
+        ensures { (result ≡ backwards (uses_of_edge self.now.uses e)) × (length self.now.uses ≤ 2048) }
+    {
+        Chain::new(self.nexts, get(self.firsts, e))
+    }
+
+    // How many uses an edge has.
+    #[tactic(auto, using(crate::specs::LinkLaws::counts))]
+    pub fn count(&self, e: usize) -> usize
+        requires { e < self.now.edges }
+        ensures { result ≡ length (uses_of_edge self.now.uses e) }
+    {
+        self.of(e).count()
+    }
 }

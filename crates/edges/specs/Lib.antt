@@ -1,4 +1,3 @@
 pub mod Table
-pub mod TableLaws
 pub mod Made
 pub mod LoopLaws

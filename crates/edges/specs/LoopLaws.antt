@@ -2,6 +2,8 @@
 use Rattle.std.specs.Prelude.{ℕ, ◌+◌, ◌*◌, ◌/◌, ◌%◌, ◌<◌, ◌≤◌, min, ◌≡◌, List, map, Bool, length, get_or, take}
 use Rattle.std.proofs.Common.{arith, sym, ap, subst, ◌∙◌, length-take, get_or-take}
 use Rattle.std.proofs.lemmas.Simd.{map-map}
+use Rattle.fields.specs.declared.Span.{Span}
+use Rattle.fields.specs.Spans.{no_span, span_at}
 use Rattle.lists.specs.Lists.{below, ◌∈◌, index_of}
 use Rattle.lists.specs.Runs.{below_in, length_table, get_or_table}
 use Rattle.lists.specs.Members.{in_map, map_same}
@@ -36,47 +38,45 @@ items_are us ts lowers owns l owners =
 -- LOOPS
 
 -- uses made items in their places, with the faces of the first uses: the loops of the definition
-pub face_loops_lem : (us : List Use) (ts : List ℕ) (rm : List Bool) (numbers owns ways stretches : List ℕ) (n : ℕ) (loops : List (List ℕ)) → map (loop_at ways stretches) (below n) ≡ loops
+pub face_loops_lem : (us : List Use) (ts : List ℕ) (rm : List Bool) (numbers owns ways : List ℕ) (stretches : List Span) (n : ℕ) (loops : List (List ℕ))
+    → map (λ k. loop_at ways (span_at stretches k)) (below n) ≡ loops
     → ((l : List ℕ) → l ∈ loops → (h : ℕ) → h ∈ l → get_or owns h 0 ≡ index_of (min h (twin_of ts h)) (lower_uses ts rm))
     → face_loops_in (map (item_code us owns) ways) stretches (map (loop_face us numbers ways stretches) (below n)) ≡ face_loops us ts rm numbers loops
 unfolding face_loops_in face_loop
 face_loops_lem us ts rm numbers owns ways stretches n loops e owners =
     ap (λ m. map loop (below m)) (length_table (loop_face us numbers ways stretches) n)
-    ∙ map_same loop (λ k. face_loop us ts rm numbers (loop_at ways stretches k)) (below n)
+    ∙ map_same loop (λ k. face_loop us ts rm numbers (way k)) (below n)
     (λ k i.
     let b : k < n = below_in n k i in
     λ j. record {
       face = get_or_table (loop_face us numbers ways stretches) n k 0 b j;
       items =
-          (ap (map item_in) (stretch_map (item_code us owns) ways (get_or stretches (2 * k) 0) (get_or stretches (2 * k + 1) 0))
-          ∙ items_are us ts (lower_uses ts rm) owns (loop_at ways stretches k) (owners (loop_at ways stretches k) (subst (λ r. loop_at ways stretches k ∈ r) e (in_map (loop_at ways stretches) i))))
+          (ap (map item_in) (stretch_map (item_code us owns) ways (span_at stretches k).start (span_at stretches k).end)
+          ∙ items_are us ts (lower_uses ts rm) owns (way k) (owners (way k) (subst (λ r. way k ∈ r) e (in_map way i))))
           j;
     })
-    ∙ sym (map-map (face_loop us ts rm numbers) (loop_at ways stretches) (below n)) ∙ ap (map (face_loop us ts rm numbers)) e
+    ∙ sym (map-map (face_loop us ts rm numbers) way (below n)) ∙ ap (map (face_loop us ts rm numbers)) e
   where
+    way : ℕ → List ℕ
+    way k = loop_at ways (span_at stretches k)
+
     loop : ℕ → FaceLoop
-    loop k = record { face = get_or (map (loop_face us numbers ways stretches) (below n)) k 0; items = map item_in (loop_at (map (item_code us owns) ways) stretches k) }
+    loop k = record { face = get_or (map (loop_face us numbers ways stretches) (below n)) k 0; items = map item_in (loop_at (map (item_code us owns) ways) (span_at stretches k)) }
 
 -- THE FIRST PART OF A TABLE OF STRETCHES
 
 -- n loops that follow one another
-pub laid_first : (stretches items : List ℕ) (n : ℕ) → ((k : ℕ) → k < n → get_or stretches (2 * k) 0 ≤ get_or stretches (2 * k + 1) 0)
-    → ((k : ℕ) → k + 1 < n → get_or stretches (2 * (k + 1)) 0 ≡ get_or stretches (2 * k + 1) 0)
-    → ((k : ℕ) → k < n → get_or stretches (2 * k + 1) 0 ≤ length items) → Laid (take (2 * n) stretches) items
+pub laid_first : (stretches : List Span) (items : List ℕ) (n : ℕ) → ((k : ℕ) → k < n → (span_at stretches k).start ≤ (span_at stretches k).end)
+    → ((k : ℕ) → k + 1 < n → (span_at stretches (k + 1)).start ≡ (span_at stretches k).end)
+    → ((k : ℕ) → k < n → (span_at stretches k).end ≤ length items) → Laid (take n stretches) items
 laid_first stretches items n order follow inside = record {
-  order = λ k q. omega (arith, order k (below_n k q), start k q, end k q);
-  inside = λ k q. omega (arith, inside k (below_n k q), end k q);
-  apart = λ k q.
-      let p : 2 * k + 2 ≡ 2 * (k + 1) = omega arith in
-      let b : k + 1 < n = below_n (k + 1) (omega arith) in
-      omega (arith, follow k b, end k (omega arith), start (k + 1) (omega arith), ap (λ i. get_or (take (2 * n) stretches) i 0) p);
+  order = λ k q. rw (first k (below_n k q)) (order k (below_n k q));
+  inside = λ k q. rw (first k (below_n k q)) (inside k (below_n k q));
+  apart = λ k q. let b : k + 1 < n = below_n (k + 1) q in rw (first k (omega arith), first (k + 1) b) (omega (arith, follow k b));
 }
   where
-    below_n : (k : ℕ) → 2 * k + 1 < length (take (2 * n) stretches) → k < n
-    below_n k q = omega (arith, length-take (2 * n) stretches)
+    below_n : (k : ℕ) → k < length (take n stretches) → k < n
+    below_n k q = omega (arith, length-take n stretches)
 
-    start : (k : ℕ) → 2 * k + 1 < length (take (2 * n) stretches) → get_or (take (2 * n) stretches) (2 * k) 0 ≡ get_or stretches (2 * k) 0
-    start k q = get_or-take (2 * n) stretches (2 * k) 0 (omega (arith, below_n k q))
-
-    end : (k : ℕ) → 2 * k + 1 < length (take (2 * n) stretches) → get_or (take (2 * n) stretches) (2 * k + 1) 0 ≡ get_or stretches (2 * k + 1) 0
-    end k q = get_or-take (2 * n) stretches (2 * k + 1) 0 (omega (arith, below_n k q))
+    first : (k : ℕ) → k < n → span_at (take n stretches) k ≡ span_at stretches k
+    first k b = get_or-take n stretches k no_span b

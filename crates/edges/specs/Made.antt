@@ -1,7 +1,7 @@
 -- The edges made use by use: the table, and the edge that each kept use is of.
-use Rattle.std.specs.Prelude.{ℕ, ◌+◌, ◌*◌, ◌<◌, ◌≤◌, min, ◌≡◌, refl, ◌≢◌, List, [], ◌∷◌, ◌++◌, map, Bool, true, false, not, cond, length, get_or, set, take, ltb}
+use Rattle.std.specs.Prelude.{ℕ, ◌+◌, ◌<◌, ◌≤◌, min, ◌≡◌, refl, ◌≢◌, List, [], ◌∷◌, ◌++◌, map, Bool, true, false, not, cond, length, get_or, set, take, ltb}
 use Rattle.std.proofs.Math.Decide.{ℕ_discrete, dec_lt}
-use Rattle.std.proofs.Common.{not-suc-le-zero, arith, sym, ap, subst, ◌∙◌, ⊎_elim, true≢false, length-set, get_or-set_same, get_or-set_other, lt-ltb, ltb-true}
+use Rattle.std.proofs.Common.{not-suc-le-zero, add-one, take-suc-set, arith, sym, ap, subst, ◌∙◌, ⊎_elim, true≢false, lt-ltb, ltb-true}
 use Rattle.std.proofs.lemmas.Grind.{common_steps}
 use Rattle.lists.specs.Lists.{from, below, keep, index_of}
 use Rattle.lists.specs.Tests.{both_ways, and_both, both_and, not_is}
@@ -16,8 +16,6 @@ use Rattle.rules.specs.declared.EdgeData.{EdgeData}
 use Rattle.rules.specs.Pair.{twin_of}
 use Rattle.rules.specs.Merge.{is_removed}
 use Rattle.rules.specs.Edges.{lower_kept, lower_uses, edge_data, edges_of}
-use Rattle.edges.specs.Table.{rows_in, with_row}
-use Rattle.edges.specs.TableLaws.{length_with, rows_pushed}
 
 -- each use has a twin, another use, whose twin it is; both are removed or neither
 pub record Mated (ts : List ℕ) (rm : List Bool) : Type 0 where
@@ -31,8 +29,8 @@ abbrev pub lower_of : List ℕ → ℕ → ℕ
 lower_of ts h = min h (twin_of ts h)
 
 -- what is made of use h, the edges so far being so many: nothing, or edge x, which both uses of the pair are of
-pub record OneEdge (ts : List ℕ) (rm : List Bool) (x : EdgeData) (h count : ℕ) (rows₀ owns₀ rows owns : List ℕ) (r : ℕ) : Type 0 where
-  pub table : rows ≡ cond (lower_kept ts rm h) (with_row rows₀ count x) rows₀
+pub record OneEdge (ts : List ℕ) (rm : List Bool) (x : EdgeData) (h count : ℕ) (rows₀ : List EdgeData) (owns₀ : List ℕ) (rows : List EdgeData) (owns : List ℕ) (r : ℕ) : Type 0 where
+  pub table : rows ≡ cond (lower_kept ts rm h) (set rows₀ count x) rows₀
   pub owners : owns ≡ cond (lower_kept ts rm h) (set (set owns₀ h count) (twin_of ts h) count) owns₀
   pub next : r ≡ cond (lower_kept ts rm h) (count + 1) count
 
@@ -40,23 +38,19 @@ pub record OneEdge (ts : List ℕ) (rm : List Bool) (x : EdgeData) (h count : �
 set_at_most : (l : List ℕ) (i v k b : ℕ) → v ≤ b → get_or l k 0 ≤ b → get_or (set l i v) k 0 ≤ b
 set_at_most l i v k b p q = grind (arith, common_steps)
 
--- the edges of the pairs whose lower use is below i, in a table of so many entries
-pub record SoFar (ts : List ℕ) (rm : List Bool) (make : ℕ → EdgeData) (owns₀ : List ℕ) (wide : ℕ) (rows owns : List ℕ) (count i : ℕ) : Type 0 where
+-- the edges of the pairs whose lower use is below i
+pub record SoFar (ts : List ℕ) (rm : List Bool) (make : ℕ → EdgeData) (owns₀ : List ℕ) (rows : List EdgeData) (owns : List ℕ) (count i : ℕ) : Type 0 where
   pub within : i ≤ length ts
   pub counted : count ≡ length (keep (lower_kept ts rm) (below i))
-  pub room : length rows ≡ wide
-  pub size : length owns ≡ length owns₀
-  pub edges : rows_in (take (7 * count) rows) ≡ map make (keep (lower_kept ts rm) (below i))
+  pub edges : take count rows ≡ map make (keep (lower_kept ts rm) (below i))
   pub owners : Mated ts rm → (h : ℕ) → h < length ts → is_removed rm h ≡ false → lower_of ts h < i → get_or owns h 0 ≡ length (keep (lower_kept ts rm) (below (lower_of ts h)))
   pub few : (k : ℕ) → get_or owns₀ k 0 ≤ 2048 → get_or owns k 0 ≤ 2048
 
-pub so_far_none : (ts : List ℕ) (rm : List Bool) (make : ℕ → EdgeData) (owns₀ rows : List ℕ) (wide : ℕ) → length rows ≡ wide → SoFar ts rm make owns₀ wide rows owns₀ 0 0
-unfolding from keep rows_in
-so_far_none ts rm make owns₀ rows wide e = record {
+pub so_far_none : (ts : List ℕ) (rm : List Bool) (make : ℕ → EdgeData) (owns₀ : List ℕ) (rows : List EdgeData) → SoFar ts rm make owns₀ rows owns₀ 0 0
+unfolding from keep
+so_far_none ts rm make owns₀ rows = record {
   within = omega arith;
   counted = refl;
-  room = e;
-  size = refl;
   edges = refl;
   owners = λ m h b k l. absurd (not-suc-le-zero l);
   few = λ k h. h;
@@ -87,18 +81,18 @@ module _ (ts : List ℕ) (rm : List Bool) (mated : Mated ts rm) where
             m (sym (mated.twice h b) ∙ ap (twin_of ts) f)
       ]
 
-module _ (ts : List ℕ) (rm : List Bool) (make : ℕ → EdgeData) (paired : (h : ℕ) → length (make h).faces ≡ 2) (few_uses : length ts ≤ 2048)
-    (owns₀ : List ℕ) (sizes : length owns₀ ≡ length ts) (wide : ℕ) (roomy : 7 * length ts ≤ wide) where
-  so_far_below : (rows owns : List ℕ) (count i : ℕ) → SoFar ts rm make owns₀ wide rows owns count i → count ≤ i
+module _ (ts : List ℕ) (rm : List Bool) (make : ℕ → EdgeData) (few_uses : length ts ≤ 2048) (owns₀ : List ℕ) where
+  so_far_below : (rows : List EdgeData) (owns : List ℕ) (count i : ℕ) → SoFar ts rm make owns₀ rows owns count i → count ≤ i
   so_far_below rows owns count i s = omega (arith, s.counted, keep_length (lower_kept ts rm) (below i), length_below i)
 
   -- the number of edges so far is below that of uses
-  pub so_far_few : (rows owns : List ℕ) (count i : ℕ) → SoFar ts rm make owns₀ wide rows owns count i → i < length ts → count < 2048
+  pub so_far_few : (rows : List EdgeData) (owns : List ℕ) (count i : ℕ) → SoFar ts rm make owns₀ rows owns count i → i < length ts → count < 2048
   so_far_few rows owns count i s h = omega (arith, so_far_below rows owns count i s)
 
-  more : (rows owns : List ℕ) (count i : ℕ) → SoFar ts rm make owns₀ wide rows owns count i → i < length ts → lower_kept ts rm i ≡ true
-      → SoFar ts rm make owns₀ wide (with_row rows count (make i)) (set (set owns i count) (twin_of ts i) count) (count + 1) (i + 1)
-  more rows owns count i s h k =
+  more : (rows : List EdgeData) (owns : List ℕ) (count i : ℕ) → length ts ≤ length rows → length owns ≡ length ts → SoFar ts rm make owns₀ rows owns count i → i < length ts
+      → lower_kept ts rm i ≡ true
+      → SoFar ts rm make owns₀ (set rows count (make i)) (set (set owns i count) (twin_of ts i) count) (count + 1) (i + 1)
+  more rows owns count i roomy sizes s h k =
       let kept : List ℕ = keep (lower_kept ts rm) (below i) in
       let longer : keep (lower_kept ts rm) (below (i + 1)) ≡ kept ++ (i ∷ []) = keep_below_yes (lower_kept ts rm) i k in
       let few : count < 2048 = so_far_few rows owns count i s h in
@@ -107,14 +101,13 @@ module _ (ts : List ℕ) (rm : List Bool) (make : ℕ → EdgeData) (paired : (h
       record {
         within = omega arith;
         counted = omega (arith, s.counted, ap length longer, length_snoc kept i);
-        room = length_with rows count (make i) ∙ s.room;
-        size = length-set (set owns i count) (twin_of ts i) count ∙ length-set owns i count ∙ s.size;
         edges =
-            rows_pushed rows count (make i) (omega (arith, s.room, so_far_below rows owns count i s)) (paired i) ∙ ap (λ l. l ++ (make i ∷ [])) s.edges
+            ap (λ k. take k (set rows count (make i))) (add-one count) ∙ take-suc-set rows count (make i) (omega (arith, so_far_below rows owns count i s))
+            ∙ ap (λ l. l ++ (make i ∷ [])) s.edges
             ∙ sym (ap (map make) longer ∙ map_append make kept (i ∷ []));
         owners = λ m g b u l.
             set_two (λ g v. g < length ts → is_removed rm g ≡ false → lower_of ts g < i + 1 → v ≡ length (keep (lower_kept ts rm) (below (lower_of ts g)))) owns i (twin_of ts i) count count 0
-            (omega (arith, s.size)) (omega (arith, s.size, m.within i h)) (λ e. omega arith)
+            (omega arith) (omega (arith, m.within i h)) (λ e. omega arith)
             (λ _ _ _. let e : i ≡ lower_of ts i = omega arith in s.counted ∙ ap (λ k. length (keep (lower_kept ts rm) (below k))) e)
             (λ _ _ _. let e : i ≡ lower_of ts (twin_of ts i) = omega (arith, m.twice i h) in s.counted ∙ ap (λ k. length (keep (lower_kept ts rm) (below k))) e)
             g
@@ -127,14 +120,13 @@ module _ (ts : List ℕ) (rm : List Bool) (make : ℕ → EdgeData) (paired : (h
       earlier m g b l ni nt (yes e) = absurd (pair_of ts rm m g i b e ni nt)
       earlier m g b l ni nt (no e) = omega (arith, e)
 
-  less : (rows owns : List ℕ) (count i : ℕ) → SoFar ts rm make owns₀ wide rows owns count i → i < length ts → lower_kept ts rm i ≡ false → SoFar ts rm make owns₀ wide rows owns count (i + 1)
+  less : (rows : List EdgeData) (owns : List ℕ) (count i : ℕ) → SoFar ts rm make owns₀ rows owns count i → i < length ts → lower_kept ts rm i ≡ false
+      → SoFar ts rm make owns₀ rows owns count (i + 1)
   less rows owns count i s h k =
       let same : keep (lower_kept ts rm) (below (i + 1)) ≡ keep (lower_kept ts rm) (below i) = keep_below_no (lower_kept ts rm) i k in
       record {
         within = omega arith;
         counted = s.counted ∙ sym (ap length same);
-        room = s.room;
-        size = s.size;
         edges = s.edges ∙ sym (ap (map make) same);
         owners = λ m g b u l. s.owners m g b u (earlier m g b u l (ℕ_discrete (lower_of ts g) i));
         few = s.few;
@@ -145,36 +137,33 @@ module _ (ts : List ℕ) (rm : List Bool) (make : ℕ → EdgeData) (paired : (h
       earlier m g b u l (no e) = omega (arith, e)
 
   -- one use more
-  pub so_far_step : (rows owns rows' owns' : List ℕ) (count i r : ℕ) → SoFar ts rm make owns₀ wide rows owns count i → i < length ts
-      → OneEdge ts rm (make i) i count rows owns rows' owns' r → SoFar ts rm make owns₀ wide rows' owns' r (i + 1)
-  so_far_step rows owns rows' owns' count i r s h o =
+  pub so_far_step : (rows : List EdgeData) (owns : List ℕ) (rows' : List EdgeData) (owns' : List ℕ) (count i r : ℕ) → length ts ≤ length rows → length owns ≡ length ts
+      → SoFar ts rm make owns₀ rows owns count i → i < length ts
+      → OneEdge ts rm (make i) i count rows owns rows' owns' r → SoFar ts rm make owns₀ rows' owns' r (i + 1)
+  so_far_step rows owns rows' owns' count i r roomy sizes s h o =
       ⊎_elim
-      (λ k. by (with_row rows count (make i)) (set (set owns i count) (twin_of ts i) count) (count + 1) (o.table ∙ ap (λ b. cond b (with_row rows count (make i)) rows) k)
-      (o.owners ∙ ap (λ b. cond b (set (set owns i count) (twin_of ts i) count) owns) k) (o.next ∙ ap (λ b. cond b (count + 1) count) k) (more rows owns count i s h k))
-      (λ k. by rows owns count (o.table ∙ ap (λ b. cond b (with_row rows count (make i)) rows) k)
+      (λ k. by (set rows count (make i)) (set (set owns i count) (twin_of ts i) count) (count + 1) (o.table ∙ ap (λ b. cond b (set rows count (make i)) rows) k)
+      (o.owners ∙ ap (λ b. cond b (set (set owns i count) (twin_of ts i) count) owns) k) (o.next ∙ ap (λ b. cond b (count + 1) count) k) (more rows owns count i roomy sizes s h k))
+      (λ k. by rows owns count (o.table ∙ ap (λ b. cond b (set rows count (make i)) rows) k)
       (o.owners ∙ ap (λ b. cond b (set (set owns i count) (twin_of ts i) count) owns) k) (o.next ∙ ap (λ b. cond b (count + 1) count) k) (less rows owns count i s h k))
       (both_ways (lower_kept ts rm i))
     where
-      by : (a b : List ℕ) (n : ℕ) → rows' ≡ a → owns' ≡ b → r ≡ n → SoFar ts rm make owns₀ wide a b n (i + 1) → SoFar ts rm make owns₀ wide rows' owns' r (i + 1)
+      by : (a : List EdgeData) (b : List ℕ) (n : ℕ) → rows' ≡ a → owns' ≡ b → r ≡ n → SoFar ts rm make owns₀ a b n (i + 1) → SoFar ts rm make owns₀ rows' owns' r (i + 1)
       by a b n ea eb en s =
-          subst (λ n. SoFar ts rm make owns₀ wide rows' owns' n (i + 1)) (sym en)
-          (subst (λ b. SoFar ts rm make owns₀ wide rows' b n (i + 1)) (sym eb)
-          (subst (λ a. SoFar ts rm make owns₀ wide a b n (i + 1)) (sym ea) s))
+          subst (λ n. SoFar ts rm make owns₀ rows' owns' n (i + 1)) (sym en)
+          (subst (λ b. SoFar ts rm make owns₀ rows' b n (i + 1)) (sym eb)
+          (subst (λ a. SoFar ts rm make owns₀ a b n (i + 1)) (sym ea) s))
 
 -- all of them: the edges, how many, and for each kept use the number of its pair's edge
-pub record Made (es : List Edge) (us : List Use) (ts : List ℕ) (rm : List Bool) (numbers ss g owns₀ rows owns : List ℕ) (r : ℕ) : Type 0 where
-  pub edges : rows_in (take (7 * r) rows) ≡ edges_of es us ts rm numbers ss g
+pub record Made (es : List Edge) (us : List Use) (ts : List ℕ) (rm : List Bool) (numbers ss g owns₀ : List ℕ) (rows : List EdgeData) (owns : List ℕ) (r : ℕ) : Type 0 where
+  pub edges : take r rows ≡ edges_of es us ts rm numbers ss g
   pub counted : r ≡ length (lower_uses ts rm)
   pub owners : Mated ts rm → (h : ℕ) → h < length ts → is_removed rm h ≡ false → get_or owns h 0 ≡ index_of (min h (twin_of ts h)) (lower_uses ts rm)
   pub few : (k : ℕ) → get_or owns₀ k 0 ≤ 2048 → get_or owns k 0 ≤ 2048
 
-pub two_faces : (es : List Edge) (us : List Use) (ts numbers ss g : List ℕ) (h : ℕ) → length (edge_data es us ts numbers ss g h).faces ≡ 2
-unfolding edge_data
-two_faces es us ts numbers ss g h = refl
-
-pub made : (es : List Edge) (us : List Use) (ts : List ℕ) (rm : List Bool) (numbers ss g owns₀ : List ℕ) (wide : ℕ) (rows owns : List ℕ) (r i : ℕ)
-    → SoFar ts rm (edge_data es us ts numbers ss g) owns₀ wide rows owns r i → length ts ≤ i → Made es us ts rm numbers ss g owns₀ rows owns r
-made es us ts rm numbers ss g owns₀ wide rows owns r i s h =
+pub made : (es : List Edge) (us : List Use) (ts : List ℕ) (rm : List Bool) (numbers ss g owns₀ : List ℕ) (rows : List EdgeData) (owns : List ℕ) (r i : ℕ)
+    → SoFar ts rm (edge_data es us ts numbers ss g) owns₀ rows owns r i → length ts ≤ i → Made es us ts rm numbers ss g owns₀ rows owns r
+made es us ts rm numbers ss g owns₀ rows owns r i s h =
     let e : i ≡ length ts = omega (arith, s.within) in
     let all : keep (lower_kept ts rm) (below i) ≡ lower_uses ts rm = ap (λ n. keep (lower_kept ts rm) (below n)) e in
     record {

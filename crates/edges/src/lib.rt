@@ -1,99 +1,58 @@
-// The edges of the result as a table, seven numbers for each: curve, sense, start fan, end fan (both unset for a ring),
-// lower face, higher face, 1 where active; and the items of its loops, twice the edge and one more where Reversed.
+// The edges of the result as a table of records, and the items of its loops as numbers: twice the edge, and one more where
+// Reversed, which is an item's place in the table of the items' slots.
 
 #![tactic(auto)]
 
-ghost use Rattle.std.specs.Prelude.{◌≡◌, ℕ, ◌+◌, ◌*◌, ◌<◌, ◌≤◌, ◌^◌, min, max, [], ◌∷◌, map, cond, length, get_or, MatchOption};
-ghost use Rattle.rules.specs.Join.{edge_data_at, no_edge_data};
-ghost use Rattle.rules.specs.Job.{unset};
-ghost use Rattle.rules.specs.Groups.{label_of};
+ghost use Rattle.std.specs.Prelude.{◌≡◌, ℕ, ◌<◌, ◌≤◌, min, max, [], ◌∷◌, map, length, get_or};
+ghost use Rattle.rules.specs.Join.{edge_data_at};
 ghost use Rattle.lists.specs.Lists.{below};
-ghost use Rattle.rules.specs.Edges.{lower_kept, face_pair, edge_data};
-ghost use Rattle.job.specs.Lists.{edges_in};
-ghost use Rattle.uses.specs.Table.{uses_in};
-ghost use Rattle.edges.specs.Table.{edge_of, rows_in, with_row, item_code, loop_at, loop_face};
+ghost use Rattle.rules.specs.Edges.{lower_kept, face_pair, fan_or_none, edge_data};
+ghost use Rattle.edges.specs.Table.{item_code, loop_at, loop_face};
 ghost use Rattle.edges.specs.Made.{OneEdge, Made};
 
-use fields::{UNSET, get, is_set, put};
-use rules::{Counts, EdgeData, Sense};
-use uses::{use_edge, use_face, use_sense};
+use fields::{Span, entry, get, is_set, put, put_entry, span_at};
+use loaded::Loaded;
+use rules::{Edge, EdgeData, Sense, Use};
+use uses::{use_at, use_face, use_sense};
 
 // THE TABLE
 
-// The seven numbers of edge e, if there is such an edge.
-fn row(rows: &[u32], e: usize) -> Option<&[u32; 7]>
-    ensures { MatchOption result (edge_data_at (rows_in rows.now) e ≡ no_edge_data) (λ row. edge_data_at (rows_in rows.now) e ≡ edge_of (λ k. get_or row.now k 0)) }
-{
-    rows.as_chunks::<7>().0.get(e)
-}
+// What stands for an edge past the last: none, with no ends.
+pub const NO_EDGE: EdgeData = EdgeData {
+    curve: 0,
+    sense: Sense::Same,
+    start: u32::MAX,
+    end: u32::MAX,
+    faces: [0, 0],
+    active: false,
+};
 
 // Edge e.
-#[tactic(auto, unfolding(crate::specs::Table::edge_of))]
-pub fn edge_at(rows: &[u32], e: usize) -> EdgeData
-    ensures { result ≡ edge_data_at (rows_in rows.now) e }
+pub fn edge_at(rows: &[EdgeData], e: usize) -> EdgeData
+    ensures { result ≡ edge_data_at rows.now e }
 {
-    let Some([curve, sense, start, end, low, high, active]) = row(rows, e) else {
-        return EdgeData {
-            curve: 0,
-            sense: Sense::Same,
-            start: UNSET as u32,
-            end: UNSET as u32,
-            faces: [0, 0],
-            active: false,
-        };
-    };
-    EdgeData {
-        curve: *curve,
-        sense: Sense::from(*sense as usize),
-        start: *start,
-        end: *end,
-        faces: [*low, *high],
-        active: *active == 1,
-    }
+    entry(rows, e, NO_EDGE)
 }
 
 // Where edge e starts.
-#[tactic(auto, unfolding(crate::specs::Table::edge_of))]
-pub fn edge_start(rows: &[u32], e: usize) -> usize
-    ensures { (result ≡ (edge_data_at (rows_in rows.now) e).start) × (result < 4294967296) }
+pub fn edge_start(rows: &[EdgeData], e: usize) -> usize
+    ensures { (result ≡ (edge_data_at rows.now e).start) × (result < 4294967296) }
 {
-    row(rows, e).map_or(UNSET, |row| row[2] as usize)
+    edge_at(rows, e).start as usize
 }
 
 // Where edge e ends.
-#[tactic(auto, unfolding(crate::specs::Table::edge_of))]
-pub fn edge_end(rows: &[u32], e: usize) -> usize
-    ensures { (result ≡ (edge_data_at (rows_in rows.now) e).end) × (result < 4294967296) }
+pub fn edge_end(rows: &[EdgeData], e: usize) -> usize
+    ensures { (result ≡ (edge_data_at rows.now e).end) × (result < 4294967296) }
 {
-    row(rows, e).map_or(UNSET, |row| row[3] as usize)
+    edge_at(rows, e).end as usize
 }
 
 // No join has taken edge e.
-#[tactic(auto, unfolding(crate::specs::Table::edge_of))]
-pub fn edge_active(rows: &[u32], e: usize) -> bool
-    ensures { result ≡ (edge_data_at (rows_in rows.now) e).active }
+pub fn edge_active(rows: &[EdgeData], e: usize) -> bool
+    ensures { result ≡ (edge_data_at rows.now e).active }
 {
-    row(rows, e).is_some_and(|row| row[6] == 1)
-}
-
-// Edge e is stored.
-pub fn put_edge(rows: &mut [u32], e: usize, x: EdgeData)
-    requires { e < 2 ^ 60 }
-    ensures { rows.new ≡ with_row rows.old e x }
-{
-    let [low, high] = x.faces;
-    let numbers = [
-        x.curve,
-        usize::from(x.sense) as u32,
-        x.start,
-        x.end,
-        low,
-        high,
-        u32::from(x.active),
-    ];
-    for (k, number) in numbers.iter().enumerate() {
-        put(rows, 7 * e + k, *number as usize);
-    }
+    edge_at(rows, e).active
 }
 
 // THE EDGE OF A KEPT PAIR
@@ -114,56 +73,54 @@ fn ascending(a: usize, b: usize) -> [u32; 2]
 }
 
 // The merged faces beside use h.
-fn faces_beside(uses: &[u32], twins: &[u32], numbers: &[u32], h: usize) -> [u32; 2]
-    ensures { result ≡ face_pair (uses_in uses.now) twins.now numbers.now h }
+fn faces_beside(uses: &[Use], twins: &[u32], numbers: &[u32], h: usize) -> [u32; 2]
+    ensures { result ≡ face_pair uses.now twins.now numbers.now h }
 {
-    let pair = uses::pair_of(uses, h, get(twins, h));
-    let u = uses::of_two(pair, 0);
-    let t = uses::of_two(pair, 1);
-    let a = get(numbers, u.face as usize);
-    let b = get(numbers, t.face as usize);
+    let a = get(numbers, use_face(uses, h));
+    let b = get(numbers, use_face(uses, get(twins, h)));
     ascending(a, b)
 }
 
-// The fan of use h, or none.
-fn fan_or_none(none: bool, fans: &[u32], h: usize) -> u32
-    ensures { result ≡ cond none unset (label_of fans.now h) }
+// The fan of use h of an edge; none where the edge is a ring.
+fn fan_or_none(edge: Edge, fans: &[u32], h: usize) -> u32
+    ensures { result ≡ fan_or_none edge fans.now h }
 {
-    if none {
-        return UNSET as u32;
+    if edge.is_ring() {
+        return u32::MAX;
     }
     get(fans, h) as u32
 }
 
+// What the edges are made of: the uses; the twin, the successor and the fan of each, and which are removed; and the merged
+// face of each selected face.
+#[derive(Drop)]
+pub struct Sides<'a> {
+    pub uses: &'a [Use],
+    pub twins: &'a [u32],
+    pub removed: &'a [bool],
+    pub numbers: &'a [u32],
+    pub succ: &'a [u32],
+    pub fans: &'a [u32],
+}
+
 // The edge of the kept pair with lower use h.
 #[tactic(auto, unfolding(rules::specs::Edges::edge_data))]
-fn edge_of(
-    job: &[u8],
-    c: Counts,
-    uses: &[u32],
-    twins: &[u32],
-    numbers: &[u32],
-    succ: &[u32],
-    fans: &[u32],
-    h: usize,
-) -> EdgeData
-    requires { (c.vertices ≤ 1024) × (c.edges ≤ 1024) × (h < length succ.now) }
-    ensures { result ≡ edge_data (edges_in job.now c) (uses_in uses.now) twins.now numbers.now succ.now fans.now h }
+fn edge_of(job: &Loaded<'_>, s: &Sides<'_>, h: usize) -> EdgeData
+    requires { h < length s.now.succ.now }
+    ensures { result ≡ edge_data job.now.edges s.now.uses.now s.now.twins.now s.now.numbers.now s.now.succ.now s.now.fans.now h }
 {
-    let e = use_edge(uses, h);
-    let curve = job::edge_curve(job, c, e) as u32;
-    let sense = job::edge_sense(job, c, e);
-    let ring = uses::is_ring(job, c, uses, h);
-    let here = fan_or_none(ring, fans, h);
-    let there = fan_or_none(ring, fans, get(succ, h));
-    let faces = faces_beside(uses, twins, numbers, h);
-    let (start, end) = match use_sense(uses, h) {
+    let u = use_at(s.uses, h);
+    let edge = job.edge(u.edge as usize);
+    let here = fan_or_none(edge, s.fans, h);
+    let there = fan_or_none(edge, s.fans, get(s.succ, h));
+    let faces = faces_beside(s.uses, s.twins, s.numbers, h);
+    let (start, end) = match u.sense {
         Sense::Same => (here, there),
         Sense::Reversed => (there, here),
     };
     EdgeData {
-        curve,
-        sense,
+        curve: edge.curve,
+        sense: edge.sense,
         start,
         end,
         faces,
@@ -174,27 +131,22 @@ fn edge_of(
 // Where use h is kept and the lower of its pair, the edge of the pair is stored as number `count`, for both uses. Gives
 // the number of edges then.
 fn add_edge(
-    job: &[u8],
-    c: Counts,
-    uses: &[u32],
-    twins: &[u32],
-    removed: &[bool],
-    numbers: &[u32],
-    succ: &[u32],
-    fans: &[u32],
-    rows: &mut [u32],
+    job: &Loaded<'_>,
+    s: &Sides<'_>,
+    rows: &mut [EdgeData],
     owns: &mut [u32],
     h: usize,
     count: usize,
 ) -> usize
-    requires { (c.vertices ≤ 1024) × (c.edges ≤ 1024) × (h < length succ.now) × (count < 2048) }
-    ensures { OneEdge twins.now removed.now (edge_data (edges_in job.now c) (uses_in uses.now) twins.now numbers.now succ.now fans.now h) h count rows.old owns.old rows.new owns.new result }
+    requires { (h < length s.now.succ.now) × (count < 2048) }
+    ensures { OneEdge s.now.twins.now s.now.removed.now (edge_data job.now.edges s.now.uses.now s.now.twins.now s.now.numbers.now s.now.succ.now s.now.fans.now h) h
+        count rows.old owns.old rows.new owns.new result }
 {
-    if is_lower(twins, removed, h) {
-        let x = edge_of(job, c, uses, twins, numbers, succ, fans, h);
-        put_edge(rows, count, x);
+    if is_lower(s.twins, s.removed, h) {
+        let x = edge_of(job, s, h);
+        put_entry(rows, count, x);
         put(owns, h, count);
-        put(owns, get(twins, h), count);
+        put(owns, get(s.twins, h), count);
         return count + 1;
     }
     count
@@ -202,27 +154,13 @@ fn add_edge(
 
 // The edges, one for each kept pair by ascending lower use, and for each kept use the number of its pair's edge. Gives
 // how many edges there are.
-pub fn edges(
-    job: &[u8],
-    c: Counts,
-    uses: &[u32],
-    twins: &[u32],
-    removed: &[bool],
-    numbers: &[u32],
-    succ: &[u32],
-    fans: &[u32],
-    rows: &mut [u32],
-    owns: &mut [u32],
-) -> usize
-    requires { (c.vertices ≤ 1024) × (c.edges ≤ 1024) × (length twins.now ≤ 2048)
-        × (length succ.now ≡ length twins.now) × (length owns.old ≡ length twins.now) × (7 * length twins.now ≤ length rows.old) }
-    ensures { Made (edges_in job.now c) (uses_in uses.now) twins.now removed.now numbers.now succ.now fans.now owns.old rows.new owns.new result }
+pub fn edges(job: &Loaded<'_>, s: &Sides<'_>, rows: &mut [EdgeData], owns: &mut [u32]) -> usize
+    requires { (length s.now.twins.now ≤ 2048) × (length s.now.succ.now ≡ length s.now.twins.now) × (length owns.old ≡ length s.now.twins.now) × (length s.now.twins.now ≤ length rows.old) }
+    ensures { Made job.now.edges s.now.uses.now s.now.twins.now s.now.removed.now s.now.numbers.now s.now.succ.now s.now.fans.now owns.old rows.new owns.new result }
 {
     let mut count: usize = 0;
-    for h in 0..twins.len() {
-        count = add_edge(
-            job, c, uses, twins, removed, numbers, succ, fans, rows, owns, h, count,
-        );
+    for h in 0..s.twins.len() {
+        count = add_edge(job, s, rows, owns, h, count);
     }
     count
 }
@@ -231,9 +169,9 @@ pub fn edges(
 
 // Use h as an item.
 #[tactic(auto, unfolding(crate::specs::Table::item_code))]
-fn item_of(uses: &[u32], owns: &[u32], h: usize) -> usize
+fn item_of(uses: &[Use], owns: &[u32], h: usize) -> usize
     requires { (k : ℕ) → get_or owns.now k 0 ≤ 2048 }
-    ensures { (result ≡ item_code (uses_in uses.now) owns.now h) × (result < 4294967296) }
+    ensures { (result ≡ item_code uses.now owns.now h) × (result < 4294967296) }
 {
     let e = get(owns, h);
     let s = usize::from(use_sense(uses, h));
@@ -241,34 +179,38 @@ fn item_of(uses: &[u32], owns: &[u32], h: usize) -> usize
 }
 
 // The uses of the loops become items in their places.
-pub fn items(uses: &[u32], owns: &[u32], ways: &mut [u32])
+pub fn items(uses: &[Use], owns: &[u32], ways: &mut [u32])
     requires { (k : ℕ) → get_or owns.now k 0 ≤ 2048 }
-    ensures { ways.new ≡ map (item_code (uses_in uses.now) owns.now) ways.old }
+    ensures { ways.new ≡ map (item_code uses.now owns.now) ways.old }
 {
     for way in ways.iter_mut() {
         *way = item_of(uses, owns, *way as usize) as u32;
     }
 }
 
-// The first use of loop k; of an empty one, 0.
-fn first_use(ways: &[u32], stretches: &[u32], k: usize) -> usize
-    requires { k < 2 ^ 62 }
-    ensures { result ≡ get_or (loop_at ways.now stretches.now k) 0 0 }
+// The first use of a loop; of an empty one, 0.
+fn first_use(ways: &[u32], stretch: Span) -> usize
+    ensures { result ≡ get_or (loop_at ways.now stretch) 0 0 }
 {
-    let a = get(stretches, 2 * k);
-    let e = get(stretches, 2 * k + 1);
-    if a < e {
-        return get(ways, a);
+    if stretch.start < stretch.end {
+        return get(ways, stretch.start as usize);
     }
     0
 }
 
-// The merged face of each loop, by its first use.
-pub fn loop_faces(uses: &[u32], numbers: &[u32], ways: &[u32], stretches: &[u32], faces: &mut [u32])
-    ensures { faces.new ≡ map (loop_face (uses_in uses.now) numbers.now ways.now stretches.now) (below (length faces.old)) }
+// The merged face of each loop, by its first use. By its number, and not beside its stretch: a loop with none has the
+// face of use 0.
+pub fn loop_faces(
+    uses: &[Use],
+    numbers: &[u32],
+    ways: &[u32],
+    stretches: &[Span],
+    faces: &mut [u32],
+)
+    ensures { faces.new ≡ map (loop_face uses.now numbers.now ways.now stretches.now) (below (length faces.old)) }
 {
     for (k, face) in faces.iter_mut().enumerate() {
-        let h = first_use(ways, stretches, k);
+        let h = first_use(ways, span_at(stretches, k));
         *face = get(numbers, use_face(uses, h)) as u32;
     }
 }

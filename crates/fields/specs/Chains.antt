@@ -1,6 +1,6 @@
 -- Chains in tables: an entry is a number plus one, `next` gives the entry after a number, and 0 ends a chain.
 -- Entries fall along a chain, so that the entry itself bounds the chain's length and falls in a loop over it.
-use Rattle.std.specs.Prelude.{ℕ, zero, suc, ◌-◌, ◌<◌, ◌≤◌, ◌≡◌, refl, List, [], ◌∷◌}
+use Rattle.std.specs.Prelude.{ℕ, zero, suc, ◌-◌, ◌<◌, ◌≤◌, ◌≡◌, refl, List, [], ◌∷◌, get_or}
 use Rattle.std.proofs.Common.{not-suc-le-zero, arith, ap, ◌∙◌, ⊎_elim}
 use mathlib.Core.List.Memᴰ
 use Rattle.lists.specs.Lists.{◌∈◌}
@@ -14,6 +14,10 @@ chain_from (suc most) next (suc k) = k ∷ chain_from most next (next k)
 -- the numbers on a chain from an entry on
 abbrev pub chain : (ℕ → ℕ) → ℕ → List ℕ
 chain next entry = chain_from entry next entry
+
+-- the entry that a table has after a number
+abbrev pub next_in : List ℕ → ℕ → ℕ
+next_in nexts k = get_or nexts k 0
 
 abbrev pub Falling : (ℕ → ℕ) → Type 0
 Falling next = (k : ℕ) → next k ≤ k

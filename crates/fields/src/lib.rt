@@ -7,12 +7,16 @@ ghost use Rattle.std.specs.Prelude.{◌≡◌, ◌+◌, ◌*◌, ◌<◌, ◌^�
 ghost use Rattle.std.proofs.lemmas.List.Edits.{sets};
 ghost use Rattle.rules.specs.Fields.{le16, le32, bytes16, bytes32, field_bytes};
 ghost use Rattle.fields.specs.Wrote.{Wrote};
+ghost use Rattle.fields.specs.Spans.{span_at};
+ghost use Rattle.fields.specs.Chains.{chain, next_in, Falling};
+
+use std::marker::Model;
 
 // The mark for no vertex, no fan, no twin.
 pub const UNSET: usize = 4294967295;
 
 // The entry at a place of a table; past its end, another.
-fn entry<T: Copy>(t: &[T], i: usize, none: T) -> T
+pub fn entry<T: Copy>(t: &[T], i: usize, none: T) -> T
     ensures { result ≡ get_or t.now i none }
 {
     match t.get(i) {
@@ -22,7 +26,7 @@ fn entry<T: Copy>(t: &[T], i: usize, none: T) -> T
 }
 
 // An entry stored at a place of a table; past its end nothing is.
-fn put_entry<T: Copy>(t: &mut [T], i: usize, x: T)
+pub fn put_entry<T: Copy>(t: &mut [T], i: usize, x: T)
     ensures { t.new ≡ set t.old i x }
 {
     if i < t.len() {
@@ -137,6 +141,75 @@ pub fn put_flag(t: &mut [bool], i: usize, v: bool)
 {
     put_entry(t, i, v);
 }
+
+// STRETCHES
+
+// A stretch of a list, from one place up to another: where a loop lies among the uses or the items of all loops.
+#[derive(Clone, Copy)]
+pub struct Span {
+    pub start: u32,
+    pub end: u32,
+}
+
+// A stretch of a table; past its end, an empty one.
+pub fn span_at(spans: &[Span], k: usize) -> Span
+    ensures { result ≡ span_at spans.now k }
+{
+    entry(spans, k, Span { start: 0, end: 0 })
+}
+
+// CHAINS
+
+// The numbers that a chain in a table has from an entry on. An entry is a number plus one, the table has the entry after
+// each number, and 0 ends a chain. Entries fall along a chain, so that it ends.
+#[derive(Drop)]
+pub struct Chain<'a> {
+    nexts: &'a [u32],
+    entry: usize,
+}
+
+impl<'a> Model for Chain<'a> {
+    ghost use Rattle.std.specs.Prelude.{ℕ, List};
+    ghost use Rattle.fields.specs.Chains.{chain, next_in, Falling};
+
+    ghost Value = { List ℕ };
+
+    ghost view = { λ c. chain (next_in c.nexts.now) c.entry };
+
+    ghost invariant = { λ c. Falling (next_in c.nexts.now) };
+}
+
+impl<'a> Chain<'a> {
+    pub fn new(nexts: &'a [u32], entry: usize) -> Chain<'a>
+        requires { Falling (next_in nexts.now) }
+        ensures { result ≡ chain (next_in nexts.now) entry }
+    {
+        Chain { nexts, entry }
+    }
+}
+
+impl<'a> Iterator for Chain<'a> {
+    ghost use Rattle.std.specs.Iterator.{YieldsFirst, item_count};
+
+    type Item = usize;
+
+    ghost next_gives = { YieldsFirst (λ numbers. numbers) };
+
+    ghost remaining = { item_count (λ numbers. numbers) };
+
+    #[inline(always)]
+    #[tactic(auto, using(crate::specs::Chains::chain_more, crate::specs::Chains::chain_end))]
+    fn next(&mut self) -> Option<usize> {
+        if self.entry == 0 {
+            return None;
+        }
+        let k = self.entry - 1;
+        self.entry = get(self.nexts, k);
+        Some(k)
+    }
+}
+
+// RECORDS
 
 // A record's header at a place: payload length of so many fields, and kind; gives the place of its payload.
 pub fn put_head(out: &mut [u8], at: usize, kind: usize, fields: usize) -> usize

@@ -54,7 +54,7 @@ pub fn join_in(parents: &mut [u32], a: usize, b: usize) -> bool
     false
 }
 
-// Each number's parent becomes its label.
+// Each number's parent becomes its label. By place: it writes entries while it reads others.
 pub fn settle(parents: &mut [u32])
     ensures { (ls : List ℕ) → Stands parents.old ls → parents.new ≡ ls }
 {

@@ -1,3 +1,5 @@
+pub mod Apart
 pub mod Lists
+pub mod Raw
 pub mod ListLaws
 pub mod FieldLaws

@@ -1,14 +1,16 @@
 -- The entries of the job's lists, within and past their ends.
-use Rattle.std.specs.Prelude.{ℕ, zero, suc, ◌+◌, ◌*◌, ◌<◌, ◌≤◌, ◌≡◌, refl, List, map, get_or}
-use Rattle.std.proofs.Common.{arith}
+use Rattle.std.specs.Prelude.{ℕ, ◌+◌, ◌*◌, ◌<◌, ◌≤◌, ◌≡◌, ◌≢◌, List, true, false, eqb, map, get_or}
+use Rattle.std.proofs.Common.{arith, eq-eqb, ap}
 use Rattle.std.proofs.Math.ListN.{get_or-eq_default}
 use Rattle.lists.specs.Lists.{below}
 use Rattle.lists.specs.Runs.{length_table, get_or_table}
 use Rattle.rules.specs.declared.Counts.{Counts}
-use Rattle.rules.specs.declared.Kind.TheVariants.{Unknown}
 use Rattle.rules.specs.Fields.{le32}
 use Rattle.rules.specs.Job.{no_edge, edge_at, no_face, face_at}
-use Rattle.rules.specs.Kinds.{kind_of}
+use Rattle.rules.specs.declared.Kind.{Kind}
+use Rattle.rules.specs.declared.Kind.TheVariants.{LoopRecord}
+use Rattle.rules.specs.Kinds.{number_of}
+use Rattle.job.specs.Apart.{other_kind}
 use Rattle.job.specs.Lists.{point_in, points_in, edge_in, edge_place, edges_in, face_byte, face_in, faces_in}
 
 -- past the end of a table
@@ -38,3 +40,12 @@ faces_at bytes ix c f h = get_or_table (λ k. face_in bytes (face_byte ix k)) c.
 pub faces_past : (bytes ix : List ℕ) (c : Counts) (f : ℕ) → c.faces ≤ f → face_at (faces_in bytes ix c) f ≡ no_face
 unfolding faces_in
 faces_past bytes ix c f h = table_past (λ k. face_in bytes (face_byte ix k)) c.faces f no_face h
+
+-- a loop of edges, by its kind
+pub of_loop : (k : Kind) → k ≡ LoopRecord → eqb (number_of k) 5 ≡ true
+unfolding number_of
+of_loop k e = eq-eqb (number_of k) 5 (ap number_of e)
+
+pub of_no_loop : (k : Kind) → k ≢ LoopRecord → eqb (number_of k) 5 ≡ false
+unfolding number_of
+of_no_loop k n = other_kind k LoopRecord n

@@ -7,7 +7,7 @@ use Rattle.rules.specs.declared.Face.{Face}
 use Rattle.rules.specs.Sense.{sense_of}
 use Rattle.rules.specs.Fields.{le16, le32, fields_in}
 use Rattle.rules.specs.Job.{of_items, at_vertex, Loop, Stretch, Answer, Job, items_of}
-use Rattle.rules.specs.Kinds.{kind_of}
+use Rattle.rules.specs.Kinds.{kind_of, number_of}
 use Rattle.rules.specs.Load.{answer_of}
 
 -- vertex v's point stands at a computed place, after Head
@@ -59,7 +59,11 @@ faces_in bytes ix c = map (λ f. face_in bytes (face_byte ix f)) (below c.faces)
 unfoldable pub loop_in : List ℕ → List ℕ → ℕ → Loop
 loop_in bytes ix l =
     let p = loop_byte ix l in
-    record { face = get_or ix (6400 + l) 0; content = cond (eqb (le16 bytes (p + 4)) 5) (of_items (items_of (fields_at bytes p))) (at_vertex (le32 bytes (p + 6))) }
+    record { face = get_or ix (6400 + l) 0; content = cond (eqb (number_of (kind_of (le16 bytes (p + 4)))) 5) (of_items (items_of (fields_at bytes p))) (at_vertex (le32 bytes (p + 6))) }
+
+-- how many items it has; a vertex loop has none
+unfoldable pub item_count : List ℕ → List ℕ → ℕ → ℕ
+item_count bytes ix l = cond (eqb (number_of (kind_of (le16 bytes (loop_byte ix l + 4)))) 5) (le32 bytes (loop_byte ix l) / 8) 0
 
 unfoldable pub loops_in : List ℕ → List ℕ → Counts → List Loop
 loops_in bytes ix c = map (loop_in bytes ix) (below c.loops)

@@ -3,16 +3,18 @@
 
 #![tactic(auto)]
 
-ghost use Rattle.std.specs.Prelude.{◌≡◌, ◌+◌, ◌*◌, ◌<◌, ◌≤◌, get_or};
-ghost use Rattle.rules.specs.Job.{edge_at, face_at, start_by, end_by};
-ghost use Rattle.rules.specs.Read.{stored_sense};
+ghost use Rattle.std.specs.Prelude.{◌≡◌, ◌+◌, ◌*◌, ◌<◌, ◌≤◌, ◌^◌, get_or};
+ghost use Rattle.rules.specs.Job.{edge_at, face_at};
 ghost use Rattle.rules.specs.Fields.{le16, le32};
-ghost use Rattle.job.specs.Lists.{points_in, edges_in, faces_in, loop_byte};
+ghost use Rattle.rules.specs.Kinds.{kind_of};
+ghost use Rattle.job.specs.Lists.{edge_in, face_in, loop_byte, item_count};
+ghost use Rattle.job.specs.Raw.{points, edges, faces};
 
-use fields::{UNSET, get, half, word};
-use rules::{Counts, Sense};
+use fields::{get, half, word};
+use rules::{Counts, Edge, Face, Kind, Sense};
 
-// The index: heads of the chains of answers, the chains, places of answers, of faces and of loops, the loops' faces.
+// The index: heads of the chains of answers, the chains, places of answers, of faces and of loops, the loops' faces. One
+// array of numbers, which is cleared and lent as a whole.
 pub const INDEX: usize = 7424;
 
 pub const BUCKETS: usize = 1024;
@@ -27,171 +29,137 @@ pub const LOOPS: usize = 5376;
 
 pub const OWNERS: usize = 6400;
 
-// VERTICES AND EDGES
-
-// The point of a vertex.
-pub fn point(job: &[u8], c: Counts, v: usize) -> usize
-    requires { c.vertices ≤ 1024 }
-    ensures { (result ≡ get_or (points_in job.now c) v 0) × (result < 4294967296) }
-{
-    if v < c.vertices {
-        return word(job, 16 + 10 * v);
-    }
-    0
+// A job as it stands while it is read: its bytes, the index of what was read, and how many things of each sort there were.
+#[derive(Clone, Copy)]
+pub struct RawJob<'a> {
+    pub bytes: &'a [u8],
+    pub index: &'a [u32],
+    pub counts: Counts,
 }
 
-pub fn edge_curve(job: &[u8], c: Counts, e: usize) -> usize
-    requires { (c.vertices ≤ 1024) × (c.edges ≤ 1024) }
-    ensures { (result ≡ (edge_at (edges_in job.now c) e).curve) × (result < 4294967296) }
+// The edge whose fields stand at a byte. It and the readers below are inlined: most callers need one or two of the fields.
+#[tactic(auto, unfolding(crate::specs::Lists::edge_in))]
+#[inline(always)]
+fn edge_in(job: &[u8], at: usize) -> Edge
+    requires { at < 2 ^ 59 }
+    ensures { result ≡ edge_in job.now at }
 {
-    if e < c.edges {
-        return word(job, 16 + 10 * c.vertices + 22 * e);
-    }
-    0
-}
-
-pub fn edge_sense(job: &[u8], c: Counts, e: usize) -> Sense
-    requires { (c.vertices ≤ 1024) × (c.edges ≤ 1024) }
-    ensures { result ≡ (edge_at (edges_in job.now c) e).sense }
-{
-    if e < c.edges {
-        return Sense::from(word(job, 16 + 10 * c.vertices + 22 * e + 4));
-    }
-    Sense::Same
-}
-
-pub fn edge_start(job: &[u8], c: Counts, e: usize) -> usize
-    requires { (c.vertices ≤ 1024) × (c.edges ≤ 1024) }
-    ensures { (result ≡ (edge_at (edges_in job.now c) e).start) × (result < 4294967296) }
-{
-    if e < c.edges {
-        return word(job, 16 + 10 * c.vertices + 22 * e + 8);
-    }
-    UNSET
-}
-
-pub fn edge_end(job: &[u8], c: Counts, e: usize) -> usize
-    requires { (c.vertices ≤ 1024) × (c.edges ≤ 1024) }
-    ensures { (result ≡ (edge_at (edges_in job.now c) e).end) × (result < 4294967296) }
-{
-    if e < c.edges {
-        return word(job, 16 + 10 * c.vertices + 22 * e + 12);
-    }
-    UNSET
-}
-
-// The vertex where a sense of an edge starts, and where it ends.
-pub fn start_by(job: &[u8], c: Counts, e: usize, s: Sense) -> usize
-    requires { (c.vertices ≤ 1024) × (c.edges ≤ 1024) }
-    ensures { (result ≡ start_by s (edge_at (edges_in job.now c) e)) × (result < 4294967296) }
-{
-    match s {
-        Sense::Same => edge_start(job, c, e),
-        Sense::Reversed => edge_end(job, c, e),
+    Edge {
+        curve: word(job, at) as u32,
+        sense: Sense::from(word(job, at + 4)),
+        start: word(job, at + 8) as u32,
+        end: word(job, at + 12) as u32,
     }
 }
 
-pub fn end_by(job: &[u8], c: Counts, e: usize, s: Sense) -> usize
-    requires { (c.vertices ≤ 1024) × (c.edges ≤ 1024) }
-    ensures { (result ≡ end_by s (edge_at (edges_in job.now c) e)) × (result < 4294967296) }
+// The face whose record stands at a byte.
+#[tactic(auto, unfolding(crate::specs::Lists::face_in))]
+#[inline(always)]
+fn face_in(job: &[u8], at: usize) -> Face
+    requires { at < 2 ^ 59 }
+    ensures { result ≡ face_in job.now at }
 {
-    match s {
-        Sense::Same => edge_end(job, c, e),
-        Sense::Reversed => edge_start(job, c, e),
+    Face {
+        surface: word(job, at + 6) as u32,
+        own: Sense::from(word(job, at + 10)),
+        selected: Sense::from(word(job, at + 14)),
+        body: word(job, at + 18) as u32,
+        source: word(job, at + 22) as u32,
     }
 }
 
-// FACES
+impl RawJob<'_> {
+    // VERTICES, EDGES, FACES
 
-pub fn face_surface(job: &[u8], index: &[u32], c: Counts, f: usize) -> usize
-    requires { c.faces ≤ 256 }
-    ensures { (result ≡ (face_at (faces_in job.now index.now c) f).surface) × (result < 4294967296) }
-{
-    if f < c.faces {
-        return word(job, get(index, FACES + f) + 6);
+    // The point of a vertex.
+    #[inline(always)]
+    pub fn point(&self, v: usize) -> usize
+        requires { self.now.counts.vertices ≤ 1024 }
+        ensures { (result ≡ get_or (points self.now) v 0) × (result < 4294967296) }
+    {
+        if v < self.counts.vertices {
+            return word(self.bytes, 16 + 10 * v);
+        }
+        0
     }
-    0
-}
 
-pub fn face_own(job: &[u8], index: &[u32], c: Counts, f: usize) -> Sense
-    requires { c.faces ≤ 256 }
-    ensures { result ≡ (face_at (faces_in job.now index.now c) f).own }
-{
-    if f < c.faces {
-        return Sense::from(word(job, get(index, FACES + f) + 10));
+    // An edge; past the last there is none, with no ends.
+    #[tactic(auto, using(crate::specs::ListLaws::edges_at, crate::specs::ListLaws::edges_past))]
+    #[inline(always)]
+    pub fn edge(&self, e: usize) -> Edge
+        requires { (self.now.counts.vertices ≤ 1024) × (self.now.counts.edges ≤ 1024) }
+        ensures { result ≡ edge_at (edges self.now) e }
+    {
+        if e < self.counts.edges {
+            return edge_in(self.bytes, 16 + 10 * self.counts.vertices + 22 * e);
+        }
+        Edge {
+            curve: 0,
+            sense: Sense::Same,
+            start: u32::MAX,
+            end: u32::MAX,
+        }
     }
-    Sense::Same
-}
 
-pub fn face_selected(job: &[u8], index: &[u32], c: Counts, f: usize) -> Sense
-    requires { c.faces ≤ 256 }
-    ensures { result ≡ (face_at (faces_in job.now index.now c) f).selected }
-{
-    if f < c.faces {
-        return Sense::from(word(job, get(index, FACES + f) + 14));
+    // A selected face; past the last there is none.
+    #[tactic(auto, using(crate::specs::ListLaws::faces_at, crate::specs::ListLaws::faces_past))]
+    #[inline(always)]
+    pub fn face(&self, f: usize) -> Face
+        requires { self.now.counts.faces ≤ 256 }
+        ensures { result ≡ face_at (faces self.now) f }
+    {
+        if f < self.counts.faces {
+            return face_in(self.bytes, get(self.index, FACES + f));
+        }
+        Face {
+            surface: 0,
+            own: Sense::Same,
+            selected: Sense::Same,
+            body: 0,
+            source: 0,
+        }
     }
-    Sense::Same
-}
 
-// The body that the face was selected on, 0 or 1.
-pub fn face_body(job: &[u8], index: &[u32], c: Counts, f: usize) -> usize
-    requires { c.faces ≤ 256 }
-    ensures { result ≡ (face_at (faces_in job.now index.now c) f).body }
-{
-    if f < c.faces {
-        return word(job, get(index, FACES + f) + 18);
+    // LOOPS
+
+    // The face of loop l, its kind, the first byte of its payload, its payload's length.
+    pub fn loop_face(&self, l: usize) -> usize
+        requires { l < 1024 }
+        ensures { (result ≡ get_or self.now.index.now (6400 + l) 0) × (result < 4294967296) }
+    {
+        get(self.index, OWNERS + l)
     }
-    0
-}
 
-// Its number there.
-pub fn face_source(job: &[u8], index: &[u32], c: Counts, f: usize) -> usize
-    requires { c.faces ≤ 256 }
-    ensures { result ≡ (face_at (faces_in job.now index.now c) f).source }
-{
-    if f < c.faces {
-        return word(job, get(index, FACES + f) + 22);
+    pub fn loop_kind(&self, l: usize) -> Kind
+        requires { l < 1024 }
+        ensures { result ≡ kind_of (le16 self.now.bytes.now (loop_byte self.now.index.now l + 4)) }
+    {
+        Kind::from(half(self.bytes, get(self.index, LOOPS + l) + 4))
     }
-    0
-}
 
-// Own times selected.
-pub fn stored_sense(job: &[u8], index: &[u32], c: Counts, f: usize) -> Sense
-    requires { c.faces ≤ 256 }
-    ensures { result ≡ stored_sense (face_at (faces_in job.now index.now c) f) }
-{
-    let own = face_own(job, index, c, f);
-    let selected = face_selected(job, index, c, f);
-    own * selected
-}
+    pub fn loop_start(&self, l: usize) -> usize
+        requires { l < 1024 }
+        ensures { (result ≡ loop_byte self.now.index.now l + 6) × (result < 4294967302) }
+    {
+        get(self.index, LOOPS + l) + 6
+    }
 
-// LOOPS
+    pub fn loop_size(&self, l: usize) -> usize
+        requires { l < 1024 }
+        ensures { (result ≡ le32 self.now.bytes.now (loop_byte self.now.index.now l)) × (result < 4294967296) }
+    {
+        word(self.bytes, get(self.index, LOOPS + l))
+    }
 
-// The face of loop l, its kind, the first byte of its payload, its payload's length.
-pub fn loop_face(index: &[u32], l: usize) -> usize
-    requires { l < 1024 }
-    ensures { (result ≡ get_or index.now (6400 + l) 0) × (result < 4294967296) }
-{
-    get(index, OWNERS + l)
-}
-
-pub fn loop_kind(job: &[u8], index: &[u32], l: usize) -> usize
-    requires { l < 1024 }
-    ensures { result ≡ le16 job.now (loop_byte index.now l + 4) }
-{
-    half(job, get(index, LOOPS + l) + 4)
-}
-
-pub fn loop_start(index: &[u32], l: usize) -> usize
-    requires { l < 1024 }
-    ensures { (result ≡ loop_byte index.now l + 6) × (result < 4294967302) }
-{
-    get(index, LOOPS + l) + 6
-}
-
-pub fn loop_size(job: &[u8], index: &[u32], l: usize) -> usize
-    requires { l < 1024 }
-    ensures { (result ≡ le32 job.now (loop_byte index.now l)) × (result < 4294967296) }
-{
-    word(job, get(index, LOOPS + l))
+    // How many items loop l has; a vertex loop has none.
+    #[tactic(auto, using(crate::specs::ListLaws::of_loop, crate::specs::ListLaws::of_no_loop), unfolding(crate::specs::Lists::item_count))]
+    pub fn item_count(&self, l: usize) -> usize
+        requires { l < 1024 }
+        ensures { (result ≡ item_count self.now.bytes.now self.now.index.now l) × (result < 4294967296) }
+    {
+        if self.loop_kind(l) == Kind::LoopRecord {
+            return self.loop_size(l) / 8;
+        }
+        0
+    }
 }

@@ -1,8 +1,6 @@
 -- Laws of a record's line, a stage's row, and an answer's text, put together from their parts.
-use Rattle.std.specs.Prelude.{ℕ, zero, suc, ◌+◌, ◌*◌, ◌-◌, ◌/◌, ◌<◌, ◌≤◌, ◌≡◌, refl, true, false, cond, length, get_or, take, drop, eqb, ltb, ◌&&◌, Some, None, slice_index_or}
+use Rattle.std.specs.Prelude.{ℕ, zero, suc, ◌+◌, ◌*◌, ◌-◌, ◌/◌, ◌<◌, ◌≤◌, ◌≡◌, refl, true, false, cond, length, get_or, take, drop, eqb, ltb, ◌&&◌}
 use lib.Pointwise.{pointwise}
-use Rattle.std.proofs.Math.Seq.{drop-cons}
-use Rattle.std.proofs.Math.ListN.{drop_of_length-le}
 use Rattle.lists.specs.Lists.{same}
 use Rattle.std.proofs.Common.{◌⊎◌, ⊎_elim, arith, sym, ap, ◌∙◌, length-append, length-take, drop-drop, lt-ltb, ltb-true}
 use mathlib.Core.List.{List, [], ◌∷◌, ◌++◌, flat_map, append-nil, append_assoc}
@@ -19,7 +17,7 @@ use Rattle.rules.specs.Frame.{Record}
 use Rattle.rules.specs.Listing.{decimal, word_of, field_text, fields_text, line_of, refused_word, refusal_line, listing_of}
 use Rattle.fields.specs.Wrote.{Wrote, wrote_more}
 use Rattle.rules.specs.Rows.{row_text}
-use Rattle.lines.specs.Text.{field_text_in, plain_of, record_at, record_size, records_in, recorded, row_length, row_at, row_size, rows_in, joining_rows, fixed_of, counted_of, stage_rows, stage_text, stage_name, named_among}
+use Rattle.lines.specs.Text.{field_text_in, plain_of, record_at, record_size, records_in, recorded, row_length, row_at, row_size, rows_in, joining_rows, fixed_of, counted_of, stage_rows, stage_text}
 use Rattle.lines.specs.Writing.{wrote_same, decimal_short, fields_short}
 
 -- NAMES
@@ -302,21 +300,3 @@ pointwise_same [] [] = refl
 pointwise_same [] (y ∷ b) = refl
 pointwise_same (x ∷ a) [] = refl
 pointwise_same (x ∷ a) (y ∷ b) = ap (λ t. eqb x y && t) (pointwise_same a b)
-
--- the stage at a place of some stages has the name, or it is sought among the later ones
-module _ (l : List Stage) (i : ℕ) (name : List ℕ) where
-  named_at : i < length l → named_among (drop i l) name ≡ cond (same name (stage_name (slice_index_or l i Read))) (Some (slice_index_or l i Read)) (named_among (drop (i + 1) l) name)
-  unfolding named_among
-  named_at h =
-      let on : suc i ≡ i + 1 = omega arith in
-      ap (λ m. named_among m name) (drop-cons l i Read h ∙ ap (λ k. slice_index_or l i Read ∷ drop k l) on)
-
-  pub named_here : i < length l → same name (stage_name (slice_index_or l i Read)) ≡ true → named_among (drop i l) name ≡ Some (slice_index_or l i Read)
-  named_here h e = named_at h ∙ cond_true (same name (stage_name (slice_index_or l i Read))) _ _ e
-
-  pub named_later : i < length l → same name (stage_name (slice_index_or l i Read)) ≡ false → named_among (drop i l) name ≡ named_among (drop (i + 1) l) name
-  named_later h e = named_at h ∙ cond_false (same name (stage_name (slice_index_or l i Read))) _ _ e
-
-  pub named_none : length l ≤ i → named_among (drop i l) name ≡ None
-  unfolding named_among
-  named_none h = ap (λ m. named_among m name) (drop_of_length-le l h)

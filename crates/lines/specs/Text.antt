@@ -1,5 +1,6 @@
 -- The text of an answer, from the bytes that the output holds: the lines of a body's records and of a stage's rows.
-use Rattle.std.specs.Prelude.{ℕ, ◌+◌, ◌*◌, ◌/◌, Bool, cond, take, drop, eqb, ltb, Option, Some, None}
+use Rattle.std.specs.Prelude.{ℕ, ◌+◌, ◌*◌, ◌/◌, Bool, cond, take, drop, eqb, ltb, Option}
+use Rattle.std.specs.List.{find}
 use mathlib.Core.List.{List, [], ◌∷◌, ◌++◌, flat_map}
 use Rattle.lists.specs.Lists.{same}
 use Rattle.rules.specs.declared.Stage.{Stage}
@@ -121,13 +122,6 @@ stage_name Joining = 106 ∷ 111 ∷ 105 ∷ 110 ∷ 105 ∷ 110 ∷ 103 ∷ []
 stage_name Shells = 115 ∷ 104 ∷ 101 ∷ 108 ∷ 108 ∷ 115 ∷ []
 stage_name Lumps = 108 ∷ 117 ∷ 109 ∷ 112 ∷ 115 ∷ []
 
--- the first of some stages that has a name
-unfoldable pub named_among : List Stage → List ℕ → Option Stage
-named_among [] name = None
-named_among (s ∷ more) name =
-    let later = named_among more name in
-    cond (same name (stage_name s)) (Some s) later
-
 -- the stage of a name, if there is one
 unfoldable pub stage_named : List ℕ → Option Stage
-stage_named name = named_among all_stages name
+stage_named name = find (λ s. same name (stage_name s)) all_stages

@@ -1,6 +1,6 @@
 -- Laws of text written byte by byte: a text, the digits of a number, a field, fields one after the other.
 use Prim.Native.Nat.{ℕ, zero, suc, ◌+◌, ◌*◌, ◌-◌, ◌/◌, ◌%◌, ◌<◌, ◌≤◌}
-use Rattle.std.proofs.Common.{not-suc-le-zero, add-one, subst, ◌∙◌, ⊎_elim, length-append, length-set, length-drop, drop_of_length-le, take-suc, take_all, length-take-le, drop_at, drop-drop, lt-ltb, le-ltb, eq-eqb, ne_eqb}
+use Rattle.std.proofs.Common.{not-suc-le-zero, add-one, subst, ◌∙◌, ⊎_elim, length-append, length-set, length-drop, drop_of_length-le, take-suc, take_all, length-take-le, drop_at, drop-drop, lt-ltb, le-ltb}
 use native.Mathlib.Omega.{arith}
 use Rattle.std.specs.Prelude.{◌≡◌, refl, Bool, true, false, cond, length, get_or, set, take, eqb, ltb}
 use Rattle.std.proofs.Math.Path.{sym, ap}
@@ -8,15 +8,13 @@ use mathlib.Core.List.{List, [], ◌∷◌, ◌++◌, flat_map, append-nil}
 use Rattle.std.proofs.Math.ListN.{drop}
 use Rattle.std.proofs.lemmas.List.Edits.{sets}
 use Rattle.std.proofs.lemmas.List.{set_split}
-use Rattle.lists.specs.Lists.{same}
-use Rattle.lists.specs.SameLists.{same_is}
 use Rattle.lists.specs.Tests.{both_ways, cond_true, cond_false}
 use Rattle.lists.specs.Members.{flat_map_append}
 use Rattle.rules.specs.Job.{unset}
 use Rattle.rules.specs.Fields.{le32, fields_in}
 use Rattle.rules.proofs.FieldLaws.{le32_here}
-use Rattle.rules.specs.Listing.{digits_before, decimal, field_text, vertex_text}
-use Rattle.fields.specs.Wrote.{Wrote, wrote_none, wrote_more, sets_append}
+use Rattle.rules.specs.Listing.{digits_before, decimal, field_text}
+use Rattle.fields.specs.Wrote.{Wrote, sets_append}
 use Rattle.lines.specs.Text.{field_text_in}
 
 -- another text that is equal
@@ -30,10 +28,6 @@ text_more before mid after text at i m lt e =
     let n : length (take i text) ≡ i = length-take-le i text (omega arith) in
     e ∙ (λ t. set (m t) (at + sym n t) (get_or text i 0)) ∙ sets_append before at (take i text) (get_or text i 0 ∷ [])
     ∙ ap (sets before at) (sym (take-suc text i 0 lt) ∙ ap (λ k. take k text) (sym (add-one i)))
-
--- lists of another length, or that differ at a place, are not the same
-pub same_not : (l m : List ℕ) → (l ≡ m → ⊥) → false ≡ same l m
-same_not l m h = ⊎_elim (λ e. absurd (h (same_is l m e))) (λ e. sym e) (both_ways (same l m))
 
 -- THE DIGITS OF A NUMBER
 
@@ -96,22 +90,6 @@ decimal_short v = few_digits 20 v []
 
 -- A FIELD
 
--- no vertex
-pub field_none : (before after : List ℕ) (at q v : ℕ) (vertex : Bool) → vertex ≡ true → v ≡ unset → Wrote before at (32 ∷ 45 ∷ []) after q → Wrote before at (field_text_in vertex v) after q
-field_none before after at q v vertex t e w =
-    wrote_same before after (32 ∷ 45 ∷ []) (field_text_in vertex v) at q
-    (sym (cond_true vertex (vertex_text v) (field_text v) t ∙ cond_true (eqb v unset) (32 ∷ 45 ∷ []) (field_text v) (eq-eqb v unset e))) w
-
-field_is : (v : ℕ) (vertex : Bool) → (vertex ≡ true → v ≡ unset → ⊥) → field_text_in vertex v ≡ field_text v
-field_is v true h = cond_false (eqb v unset) (32 ∷ 45 ∷ []) (field_text v) (ne_eqb v unset (h refl))
-field_is v false h = refl
-
--- a blank, then the number
-pub field_some : (before mid after : List ℕ) (at p q v : ℕ) (vertex : Bool) → (vertex ≡ true → v ≡ unset → ⊥)
-    → Wrote before at (32 ∷ []) mid p → Wrote mid p (decimal v) after q → Wrote before at (field_text_in vertex v) after q
-field_some before mid after at p q v vertex h u w =
-    wrote_same before after (field_text v) (field_text_in vertex v) at q (sym (field_is v vertex h)) (wrote_more before mid after (32 ∷ []) (decimal v) at p q u w)
-
 pub field_short : (vertex : Bool) (v : ℕ) → length (field_text_in vertex v) ≤ 21
 field_short false v = omega (arith, decimal_short v)
 field_short true v =
@@ -137,28 +115,17 @@ fields_short vertex zero s = omega arith
 fields_short vertex (suc n) s =
     omega (arith, length-append (field_text_in vertex (le32 s 0)) (flat_map (field_text_in vertex) (fields_in n (drop 4 s))), field_short vertex (le32 s 0), fields_short vertex n (drop 4 s))
 
-module _ (text : ℕ → List ℕ) (short : (v : ℕ) → length (text v) ≤ 21) (before : List ℕ) (at : ℕ) (bytes : List ℕ) (from : ℕ) where
-  -- after the first i fields
-  pub record Fielded (after : List ℕ) (p i : ℕ) : Type 0 where
-    pub wrote : Wrote before at (flat_map text (fields_in i (drop from bytes))) after p
-    pub few : p ≤ at + 21 * i
+pub fields_none : (vertex : Bool) (s : List ℕ) → flat_map (field_text_in vertex) (fields_in 0 s) ≡ []
+unfolding flat_map fields_in
+fields_none vertex s = refl
 
-  pub fielded_start : Fielded before at 0
-  unfolding flat_map fields_in
-  fielded_start = record { wrote = wrote_none before at; few = omega arith }
-
-  pub fielded_step : (mid after : List ℕ) (p q i v : ℕ) → v ≡ le32 bytes (from + 4 * i) → Fielded mid p i → Wrote mid p (text v) after q → Fielded after q (i + 1)
-  unfolding flat_map fields_in
-  fielded_step mid after p q i v e F w =
-      let s : List ℕ = drop from bytes in
-      let here : v ≡ le32 (drop (4 * i) s) 0 = e ∙ sym (le32_here (from + 4 * i) bytes) ∙ ap (λ l. le32 l 0) (sym (drop-drop (4 * i) from bytes)) in
-      let all : flat_map text (fields_in i s) ++ text v ≡ flat_map text (fields_in (i + 1) s) =
-      ap (λ l. flat_map text (fields_in i s) ++ l) (ap text here ∙ sym (append-nil (text (le32 (drop (4 * i) s) 0))))
-      ∙ sym (flat_map_append text (fields_in i s) (fields_in 1 (drop (4 * i) s))) ∙ ap (flat_map text) (sym (fields_append i 1 s)) in
-      record {
-        wrote = wrote_same before after _ (flat_map text (fields_in (i + 1) s)) at q all (wrote_more before mid after (flat_map text (fields_in i s)) (text v) at p q F.wrote w);
-        few = omega (arith, F.few, w.1, short v);
-      }
-
-  pub fielded_end : (after : List ℕ) (p i n : ℕ) → i ≡ n → Fielded after p i → Wrote before at (flat_map text (fields_in n (drop from bytes))) after p
-  fielded_end after p i n e F = wrote_same before after (flat_map text (fields_in i (drop from bytes))) _ at p (ap (λ k. flat_map text (fields_in k (drop from bytes))) e) F.wrote
+-- the text of the first fields, then of one more
+pub fields_more : (vertex : Bool) (bytes : List ℕ) (from i : ℕ)
+    → flat_map (field_text_in vertex) (fields_in (i + 1) (drop from bytes)) ≡ flat_map (field_text_in vertex) (fields_in i (drop from bytes)) ++ field_text_in vertex (le32 bytes (from + 4 * i))
+unfolding flat_map fields_in
+fields_more vertex bytes from i =
+    let text : ℕ → List ℕ = field_text_in vertex in
+    let s : List ℕ = drop from bytes in
+    let here : le32 (drop (4 * i) s) 0 ≡ le32 bytes (from + 4 * i) = ap (λ l. le32 l 0) (drop-drop (4 * i) from bytes) ∙ le32_here (from + 4 * i) bytes in
+    ap (flat_map text) (fields_append i 1 s) ∙ flat_map_append text (fields_in i s) (fields_in 1 (drop (4 * i) s))
+    ∙ ap (λ l. flat_map text (fields_in i s) ++ l) (append-nil (text (le32 (drop (4 * i) s) 0)) ∙ ap text here)

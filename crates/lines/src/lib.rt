@@ -5,14 +5,13 @@
 
 ghost use Rattle.std.specs.Prelude.{◌≡◌, ◌+◌, ◌*◌, ◌<◌, ◌≤◌, ◌^◌, length, take, drop, set};
 ghost use mathlib.Core.List.{flat_map};
-ghost use Rattle.lists.specs.Lists.{same};
 ghost use Rattle.rules.specs.Fields.{fields_in};
 ghost use Rattle.rules.specs.Listing.{decimal, word_of, line_of, refusal_line, listing_of};
 ghost use Rattle.fields.specs.Wrote.{Wrote};
 ghost use Rattle.rules.specs.Rows.{row_text};
 ghost use Rattle.lines.specs.Text.{field_text_in, plain_of, record_at, records_in, recorded, rows_in, joining_rows, stage_rows, stage_text, fixed_of, counted_of, stage_name, stage_named};
 
-use fields::{UNSET, half, word};
+use fields::{UNSET, half, put_entry, word};
 use rules::{Refusal, Stage};
 
 // BYTES AND NUMBERS
@@ -21,59 +20,37 @@ use rules::{Refusal, Stage};
 pub fn front(page: &[u8], count: usize) -> &[u8]
     ensures { result.now ≡ take count page.now }
 {
-    if count < page.len() {
-        return &page[..count];
-    }
-    page
+    &page[..count.min(page.len())]
 }
 
 // The bytes from a place on.
 pub fn back(bytes: &[u8], from: usize) -> &[u8]
     ensures { result.now ≡ drop from bytes.now }
 {
-    if from < bytes.len() {
-        return &bytes[from..];
-    }
-    &bytes[0..0]
+    &bytes[from.min(bytes.len())..]
 }
 
-// Whether two texts are the same.
-pub fn is_same(a: &[u8], b: &[u8]) -> bool
-    ensures { result ≡ same a.now b.now }
-{
-    a == b
-}
-
-fn put_byte(page: &mut [u8], at: usize, b: u8)
-    ensures { page.new ≡ set page.old at b }
-{
-    if at < page.len() {
-        page[at] = b;
-    }
-}
-
-// A text at a place; gives the place after it.
+// A text at a place; gives the place after it. Byte by byte: a copy would first need the part that has room.
+#[tactic(auto, using(crate::specs::Writing::text_more))]
 pub fn put_text(page: &mut [u8], at: usize, text: &[u8]) -> usize
     requires { at + length text.now < 2 ^ 60 }
     ensures { Wrote page.old at text.now page.new result }
 {
-    let mut i: usize = 0;
-    while i < text.len() {
-        put_byte(page, at + i, text[i]);
-        i += 1;
+    for (i, b) in text.iter().enumerate() {
+        put_entry(page, at + i, *b);
     }
     at + text.len()
 }
 
-// The digits of a number at the end of twenty bytes; gives the place of the first.
+// The digits of a number at the end of twenty bytes; gives the place of the first. By hand: the definition is stated by
+// digits, and `write!` says of its text nothing that a clause could use.
+#[tactic(auto, using(crate::specs::Writing::spelled_start, crate::specs::Writing::spelled_last, crate::specs::Writing::spelled_on, crate::specs::Writing::spelled_end))]
 fn spell(v: usize, digits: &mut [u8]) -> usize
     requires { length digits.old ≡ 20 }
     ensures { (result ≤ 20) × (drop result digits.new ≡ decimal v) }
 {
-    let mut i: usize = 20;
     let mut rest = v;
-    while 0 < i {
-        i -= 1;
+    for i in (0..20).rev() {
         digits[i] = (48 + rest % 10) as u8;
         if rest < 10 {
             return i;
@@ -84,6 +61,7 @@ fn spell(v: usize, digits: &mut [u8]) -> usize
 }
 
 // A number in decimal at a place; gives the place after it.
+#[tactic(auto, using(crate::specs::Writing::number_wrote))]
 pub fn put_number(page: &mut [u8], at: usize, v: usize) -> usize
     requires { at < 2 ^ 59 }
     ensures { Wrote page.old at (decimal v) page.new result }
@@ -98,16 +76,15 @@ fn put_field(page: &mut [u8], at: usize, v: usize, vertex: bool) -> usize
     requires { at < 2 ^ 58 }
     ensures { Wrote page.old at (field_text_in vertex v) page.new result }
 {
-    if vertex {
-        if v == UNSET {
-            return put_text(page, at, b" -");
-        }
+    if vertex && v == UNSET {
+        return put_text(page, at, b" -");
     }
     let p = put_text(page, at, b" ");
     put_number(page, p, v)
 }
 
 // The fields at a place of some bytes, so many.
+#[tactic(auto, using(crate::specs::Writing::fields_none, crate::specs::Writing::fields_short))]
 fn put_fields(
     page: &mut [u8],
     at: usize,
@@ -120,25 +97,22 @@ fn put_fields(
     ensures { Wrote page.old at (flat_map (field_text_in vertex) (fields_in n (drop from bytes.now))) page.new result }
 {
     let mut p = at;
-    let mut i: usize = 0;
-    while i < n {
+    for i in 0..n {
         p = put_field(page, p, word(bytes, from + 4 * i), vertex);
-        i += 1;
     }
     p
 }
 
 // THE LISTING OF A BODY
 
-// The name of a record.
+// The name of a record, by the number that its bytes have for its kind: a body may have any.
+#[tactic(auto, using(crate::specs::LineLaws::name_first, crate::specs::LineLaws::name_none), unfolding(rules::specs::Listing::word_of))]
 fn put_name(page: &mut [u8], at: usize, kind: usize) -> usize
     requires { at < 2 ^ 58 }
     ensures { Wrote page.old at (word_of kind) page.new result }
 {
-    if kind <= 21 {
-        return put_text(page, at, b"body");
-    }
     match kind {
+        0..=21 => put_text(page, at, b"body"),
         22 => put_text(page, at, b"vertex"),
         23 => put_text(page, at, b"edge"),
         24 => put_text(page, at, b"face"),
@@ -151,19 +125,20 @@ fn put_name(page: &mut [u8], at: usize, kind: usize) -> usize
     }
 }
 
-// How many of a record's fields are no vertices: of an edge's the first two.
+// How many fields of a record of a kind are no vertices: of an edge's the first two. The kind is the number that the bytes
+// have, as in `put_name`.
+#[tactic(auto, unfolding(crate::specs::Text::plain_of))]
 fn plain_fields(kind: usize, n: usize) -> usize
     ensures { (result ≡ plain_of kind n) × (result ≤ n) }
 {
     if kind == 23 {
-        if 2 < n {
-            return 2;
-        }
+        return n.min(2);
     }
     n
 }
 
 // The line of the record at a byte of the body.
+#[tactic(auto, using(crate::specs::LineLaws::name_short, crate::specs::Writing::fields_short))]
 fn put_line(page: &mut [u8], at: usize, body: &[u8], from: usize) -> usize
     requires { (at < 2 ^ 40) × (from < 4294967296) }
     ensures { Wrote page.old at (line_of (record_at (drop from body.now))) page.new result }
@@ -177,7 +152,7 @@ fn put_line(page: &mut [u8], at: usize, body: &[u8], from: usize) -> usize
     put_text(page, r, b"\n")
 }
 
-// A line for each record of a body.
+// A line for each record of a body. Where the next record begins is known only once this one's length is read.
 pub fn put_lines(page: &mut [u8], body: &[u8]) -> usize
     requires { length body.now < 4294967296 }
     ensures { Wrote page.old 0 (flat_map line_of (records_in body.now)) page.new result }
@@ -191,7 +166,7 @@ pub fn put_lines(page: &mut [u8], body: &[u8]) -> usize
     p
 }
 
-// The line of a refusal.
+// The line of a refusal, by its number: callers of the C interface have no other.
 pub fn put_refusal(page: &mut [u8], number: usize, place: usize) -> usize
     ensures { Wrote page.old 0 (refusal_line number place) page.new result }
 {
@@ -202,15 +177,13 @@ pub fn put_refusal(page: &mut [u8], number: usize, place: usize) -> usize
 }
 
 // The listing of sewing's answer, with the body at the start of the output.
+#[tactic(auto, using(crate::specs::LineLaws::part_small, crate::specs::LineLaws::listed_body, crate::specs::LineLaws::listed_refusal))]
 pub fn put_listing(page: &mut [u8], out: &[u8], ending: Result<usize, Refusal>) -> usize
     requires { length out.now < 4294967296 }
     ensures { Wrote page.old 0 (listing_of (recorded out.now ending)) page.new result }
 {
     match ending {
-        Ok(n) => {
-            let body = front(out, n);
-            put_lines(page, body)
-        }
+        Ok(n) => put_lines(page, front(out, n)),
         Err(refusal) => put_refusal(page, refusal.fault.number(), refusal.place),
     }
 }
@@ -218,6 +191,7 @@ pub fn put_listing(page: &mut [u8], out: &[u8], ending: Result<usize, Refusal>) 
 // THE ROWS OF A STAGE
 
 // A row of so many fields, at least one, with a blank between two.
+#[tactic(auto, using(crate::specs::Writing::decimal_short, crate::specs::Writing::fields_short))]
 fn put_row(page: &mut [u8], at: usize, bytes: &[u8], from: usize, n: usize) -> usize
     requires { (at < 2 ^ 44) × (from < 4294967296) × (0 < n) × (n < 2 ^ 40) }
     ensures { Wrote page.old at (row_text (fields_in n (drop from bytes.now))) page.new result }
@@ -227,7 +201,9 @@ fn put_row(page: &mut [u8], at: usize, bytes: &[u8], from: usize, n: usize) -> u
     put_text(page, q, b"\n")
 }
 
-// The rows of some bytes: each has `fixed` fields, and `counted` more for each that its second field counts.
+// The rows of some bytes: each has `fixed` fields, and `counted` more for each that its second field
+// counts. Where the next row begins is known only once this one's second field is read.
+#[tactic(auto, using(crate::specs::LineLaws::counted_small))]
 fn put_rows(page: &mut [u8], at: usize, bytes: &[u8], fixed: usize, counted: usize) -> usize
     requires { (at < 2 ^ 43) × (length bytes.now < 4294967296) × (0 < fixed) × (fixed ≤ 7) × (counted ≤ 2) }
     ensures { Wrote page.old at (flat_map row_text (rows_in fixed counted bytes.now)) page.new result × (result < at + 2 ^ 40) }
@@ -257,31 +233,22 @@ fn put_joining(page: &mut [u8], bytes: &[u8]) -> usize
     put_rows(page, q, loops, 2, 2)
 }
 
-// How many fields a row of a stage has at least.
-#[tactic(auto, unfolding(crate::specs::Text::fixed_of))]
-fn fixed_fields(stage: Stage) -> usize
-    ensures { (result ≡ fixed_of stage) × (0 < result) × (result ≤ 7) }
+// How many fields a row of a stage has at least, and how many more for each that its second field counts.
+#[tactic(auto, unfolding(crate::specs::Text::fixed_of, crate::specs::Text::counted_of))]
+fn row_fields(stage: Stage) -> (usize, usize)
+    ensures { (result.0 ≡ fixed_of stage) × (result.1 ≡ counted_of stage) × (0 < result.0) × (result.0 ≤ 7) × (result.1 ≤ 2) }
 {
     match stage {
-        Stage::Read => 4,
-        Stage::Pair => 1,
-        Stage::Walk | Stage::Fans => 3,
-        _ => 2,
-    }
-}
-
-// Whether the second field of a row counts further ones: 1 if so, else 0.
-#[tactic(auto, unfolding(crate::specs::Text::counted_of))]
-fn counted_fields(stage: Stage) -> usize
-    ensures { (result ≡ counted_of stage) × (result ≤ 2) }
-{
-    match stage {
-        Stage::Loops | Stage::Shells | Stage::Lumps => 1,
-        _ => 0,
+        Stage::Read => (4, 0),
+        Stage::Pair => (1, 0),
+        Stage::Walk | Stage::Fans => (3, 0),
+        Stage::Loops | Stage::Shells | Stage::Lumps => (2, 1),
+        _ => (2, 0),
     }
 }
 
 // A line for each row of a stage.
+#[tactic(auto, using(crate::specs::LineLaws::stage_edges, crate::specs::LineLaws::stage_other))]
 fn put_stage_rows(page: &mut [u8], stage: Stage, bytes: &[u8]) -> usize
     requires { length bytes.now < 4294967296 }
     ensures { Wrote page.old 0 (flat_map row_text (stage_rows stage bytes.now)) page.new result }
@@ -289,23 +256,20 @@ fn put_stage_rows(page: &mut [u8], stage: Stage, bytes: &[u8]) -> usize
     match stage {
         Stage::Edges | Stage::Joining => put_joining(page, bytes),
         _ => {
-            let fixed = fixed_fields(stage);
-            let counted = counted_fields(stage);
+            let (fixed, counted) = row_fields(stage);
             put_rows(page, 0, bytes, fixed, counted)
         }
     }
 }
 
 // The lines of a stage's answer, with its fields at the start of the output.
+#[tactic(auto, using(crate::specs::LineLaws::part_small, crate::specs::LineLaws::staged_rows_lem, crate::specs::LineLaws::staged_refusal))]
 pub fn put_stage(page: &mut [u8], stage: Stage, out: &[u8], ending: Result<usize, Refusal>) -> usize
     requires { length out.now < 4294967296 }
     ensures { Wrote page.old 0 (stage_text stage out.now ending) page.new result }
 {
     match ending {
-        Ok(n) => {
-            let bytes = front(out, n);
-            put_stage_rows(page, stage, bytes)
-        }
+        Ok(n) => put_stage_rows(page, stage, front(out, n)),
         Err(refusal) => put_refusal(page, refusal.fault.number(), refusal.place),
     }
 }
@@ -346,13 +310,12 @@ const STAGES: [Stage; 11] = [
 ];
 
 // The stage of a name, if there is one.
+#[tactic(auto, using(crate::specs::LineLaws::pointwise_same), unfolding(crate::specs::Text::stage_named))]
 pub fn stage_named(name: &[u8]) -> Option<Stage>
     ensures { result ≡ stage_named name.now }
 {
-    for stage in STAGES {
-        if is_same(name, stage_name(stage)) {
-            return Some(stage);
-        }
-    }
-    None
+    STAGES
+        .iter()
+        .copied()
+        .find(|stage| name == stage_name(*stage))
 }

@@ -1,40 +1,48 @@
 -- Two slots of a loop made one: that loop has one item for two and starts with it, and every other loop stays.
-use Prim.Native.Nat.{ℕ, suc, ◌+◌, ◌*◌, ◌-◌, ◌≤◌, ◌<◌}
+use Prim.Native.Nat.{ℕ, suc, ◌+◌, ◌-◌, ◌≤◌, ◌<◌}
 use native.Mathlib.Omega.{arith}
-use Rattle.std.proofs.Math.Decide.{ℕ_discrete}
+use Rattle.std.proofs.Math.Decide.{ℕ_discrete, dec_lt}
 use Rattle.std.specs.Prelude.{◌≡◌, List, ◌∷◌, ◌++◌, length, take, drop, ltb}
 use Rattle.std.proofs.Math.Path.{refl, sym, ap, subst}
-use Rattle.std.proofs.Common.{◌∙◌, ⊎_elim, length-append, take-append-drop, lt-ltb, le-ltb}
+use Rattle.std.proofs.Common.{◌∙◌, ⊎_elim, length-append, length-take, take-append-drop, lt-ltb, le-ltb}
 use mathlib.Core.List.Memᴰ
 use Rattle.std.proofs.Math.Bool.{cond}
-use Rattle.std.proofs.Math.ListN.{get_or, set, length-set}
-use Rattle.std.proofs.Math.Seq.{get_or-set_same, get_or-set_other}
+use Rattle.std.proofs.Math.ListN.{get_or, set, length-set, get_or-eq_default}
+use Rattle.std.proofs.Math.Seq.{take-set-lt, get_or-set_same, get_or-set_other}
 use borrow.Rule.Slice.PartMut.{put_mid}
+use Rattle.fields.specs.declared.Span.{Span}
+use Rattle.fields.specs.Spans.{no_span, span_at}
 use Rattle.lists.specs.Stretches.{stretch, part_get, part_set}
 use Rattle.lists.specs.Lists.{◌∈◌, Nodup}
 use Rattle.lists.specs.Members.{in_map, map_same}
 use Rattle.lists.specs.TurnedLists.{turn_in}
 use Rattle.edges.specs.Table.{Laid}
-use Rattle.links.specs.Tables.{Links, links_of, follow, IsLoop, own_end, slots_at, codes_at, ring_at, Chain, Own, Held, Stands, Linked, Turned, fused_in, fused_at, FusableIn, Fusable}
+use Rattle.links.specs.Tables.{LinkTables, links_of, follow, IsLoop, own_end, slots_at, codes_at, ring_at, Chain, Own, Held, Stands, Linked, Turned, shorter, fused_in, fused_at, FusableIn, Fusable}
 use Rattle.links.specs.Chains.{chain_follow, chain_turned, chain_other, nodup_turned, map_turned, Front, front}
 
 -- a loop that stands in some slots has no others
-pub stands_in : (t : Links) (k : ℕ) (l : List ℕ) → Stands t k l → slots_at t k ≡ l
+pub stands_in : (t : LinkTables) (k : ℕ) (l : List ℕ) → Stands t k l → slots_at t k ≡ l
 stands_in t k l s = ap (follow t.nexts (get_or t.heads k 0)) (sym s.size) ∙ chain_follow t.nexts (get_or t.heads k 0) (get_or t.heads k 0) l s.closed
 
 -- WHAT THE CODE FINDS AND STORES
 
-pub own_next : (stretches : List ℕ) (size k e : ℕ) → 2 * k + 3 < length stretches → e ≡ get_or stretches (2 * k + 2) 0 → e ≡ own_end stretches size k
+pub own_next : (stretches : List Span) (size k : ℕ) → k + 1 < length stretches → own_end stretches size k ≡ (span_at stretches (k + 1)).start
 unfolding own_end
-own_next stretches size k e h ee = ee ∙ sym (ap (λ c. cond c (get_or stretches (2 * k + 2) 0) size) (lt-ltb (2 * k + 3) (length stretches) h))
+own_next stretches size k h = ap (λ c. cond c (span_at stretches (k + 1)).start size) (lt-ltb (k + 1) (length stretches) h)
 
-pub own_last : (stretches : List ℕ) (size k : ℕ) → length stretches ≤ 2 * k + 3 → size ≡ own_end stretches size k
+pub own_last : (stretches : List Span) (size k : ℕ) → length stretches ≤ k + 1 → own_end stretches size k ≡ size
 unfolding own_end
-own_last stretches size k h = sym (ap (λ c. cond c (get_or stretches (2 * k + 2) 0) size) (le-ltb (2 * k + 3) (length stretches) h))
+own_last stretches size k h = ap (λ c. cond c (span_at stretches (k + 1)).start size) (le-ltb (k + 1) (length stretches) h)
 
 -- the slot of the item y, its loop, and where the loop's own stretch starts and ends, as the code finds them
-module _ (t : Links) (y p k start bound : ℕ) (can : Fusable t y) (ep : p ≡ get_or t.spots y 0) (ek : k ≡ get_or t.owners p 0) (es : start ≡ get_or t.stretches (2 * k) 0)
+module _ (t : LinkTables) (y p k bound : ℕ) (s : Span) (can : Fusable t y) (ep : p ≡ get_or t.spots y 0) (ek : k ≡ get_or t.owners p 0) (es : s ≡ span_at t.stretches k)
     (eb : bound ≡ own_end t.stretches (length t.codes) k) where
+  abbrev start : ℕ
+  start = s.start
+
+  start_is : start ≡ (span_at t.stretches k).start
+  start_is = ap (λ (z : Span). z.start) es
+
   here_can : FusableIn t k p
   here_can = subst (λ z. FusableIn t z p) (sym ek) (subst (λ z. FusableIn t (get_or t.owners z 0) z) (sym ep) can)
 
@@ -49,21 +57,32 @@ module _ (t : Links) (y p k start bound : ℕ) (can : Fusable t y) (ep : p ≡ g
   lent_head = omega (arith, here_can.held.room)
 
   slot_after : start ≤ p
-  slot_after = omega (arith, here_can.own.from_start)
+  slot_after = omega (arith, start_is, here_can.own.from_start)
 
   next_is : get_or (stretch t.nexts start bound) (p - start) 0 ≡ get_or t.nexts p 0
   next_is = part_get t.nexts start bound p 0 slot_after (omega (arith, here_can.own.to_end))
 
-  -- what stands in the tables when the lent parts are back
-  pub fuse_is : (x e : ℕ) (codes nexts head spots stretches : List ℕ) → e ≡ get_or t.stretches (2 * k + 1) 0 → Turned (stretch t.codes start bound) (stretch t.nexts start bound)
+  -- the loop is one of the loops
+  is_loop : k < length t.stretches
+  is_loop =
+      elim (dec_lt k (length t.stretches)) [
+        | yes h ↦ h
+        | no h ↦ absurd (omega (arith, here_can.ending, ap (λ (z : Span). z.end) (get_or-eq_default t.stretches no_span {n = k} (omega (arith, h)))))
+      ]
+
+  -- what stands in the tables when the lent parts are back, where the stretches are the first of a table
+  pub fuse_is : (x n : ℕ) (codes nexts head spots : List ℕ) (table stretches : List Span) → t.stretches ≡ take n table → Turned (stretch t.codes start bound) (stretch t.nexts start bound)
       (stretch t.heads k (k + 1)) start p x codes nexts head
-      → spots ≡ set t.spots x p → stretches ≡ set t.stretches (2 * k + 1) (e - 1)
-      → links_of (put_mid start (bound - start) t.codes codes) (put_mid start (bound - start) t.nexts nexts) (put_mid k ((k + 1) - k) t.heads head) t.owners spots stretches ≡ fused_at t y x
+      → spots ≡ set t.spots x p → stretches ≡ set table k (shorter s)
+      → links_of (put_mid start (bound - start) t.codes codes) (put_mid start (bound - start) t.nexts nexts) (put_mid k ((k + 1) - k) t.heads head) t.owners spots (take n stretches) ≡ fused_at t y x
   unfolding fused_in
-  fuse_is x e codes nexts head spots stretches ee w es' et =
+  fuse_is x n codes nexts head spots table stretches first w es' et =
+      let below : k < n = omega (arith, is_loop, ap length first, length-take n table) in
+      let shorter_now : take n stretches ≡ set t.stretches k (shorter (span_at t.stretches k)) =
+      ap (take n) et ∙ take-set-lt n table k (shorter s) below ∙ (λ i. set (sym first i) k (shorter (es i))) in
       let after : get_or (stretch t.nexts start bound) (get_or (stretch t.nexts start bound) (p - start) 0 - start) 0 ≡ get_or t.nexts (get_or t.nexts p 0) 0 =
       ap (λ z. get_or (stretch t.nexts start bound) (z - start) 0) next_is
-      ∙ part_get t.nexts start bound (get_or t.nexts p 0) 0 (omega (arith, here_can.next_own.from_start)) (omega (arith, here_can.next_own.to_end)) in
+      ∙ part_get t.nexts start bound (get_or t.nexts p 0) 0 (omega (arith, start_is, here_can.next_own.from_start)) (omega (arith, here_can.next_own.to_end)) in
       let ec : put_mid start (bound - start) t.codes codes ≡ set t.codes p x =
       part_set t.codes codes start bound p x slot_after (omega (arith, here_can.own.to_end)) lent_codes w.items in
       let en : put_mid start (bound - start) t.nexts nexts ≡ set t.nexts p (get_or t.nexts (get_or t.nexts p 0) 0) =
@@ -72,11 +91,11 @@ module _ (t : Links) (y p k start bound : ℕ) (can : Fusable t y) (ep : p ≡ g
       let z : 0 ≡ k - k = omega arith in
       let eh : put_mid k ((k + 1) - k) t.heads head ≡ set t.heads k p =
       part_set t.heads head k (k + 1) k p (omega arith) (omega arith) lent_head (w.front ∙ ap (λ i. set (stretch t.heads k (k + 1)) i p) z) in
-      (λ i. links_of (ec i) (en i) (eh i) t.owners (es' i) ((et ∙ ap (λ z. set t.stretches (2 * k + 1) (z - 1)) ee) i))
+      (λ i. links_of (ec i) (en i) (eh i) t.owners (es' i) (shorter_now i))
       ∙ (λ i. fused_in t ((ek ∙ ap (λ z. get_or t.owners z 0) ep) i) (ep i) x)
 
 -- loop k with one item for the first two, and every other loop as it was
-pub record Fused (t t' : Links) (k item : ℕ) (rest : List ℕ) : Type 0 where
+pub record Fused (t t' : LinkTables) (k item : ℕ) (rest : List ℕ) : Type 0 where
   pub linked : Linked t'
   pub own : ring_at t' k ≡ item ∷ rest
   pub others : (j : ℕ) → IsLoop t.stretches j → (j ≡ k → ⊥) → ring_at t' j ≡ ring_at t j
@@ -84,7 +103,7 @@ pub record Fused (t t' : Links) (k item : ℕ) (rest : List ℕ) : Type 0 where
   pub room : length t'.spots ≡ length t.spots
   pub laid : (items : List ℕ) → Laid t.stretches items → Laid t'.stretches items
 
-module _ (t : Links) (linked : Linked t) (k : ℕ) (is : IsLoop t.stretches k) (i x y : ℕ) (rest : List ℕ) (shape : drop i (ring_at t k) ++ take i (ring_at t k) ≡ x ∷ y ∷ rest) where
+module _ (t : LinkTables) (linked : Linked t) (k : ℕ) (is : IsLoop t.stretches k) (i x y : ℕ) (rest : List ℕ) (shape : drop i (ring_at t k) ++ take i (ring_at t k) ≡ x ∷ y ∷ rest) where
   here : Stands t k (slots_at t k)
   here = linked k is
 
@@ -111,7 +130,7 @@ module _ (t : Links) (linked : Linked t) (k : ℕ) (is : IsLoop t.stretches k) (
   pub owner_is : get_or t.owners (get_or t.spots x 0) 0 ≡ k
   owner_is = ap (λ s. get_or t.owners s 0) spot_is ∙ here.owned place.first first_in
 
-  two_there : get_or t.stretches (2 * k) 0 + suc (suc (length place.others)) ≡ get_or t.stretches (2 * k + 1) 0
+  two_there : (span_at t.stretches k).start + suc (suc (length place.others)) ≡ (span_at t.stretches k).end
   two_there =
       let l : List ℕ = slots_at t k in
       let n = ap length place.shape in
@@ -120,7 +139,7 @@ module _ (t : Links) (linked : Linked t) (k : ℕ) (is : IsLoop t.stretches k) (
       omega (arith, length-append (drop i l) (take i l), length-append (take i l) (drop i l))
 
   -- the loop has two items
-  pub two_items : get_or t.stretches (2 * k) 0 + 2 ≤ get_or t.stretches (2 * k + 1) 0
+  pub two_items : (span_at t.stretches k).start + 2 ≤ (span_at t.stretches k).end
   two_items = omega (arith, two_there)
 
   -- the slot of the first item leads to that of the second
@@ -143,20 +162,29 @@ module _ (t : Links) (linked : Linked t) (k : ℕ) (is : IsLoop t.stretches k) (
       }
 
   module _ (item : ℕ) (room : item < length t.spots) (fresh : (j : ℕ) → IsLoop t.stretches j → item ∈ ring_at t j → ⊥) where
-    abbrev after : Links
+    abbrev after : LinkTables
     after = fused_in t k place.first item
 
-    end_now : get_or after.stretches (2 * k + 1) 0 ≡ get_or t.stretches (2 * k + 1) 0 - 1
+    stretch_now : span_at after.stretches k ≡ shorter (span_at t.stretches k)
     unfolding fused_in
-    end_now = get_or-set_same t.stretches (2 * k + 1) (get_or t.stretches (2 * k + 1) 0 - 1) 0 is
+    stretch_now = get_or-set_same t.stretches k (shorter (span_at t.stretches k)) no_span is
 
-    end_other : (j : ℕ) → (j ≡ k → ⊥) → get_or after.stretches (2 * j + 1) 0 ≡ get_or t.stretches (2 * j + 1) 0
+    stretch_other : (j : ℕ) → (j ≡ k → ⊥) → span_at after.stretches j ≡ span_at t.stretches j
     unfolding fused_in
-    end_other j n = get_or-set_other t.stretches (2 * k + 1) (2 * j + 1) (get_or t.stretches (2 * k + 1) 0 - 1) 0 (λ (e : 2 * j + 1 ≡ 2 * k + 1). n (omega arith))
+    stretch_other j n = get_or-set_other t.stretches k j (shorter (span_at t.stretches k)) no_span n
 
-    start_of_lem : (j : ℕ) → get_or after.stretches (2 * j) 0 ≡ get_or t.stretches (2 * j) 0
-    unfolding fused_in
-    start_of_lem j = get_or-set_other t.stretches (2 * k + 1) (2 * j) (get_or t.stretches (2 * k + 1) 0 - 1) 0 (λ (e : 2 * j ≡ 2 * k + 1). omega arith)
+    start_of_lem : (j : ℕ) → (span_at after.stretches j).start ≡ (span_at t.stretches j).start
+    start_of_lem j =
+        elim (ℕ_discrete j k) [
+          | yes e ↦ ap (λ z. (span_at after.stretches z).start) e ∙ ap (λ (s : Span). s.start) stretch_now ∙ sym (ap (λ z. (span_at t.stretches z).start) e)
+          | no n ↦ ap (λ (s : Span). s.start) (stretch_other j n)
+        ]
+
+    end_now : (span_at after.stretches k).end ≡ (span_at t.stretches k).end - 1
+    end_now = ap (λ (s : Span). s.end) stretch_now
+
+    end_other : (j : ℕ) → (j ≡ k → ⊥) → (span_at after.stretches j).end ≡ (span_at t.stretches j).end
+    end_other j n = ap (λ (s : Span). s.end) (stretch_other j n)
 
     head_now : get_or after.heads k 0 ≡ place.first
     unfolding fused_in
@@ -190,9 +218,7 @@ module _ (t : Links) (linked : Linked t) (k : ℕ) (is : IsLoop t.stretches k) (
     ends_kept : (j : ℕ) → own_end after.stretches (length after.codes) j ≡ own_end t.stretches (length t.codes) j
     unfolding fused_in own_end
     ends_kept j =
-        let e : ℕ = get_or t.stretches (2 * k + 1) 0 - 1 in
-        (λ i. cond (ltb (2 * j + 3) (length-set t.stretches (2 * k + 1) e i)) (get_or-set_other t.stretches (2 * k + 1) (2 * j + 2) e 0 (λ (z : 2 * j + 2 ≡ 2 * k + 1). omega arith) i)
-        (length-set t.codes place.first item i))
+        λ i. cond (ltb (j + 1) (length-set t.stretches k (shorter (span_at t.stretches k)) i)) (start_of_lem (j + 1) i) (length-set t.codes place.first item i)
 
     own_kept : (j s : ℕ) → Own t j s → Own after j s
     own_kept j s w = record { from_start = omega (arith, w.from_start, start_of_lem j); to_end = omega (arith, w.to_end, ends_kept j) }
@@ -265,7 +291,7 @@ module _ (t : Links) (linked : Linked t) (k : ℕ) (is : IsLoop t.stretches k) (
 
     loops_kept : length after.stretches ≡ length t.stretches
     unfolding fused_in
-    loops_kept = length-set t.stretches (2 * k + 1) (get_or t.stretches (2 * k + 1) 0 - 1)
+    loops_kept = length-set t.stretches k (shorter (span_at t.stretches k))
 
     spots_kept : length after.spots ≡ length t.spots
     unfolding fused_in
@@ -283,19 +309,17 @@ module _ (t : Links) (linked : Linked t) (k : ℕ) (is : IsLoop t.stretches k) (
     laid_now items l = record {
       order = λ j q.
           elim (ℕ_discrete j k) [
-            | yes e ↦ omega (arith, end_now, start_of_lem j, two_there, ap (λ z. get_or after.stretches (2 * z + 1) 0) e, ap (λ z. get_or t.stretches (2 * z) 0) e)
+            | yes e ↦ omega (arith, end_now, start_of_lem j, two_there, ap (λ z. (span_at after.stretches z).end) e, ap (λ z. (span_at t.stretches z).start) e)
             | no n ↦ omega (arith, end_other j n, start_of_lem j, l.order j (omega (arith, loops_kept)))
           ];
       inside = λ j q. omega (arith, falls j, l.inside j (omega (arith, loops_kept)));
-      apart = λ j q.
-          let z : 2 * (j + 1) ≡ 2 * j + 2 = omega arith in
-          omega (arith, falls j, start_of_lem (j + 1), l.apart j (omega (arith, loops_kept)), ap (λ p. get_or after.stretches p 0) z, ap (λ p. get_or t.stretches p 0) z);
+      apart = λ j q. omega (arith, falls j, start_of_lem (j + 1), l.apart j (omega (arith, loops_kept)));
     }
       where
-        falls : (j : ℕ) → get_or after.stretches (2 * j + 1) 0 ≤ get_or t.stretches (2 * j + 1) 0
+        falls : (j : ℕ) → (span_at after.stretches j).end ≤ (span_at t.stretches j).end
         falls j =
             elim (ℕ_discrete j k) [
-              | yes e ↦ omega (arith, end_now, ap (λ z. get_or after.stretches (2 * z + 1) 0) e, ap (λ z. get_or t.stretches (2 * z + 1) 0) e)
+              | yes e ↦ omega (arith, end_now, ap (λ z. (span_at after.stretches z).end) e, ap (λ z. (span_at t.stretches z).end) e)
               | no n ↦ omega (arith, end_other j n)
             ]
 

@@ -26,13 +26,13 @@ use Rattle.theorems.specs.Places.{in_sense, in_item, out_item, times_of, Found}
 use Rattle.theorems.proofs.Places.{place_cases, found_once}
 use Rattle.theorems.specs.JoinLoops.{joined_items, new_item}
 use Rattle.theorems.proofs.JoinLoops.{joined_found, joined_missed}
-use Rattle.links.specs.Tables.{Links, IsLoop, ring_at, loop_of, Linked, fused_at, Fusable}
+use Rattle.links.specs.Tables.{LinkTables, IsLoop, ring_at, loop_of, Linked, fused_at, Fusable}
 use Rattle.links.specs.Chains.{map_turned, Front, front}
 use Rattle.links.specs.Fuse.{owner_is, can_fuse, Fused, fused}
 
 -- all loops
-abbrev pub loops_of : Links → List (List Item)
-loops_of t = map (loop_of t) (below (length t.stretches / 2))
+abbrev pub loops_of : LinkTables → List (List Item)
+loops_of t = map (loop_of t) (below (length t.stretches))
 
 -- the number of the item of edge a that ends at fan v
 unfoldable pub in_code : List EdgeData → ℕ → ℕ → ℕ
@@ -68,7 +68,7 @@ sum_there f (x ∷ l) h =
     ]
 
 -- the join of edges a and b at corner v: the loops are those of the rules
-pub record Joined (es : List EdgeData) (v a b : ℕ) (t t' : Links) : Type 0 where
+pub record Joined (es : List EdgeData) (v a b : ℕ) (t t' : LinkTables) : Type 0 where
   pub linked : Linked t'
   pub loops : (k : ℕ) → IsLoop t.stretches k → loop_of t' k ≡ joined_items es v a b (loop_of t k)
   pub count : length t'.stretches ≡ length t.stretches
@@ -76,7 +76,7 @@ pub record Joined (es : List EdgeData) (v a b : ℕ) (t t' : Links) : Type 0 whe
   pub laid : (items : List ℕ) → Laid t.stretches items → Laid t'.stretches items
 
 -- the item with number c stands in loop j, where turned to the front
-record At (t : Links) (j c : ℕ) (rest : List Item) : Type 0 where
+record At (t : LinkTables) (j c : ℕ) (rest : List Item) : Type 0 where
   is : IsLoop t.stretches j
   at : ℕ
   next : ℕ
@@ -84,17 +84,17 @@ record At (t : Links) (j c : ℕ) (rest : List Item) : Type 0 where
   shape : drop at (ring_at t j) ++ take at (ring_at t j) ≡ c ∷ next ∷ others
   are : map item_in others ≡ rest
 
-module _ (es : List EdgeData) (v a b : ℕ) (two : TwoEdges es v a b) (t : Links) (linked : Linked t) (sound : LoopsSound es (loops_of t)) (room : 2 * length es + 1 < length t.spots) where
+module _ (es : List EdgeData) (v a b : ℕ) (two : TwoEdges es v a b) (t : LinkTables) (linked : Linked t) (sound : LoopsSound es (loops_of t)) (room : 2 * length es + 1 < length t.spots) where
   sound_at : (j : ℕ) → IsLoop t.stretches j → LoopSound es (loop_of t j)
-  sound_at j q = loop_sound es (loops_of t) sound (loop_of t j) (in_map (loop_of t) (in_below (length t.stretches / 2) j (omega arith)))
+  sound_at j q = loop_sound es (loops_of t) sound (loop_of t j) (in_map (loop_of t) (in_below (length t.stretches) j (omega arith)))
 
   -- an item that ends at the corner stands in some loop
   somewhere : (c : ℕ) → ends_one v (edge_data_at es c) ≡ 1 → (j : ℕ) × IsLoop t.stretches j × (1 ≤ times_of (in_item es v c) (loop_of t j))
   somewhere c once =
       let one = sound.once c (in_item es v c).sense ∙ ap (λ h. cond {A = ℕ} h 1 0) (ends_active (edge_data_at es c) v (omega (arith, once))) in
       let r = sum_there (times_of (in_item es v c)) (loops_of t) (omega arith) in
-      let w = map_in (loop_of t) (below (length t.stretches / 2)) r.0 r.1 in
-      let q = below_in (length t.stretches / 2) w.0 w.1 in
+      let w = map_in (loop_of t) (below (length t.stretches)) r.0 r.1 in
+      let q = below_in (length t.stretches) w.0 w.1 in
       (w.0, omega arith, subst (λ l. 1 ≤ times_of (in_item es v c) l) w.2 r.2)
 
   first_loop : (j : ℕ) × IsLoop t.stretches j × Found es v a b (loop_of t j) (in_item es v a) (out_item es v b)
@@ -157,7 +157,7 @@ module _ (es : List EdgeData) (v a b : ℕ) (two : TwoEdges es v a b) (t : Links
       let other = (found_once es v a b b a (loop_of t kb) (sound_at kb second_loop.1) second_loop.2).0 in
       omega (arith, ap (λ j. times_of (in_item es v b) (loop_of t j)) e)
 
-  abbrev once : Links
+  abbrev once : LinkTables
   once = fused_at t (in_code es v a) (2 * length es)
 
   first_fused : Fused t once ka (2 * length es) first_at.others
@@ -190,7 +190,7 @@ module _ (es : List EdgeData) (v a b : ℕ) (two : TwoEdges es v a b) (t : Links
         | no p ↦ absent x e j q₀ (subst (λ l. x ∈ l) (first_fused.others j q₀ p) m)
       ]
 
-  abbrev twice : Links
+  abbrev twice : LinkTables
   twice = fused_at once (in_code es v b) (2 * length es + 1)
 
   second_fused : Fused once twice kb (2 * length es + 1) second_at.others
@@ -253,7 +253,7 @@ module _ (es : List EdgeData) (v a b : ℕ) (two : TwoEdges es v a b) (t : Links
   second_can = can_fuse once first_fused.linked kb still_is second_at.at (in_code es v b) second_at.next second_at.others still_at
 
 -- what a join needs: sound loops, the two edges that end at the corner, and room for the new edge's items
-pub record Joinable (es : List EdgeData) (v a b new : ℕ) (t : Links) : Type 0 where
+pub record Joinable (es : List EdgeData) (v a b new : ℕ) (t : LinkTables) : Type 0 where
   pub linked : Linked t
   pub sound : LoopsSound es (loops_of t)
   pub two : TwoEdges es v a b
@@ -261,19 +261,19 @@ pub record Joinable (es : List EdgeData) (v a b new : ℕ) (t : Links) : Type 0 
   pub room : 2 * new + 1 < length t.spots
   pub few : new < 2147483647
 
-module _ (es : List EdgeData) (v a b new : ℕ) (t : Links) (j : Joinable es v a b new t) (x y : ℕ) (ex : x ≡ in_code es v a) (ey : y ≡ in_code es v b) where
+module _ (es : List EdgeData) (v a b new : ℕ) (t : LinkTables) (j : Joinable es v a b new t) (x y : ℕ) (ex : x ≡ in_code es v a) (ey : y ≡ in_code es v b) where
   rooms : 2 * length es + 1 < length t.spots
   rooms = omega (arith, j.room, j.number)
 
   pub fuse_first : Fusable t x
   fuse_first = subst (Fusable t) (sym ex) (first_can es v a b j.two t j.linked j.sound rooms)
 
-  module _ (u : Links) (eu : u ≡ fused_at t x (2 * new)) where
+  module _ (u : LinkTables) (eu : u ≡ fused_at t x (2 * new)) where
     once_is : u ≡ fused_at t (in_code es v a) (2 * length es)
     once_is = eu ∙ (λ i. fused_at t (ex i) (2 * j.number i))
 
     pub fuse_second : Fusable u y
-    fuse_second = subst (λ (s : Links). Fusable s y) (sym once_is) (subst (Fusable (fused_at t (in_code es v a) (2 * length es))) (sym ey) (second_can es v a b j.two t j.linked j.sound rooms))
+    fuse_second = subst (λ (s : LinkTables). Fusable s y) (sym once_is) (subst (Fusable (fused_at t (in_code es v a) (2 * length es))) (sym ey) (second_can es v a b j.two t j.linked j.sound rooms))
 
-    pub join_is : (w : Links) → w ≡ fused_at u y (2 * new + 1) → Joined es v a b t w
+    pub join_is : (w : LinkTables) → w ≡ fused_at u y (2 * new + 1) → Joined es v a b t w
     join_is w ew = subst (Joined es v a b t) (sym (ew ∙ (λ i. fused_at (once_is i) (ey i) (2 * j.number i + 1)))) (joined_twice es v a b j.two t j.linked j.sound rooms)

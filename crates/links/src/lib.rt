@@ -1,18 +1,52 @@
 // Loops as linked slots: each slot holds an item and leads to the next slot of its loop, so that a join rewrites two slots
-// however long the loops are. `list` is the item list while edges are joined, `nexts` its links; a loop's slots never leave
-// its own stretch of either, and a join is lent that stretch.
+// however long the loops are. A loop's slots never leave its own stretch of the item list and of the links, and a join is
+// lent that stretch.
 
 #![tactic(auto)]
 
-ghost use Rattle.std.specs.Prelude.{◌≡◌, ◌+◌, ◌*◌, ◌-◌, ◌≤◌, ◌<◌, length, get_or};
-ghost use Rattle.edges.specs.Table.{rows_in, Laid};
-ghost use Rattle.links.specs.Tables.{links_of, IsLoop, own_end, follow, codes_at, Turned, fused_at, Fusable};
+ghost use Rattle.std.specs.Prelude.{◌≡◌, ◌+◌, ◌-◌, ◌≤◌, ◌<◌, ◌++◌, drop, length, get_or};
+ghost use Rattle.edges.specs.Table.{Laid};
+ghost use Rattle.fields.specs.Spans.{span_at};
+ghost use Rattle.links.specs.Tables.{IsLoop, own_end, follow, codes_at, Turned, fused_at, Fusable};
 ghost use Rattle.links.specs.JoinLinks.{in_code, Joinable, Joined};
-ghost use Rattle.links.specs.Lay.{laid_out};
+ghost use Rattle.links.specs.Lay.{laid_by};
 ghost use Rattle.links.specs.Link.{next_slot, Linkable, Linking, LinkedLoops};
 
 use edges::edge_start;
-use fields::{get, put};
+use fields::{Span, get, put, put_entry, span_at};
+use rules::EdgeData;
+use std::marker::Model;
+
+// The item list while edges are joined and the slot after each slot; where each loop starts, the loop of each slot, the slot
+// of each item, and the stretch of each loop in the list that the loops were laid out in. There may be fewer loops than slots.
+#[derive(Drop)]
+pub struct Links<const SLOTS: usize, const CODES: usize> {
+    list: [u32; SLOTS],
+    nexts: [u32; SLOTS],
+    heads: [u32; SLOTS],
+    owners: [u32; SLOTS],
+    spots: [u32; CODES],
+    stretches: [Span; SLOTS],
+    loops: usize,
+}
+
+impl<const SLOTS: usize, const CODES: usize> Model for Links<SLOTS, CODES> {
+    ghost use Rattle.std.specs.Prelude.{◌≤◌, take};
+    ghost use Rattle.links.specs.Tables.{LinkTables};
+
+    ghost Value = { LinkTables };
+
+    ghost view = { λ t. record {
+      codes = t.list;
+      nexts = t.nexts;
+      heads = t.heads;
+      owners = t.owners;
+      spots = t.spots;
+      stretches = take t.loops t.stretches;
+    } };
+
+    ghost invariant = { λ t. t.loops ≤ SLOTS };
+}
 
 // LINKING
 
@@ -28,62 +62,24 @@ fn next_slot(start: usize, end: usize, s: usize) -> usize
     s + 1
 }
 
-// The slots of loop k are linked.
-fn link_loop(
-    items: &[u32],
-    stretches: &[u32],
-    list: &mut [u32],
-    nexts: &mut [u32],
-    owners: &mut [u32],
-    spots: &mut [u32],
-    k: usize,
-)
-    requires { Linking items.now stretches.now list.old nexts.old owners.old spots.old k 0 × IsLoop stretches.now k × (k < 4294967296) }
-    ensures { Linking items.now stretches.now list.new nexts.new owners.new spots.new (k + 1) 0 }
+// The first stretches of a table become those of a list.
+fn copy_front(own: &mut [Span], stretches: &[Span])
+    requires { length stretches.now ≤ length own.old }
+    ensures { own.new ≡ stretches.now ++ drop (length stretches.now) own.old }
 {
-    let start = get(stretches, 2 * k);
-    let end = get(stretches, 2 * k + 1);
-    for s in start..end {
-        let x = get(items, s);
-        let q = next_slot(start, end, s);
-        put(list, s, x);
-        put(nexts, s, q);
-        put(owners, s, k);
-        put(spots, x, s);
-    }
+    own[..stretches.len()].copy_from_slice(stretches);
 }
-
-// Every loop is linked, and starts where it was laid out.
-pub fn link_loops(
-    items: &[u32],
-    stretches: &[u32],
-    list: &mut [u32],
-    nexts: &mut [u32],
-    heads: &mut [u32],
-    owners: &mut [u32],
-    spots: &mut [u32],
-)
-    requires { Linkable items.now stretches.now list.old nexts.old owners.old spots.old × (length stretches.now ≤ 2 * length heads.old) × (length stretches.now < 4294967296) }
-    ensures { LinkedLoops items.now (links_of list.new nexts.new heads.new owners.new spots.new stretches.now) }
-{
-    for k in 0..stretches.len() / 2 {
-        link_loop(items, stretches, list, nexts, owners, spots, k);
-        put(heads, k, get(stretches, 2 * k));
-    }
-}
-
-// A JOIN
 
 // Where loop k's own stretch of a list of that size ends: where the next loop starts, or at the list's end.
 #[tactic(auto, unfolding(crate::specs::Tables::own_end))]
-fn own_end(stretches: &[u32], size: usize, k: usize) -> usize
+fn own_end(stretches: &[Span], size: usize, k: usize) -> usize
     requires { k < 4294967296 }
     ensures { result ≡ own_end stretches.now size k }
 {
-    if 2 * k + 3 < stretches.len() {
-        return get(stretches, 2 * k + 2);
+    match stretches.get(k + 1) {
+        Some(next) => next.start as usize,
+        None => size,
     }
-    size
 }
 
 // One loop, of which its own stretch of the item list and of the links, from `start` on, and its head are lent: the item in slot p and the
@@ -106,70 +102,14 @@ fn turn_and_replace(
     put(head, 0, p);
 }
 
-// The slot of the item y takes the item x for its own and the next slot's: only its loop's own stretch is rewritten.
-fn fuse(
-    list: &mut [u32],
-    nexts: &mut [u32],
-    heads: &mut [u32],
-    owners: &[u32],
-    spots: &mut [u32],
-    stretches: &mut [u32],
-    y: usize,
-    x: usize,
-)
-    requires { Fusable (links_of list.old nexts.old heads.old owners.now spots.old stretches.old) y × (x < 4294967296) }
-    ensures { links_of list.new nexts.new heads.new owners.now spots.new stretches.new ≡ fused_at (links_of list.old nexts.old heads.old owners.now spots.old stretches.old) y x }
-{
-    let p = get(spots, y);
-    let k = get(owners, p);
-    let start = get(stretches, 2 * k);
-    let end = get(stretches, 2 * k + 1);
-    let bound = own_end(stretches, list.len(), k);
-    turn_and_replace(
-        &mut list[start..bound],
-        &mut nexts[start..bound],
-        &mut heads[k..k + 1],
-        start,
-        p,
-        x,
-    );
-    put(spots, x, p);
-    put(stretches, 2 * k + 1, end - 1);
-}
-
 // The item of edge a that ends at corner v.
 #[tactic(auto, unfolding(crate::specs::JoinLinks::in_code))]
-fn in_code(rows: &[u32], v: usize, a: usize) -> usize
+fn in_code(rows: &[EdgeData], v: usize, a: usize) -> usize
     requires { a < 2147483648 }
-    ensures { result ≡ in_code (rows_in rows.now) v a }
+    ensures { result ≡ in_code rows.now v a }
 {
     2 * a + usize::from(edge_start(rows, a) == v)
 }
-
-// The join of edges a and b at corner v: where an item of either ends there, it and the next become the new edge's.
-pub fn join_places(
-    rows: &[u32],
-    list: &mut [u32],
-    nexts: &mut [u32],
-    heads: &mut [u32],
-    owners: &[u32],
-    spots: &mut [u32],
-    stretches: &mut [u32],
-    v: usize,
-    a: usize,
-    b: usize,
-    new: usize,
-)
-    requires { Joinable (rows_in rows.now) v a b new (links_of list.old nexts.old heads.old owners.now spots.old stretches.old) }
-    ensures { Joined (rows_in rows.now) v a b (links_of list.old nexts.old heads.old owners.now spots.old stretches.old) (links_of list.new nexts.new heads.new owners.now spots.new stretches.new) }
-{
-    let x = in_code(rows, v, a);
-    let y = in_code(rows, v, b);
-    fuse(list, nexts, heads, owners, spots, stretches, x, 2 * new);
-    fuse(list, nexts, heads, owners, spots, stretches, y, 2 * new + 1);
-}
-
-// LAYING OUT
 
 // A loop's own stretch of the item list is rewritten: its items from the head on.
 fn lay_loop(list: &[u32], nexts: &[u32], head: usize, part: &mut [u32])
@@ -182,14 +122,116 @@ fn lay_loop(list: &[u32], nexts: &[u32], head: usize, part: &mut [u32])
     }
 }
 
-// Every loop is laid out in its stretch, turned so that its head comes first.
-pub fn lay_loops(list: &[u32], nexts: &[u32], heads: &[u32], stretches: &[u32], items: &mut [u32])
-    requires { Laid stretches.now items.old }
-    ensures { items.new ≡ laid_out list.now nexts.now heads.now stretches.now items.old }
-{
-    for k in 0..stretches.len() / 2 {
-        let start = get(stretches, 2 * k);
-        let end = get(stretches, 2 * k + 1);
-        lay_loop(list, nexts, get(heads, k), &mut items[start..end]);
+impl<const SLOTS: usize, const CODES: usize> Links<SLOTS, CODES> {
+    // Tables without a loop. They are made where they stay, since they are large, and linked there.
+    #[inline(always)]
+    pub fn new() -> Links<SLOTS, CODES> {
+        Links {
+            list: [0; SLOTS],
+            nexts: [0; SLOTS],
+            heads: [0; SLOTS],
+            owners: [0; SLOTS],
+            spots: [0; CODES],
+            stretches: [Span { start: 0, end: 0 }; SLOTS],
+            loops: 0,
+        }
+    }
+
+    // Every loop linked, and starting where it was laid out.
+    pub fn link(&mut self, items: &[u32], stretches: &[Span])
+        requires { Linkable items.now stretches.now SLOTS CODES × (length stretches.now < 4294967296) }
+        ensures { LinkedLoops items.now self.new × (self.new.stretches ≡ stretches.now) × (length self.new.spots ≡ CODES) }
+    {
+        let loops = stretches.len();
+        copy_front(&mut self.stretches, stretches);
+        self.loops = loops;
+        for k in 0..loops {
+            self.link_loop(items, k);
+        }
+    }
+
+    // The stretches of the loops, each as long as the loop is now.
+    pub fn stretches(&self) -> &[Span]
+        ensures { result.now ≡ self.now.stretches }
+    {
+        &self.stretches[..self.loops]
+    }
+
+    // The slots of loop k are linked, and it starts where it was laid out.
+    fn link_loop(&mut self, items: &[u32], k: usize)
+        requires { Linking items.now self.old.stretches SLOTS CODES self.old k 0 × IsLoop self.old.stretches k × (k < 4294967296) }
+        ensures { Linking items.now self.old.stretches SLOTS CODES self.new (k + 1) 0 }
+    {
+        let stretch = span_at(&self.stretches[..self.loops], k);
+        let start = stretch.start as usize;
+        let end = stretch.end as usize;
+        for s in start..end {
+            let x = get(items, s);
+            let q = next_slot(start, end, s);
+            put(&mut self.list, s, x);
+            put(&mut self.nexts, s, q);
+            put(&mut self.owners, s, k);
+            put(&mut self.spots, x, s);
+        }
+        put(&mut self.heads, k, start);
+    }
+
+    // A JOIN
+
+    // The slot of the item y takes the item x for its own and the next slot's: only its loop's own stretch is rewritten.
+    fn fuse(&mut self, y: usize, x: usize)
+        requires { Fusable self.old y × (x < 4294967296) }
+        ensures { self.new ≡ fused_at self.old y x }
+    {
+        let p = get(&self.spots, y);
+        let k = get(&self.owners, p);
+        let stretch = span_at(&self.stretches[..self.loops], k);
+        let start = stretch.start as usize;
+        let bound = own_end(&self.stretches[..self.loops], self.list.len(), k);
+        let list = &mut self.list[..];
+        let nexts = &mut self.nexts[..];
+        let heads = &mut self.heads[..];
+        turn_and_replace(
+            &mut list[start..bound],
+            &mut nexts[start..bound],
+            &mut heads[k..k + 1],
+            start,
+            p,
+            x,
+        );
+        put(&mut self.spots, x, p);
+        put_entry(
+            &mut self.stretches,
+            k,
+            Span {
+                end: stretch.end - 1,
+                ..stretch
+            },
+        );
+    }
+
+    // The join of edges a and b at corner v: where an item of either ends there, it and the next become the new edge's.
+    pub fn join_places(&mut self, rows: &[EdgeData], v: usize, a: usize, b: usize, new: usize)
+        requires { Joinable rows.now v a b new self.old }
+        ensures { Joined rows.now v a b self.old self.new }
+    {
+        let x = in_code(rows, v, a);
+        let y = in_code(rows, v, b);
+        self.fuse(x, 2 * new);
+        self.fuse(y, 2 * new + 1);
+    }
+
+    // LAYING OUT
+
+    // Every loop is laid out in its stretch, turned so that its head comes first.
+    pub fn lay_loops(&self, items: &mut [u32])
+        requires { Laid self.now.stretches items.old }
+        ensures { items.new ≡ laid_by self.now items.old }
+    {
+        let own = &self.stretches[..self.loops];
+        for (k, stretch) in own.iter().enumerate() {
+            let part = &mut items[stretch.start as usize..stretch.end as usize];
+            lay_loop(&self.list, &self.nexts, get(&self.heads, k), part);
+        }
     }
 }

@@ -19,7 +19,6 @@ pub mod Constants
 pub mod SameLists
 pub mod Prefixes
 pub mod ListEnds
-pub mod InPlace
 pub mod KeepBelow
 pub mod StoreRuns
 pub mod Stretches

@@ -1,5 +1,5 @@
 -- Laws of iterates and orbits: where a function is one to one on a part of the numbers below n, each orbit comes back to its start within n steps.
-use Rattle.std.specs.Prelude.{◌≡◌, refl, ◌⊎◌, Bool, true, false, ◌∷◌, length, get_or}
+use Rattle.std.specs.Prelude.{◌≡◌, refl, ◌⊎◌, Bool, true, false, length, get_or}
 use Rattle.std.proofs.Math.Path.{sym}
 use Rattle.std.proofs.Common.{ap, ◌∙◌, subst, inl, inr, zero-add, suc-add, eq-or-lt_of_le, le_of_suc-le-suc, arith}
 use Rattle.std.proofs.Math.Logic.{⊎_elim}
@@ -46,10 +46,6 @@ iterate_same f g D closed same zero x d = refl
 iterate_same f g D closed same (suc k) x d = iterate_same f g D closed same k (f x) (closed x d) ∙ ap (iterate g k) (same x d)
 
 -- ORBITS
-
-pub orbit_first : (f : ℕ → ℕ) (k x : ℕ) → orbit f (suc k) x ≡ x ∷ orbit f k (f x)
-unfolding orbit
-orbit_first f k x = refl
 
 pub in_orbit : (f : ℕ → ℕ) (k j x : ℕ) → j < k → iterate f j x ∈ orbit f k x
 unfolding orbit iterate

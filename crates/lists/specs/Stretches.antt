@@ -1,9 +1,8 @@
 -- Stretches: the members of a list from a place to another, and what a list with one stretch rewritten has.
 use Rattle.std.specs.Prelude.{◌≡◌, refl, List, [], ◌∷◌, ◌++◌, map, ℕ, zero, suc, ◌+◌, ◌-◌, ◌≤◌, ◌<◌, length, get_or, set, take, drop}
-use Rattle.std.proofs.Common.{sym, ap, ◌∙◌, append_assoc, not-suc-le-zero, arith, length-append, length-take, length-drop, take-append-drop, drop-drop, take_at, drop_at, take-take, length-take-le, get_or-take, get_or-drop}
+use Rattle.std.proofs.Common.{sym, ap, ◌∙◌, not-suc-le-zero, arith, length-append, length-take, length-drop, take-append-drop, take_at, drop_at, length-take-le, get_or-take, get_or-drop}
 use Rattle.std.proofs.lemmas.List.{take-append-le, drop-append-le}
-use Rattle.std.proofs.Math.Seq.{drop-append-add}
-use borrow.Rule.Slice.PartMut.{post_of, put_mid, Post-is, take_put, set_mid_at}
+use borrow.Rule.Slice.PartMut.{post_of, put_mid, set_mid_at}
 
 -- the members from place a up to place e
 abbrev pub stretch : {A : Type 0} → List A → ℕ → ℕ → List A
@@ -56,34 +55,14 @@ module _ {A : Type 0} (a e : ℕ) (l r : List A) (order : a ≤ e) (inside : e �
   pub own_part : stretch (put_mid a (e - a) l r) a e ≡ r
   own_part = ap (take (e - a)) (drop_at (take a l) (r ++ post_of a (e - a) l) a (length-take-le a l (omega arith))) ∙ take_at r (post_of a (e - a) l) (e - a) size
 
-  -- a second loan of the same part covers the first
-  pub put_again : (s : List A) → put_mid a (e - a) (put_mid a (e - a) l r) s ≡ put_mid a (e - a) l s
-  put_again s =
-      let post : post_of a (e - a) (put_mid a (e - a) l r) ≡ post_of a (e - a) l =
-      ap (drop (e - a)) (drop_at (take a l) (r ++ post_of a (e - a) l) a (length-take-le a l (omega arith))) ∙ drop_at r (post_of a (e - a) l) (e - a) size in
-      ap (λ z. take a (put_mid a (e - a) l r) ++ (s ++ z)) post ∙ ap (λ z. z ++ (s ++ post_of a (e - a) l)) (take_put a (e - a) l r (omega arith))
-
   pub length_put : length (put_mid a (e - a) l r) ≡ length l
   length_put =
       omega
       (arith, length-append (take a l) (r ++ post_of a (e - a) l), length-append r (post_of a (e - a) l), length-take-le a l (omega arith), length-drop (e - a) (drop a l), length-drop a l)
 
-  -- the first members of the part
-  pub own_first : (g : ℕ) → a ≤ g → g ≤ e → stretch (put_mid a (e - a) l r) a g ≡ take (g - a) r
-  own_first g o h = sym (take-take (g - a) (e - a) (drop a (put_mid a (e - a) l r)) (omega arith)) ∙ ap (take (g - a)) own_part
-
-  -- what lies before the part, and what lies after it
+  -- what lies before the part
   pub before_part : (b g : ℕ) → b ≤ g → g ≤ a → stretch (put_mid a (e - a) l r) b g ≡ stretch l b g
   before_part b g o h =
       let n : length (take a l) ≡ a = length-take-le a l (omega arith) in
       stretch_front (take a l) (r ++ post_of a (e - a) l) b g o (omega arith)
       ∙ sym (ap (λ z. stretch z b g) (sym (take-append-drop a l)) ∙ stretch_front (take a l) (drop a l) b g o (omega arith))
-
-  pub after_part : (b g : ℕ) → e ≤ b → stretch (put_mid a (e - a) l r) b g ≡ stretch l b g
-  after_part b g h =
-      let n : length (take a l ++ r) ≡ e = omega (arith, length-append (take a l) r, length-take-le a l (omega arith)) in
-      let off : b ≡ length (take a l ++ r) + (b - e) = omega arith in
-      let back : e + (b - e) ≡ b = omega arith in
-      ap (λ z. stretch z b g) (ap (λ z. take a l ++ (r ++ z)) (Post-is a e l order) ∙ sym (append_assoc (take a l) r (drop e l)))
-      ∙ ap (λ z. take (g - b) (drop z ((take a l ++ r) ++ drop e l))) off
-      ∙ ap (take (g - b)) (drop-append-add (take a l ++ r) (drop e l) (b - e) ∙ drop-drop (b - e) e l ∙ ap (λ z. drop z l) back)

@@ -1,5 +1,5 @@
 -- What holds after a record that is taken: the job, the index, for each kind.
-use Rattle.std.specs.Prelude.{ℕ, zero, suc, ◌+◌, ◌*◌, ◌-◌, ◌/◌, ◌<◌, List, true, false, ◌&&◌, length, set, eqb, ltb, leb, Option, Some, None, is_some}
+use Rattle.std.specs.Prelude.{ℕ, ◌+◌, ◌*◌, ◌-◌, ◌/◌, ◌<◌, List, true, false, ◌&&◌, length, set, eqb, ltb, leb, Option, Some, None, is_some}
 use Rattle.std.proofs.Common.{arith, ap, ◌∙◌, true≢false, leb-false}
 use Rattle.std.proofs.Math.Path.{◌≡◌, refl, sym}
 use Rattle.std.proofs.Math.Bool.{cond}
@@ -24,25 +24,6 @@ use Rattle.load.specs.Placed.{Placed}
 use Rattle.load.specs.ListsMore.{loop_by}
 use Rattle.load.specs.Kept.{loop_kept, kept_index, count_faces, field_is, long, head_job, vertex_job, edge_job, face_job, loop_job, answer_job}
 
--- a number that is a kind is the number of that kind
-kind_number : (m : ℕ) → (kind_of m ≡ Unknown → ⊥) → number_of (kind_of m) ≡ m
-unfolding kind_of number_of
-kind_number zero h = absurd (h refl)
-kind_number (suc zero) h = refl
-kind_number (suc (suc zero)) h = refl
-kind_number (suc (suc (suc zero))) h = refl
-kind_number (suc (suc (suc (suc zero)))) h = refl
-kind_number (suc (suc (suc (suc (suc zero))))) h = refl
-kind_number (suc (suc (suc (suc (suc (suc zero)))))) h = refl
-kind_number (suc (suc (suc (suc (suc (suc (suc zero))))))) h = refl
-kind_number (suc (suc (suc (suc (suc (suc (suc (suc zero)))))))) h = refl
-kind_number (suc (suc (suc (suc (suc (suc (suc (suc (suc zero))))))))) h = refl
-kind_number (suc (suc (suc (suc (suc (suc (suc (suc (suc (suc zero)))))))))) h = refl
-kind_number (suc (suc (suc (suc (suc (suc (suc (suc (suc (suc (suc zero))))))))))) h = refl
-kind_number (suc (suc (suc (suc (suc (suc (suc (suc (suc (suc (suc (suc zero)))))))))))) h = refl
-kind_number (suc (suc (suc (suc (suc (suc (suc (suc (suc (suc (suc (suc (suc zero))))))))))))) h = refl
-kind_number (suc (suc (suc (suc (suc (suc (suc (suc (suc (suc (suc (suc (suc (suc m)))))))))))))) h = absurd (h refl)
-
 -- the record at a byte has so many fields
 pub fields_count : (bytes : List ℕ) (at : ℕ) → length (fields_at bytes at) ≡ le32 bytes at / 4
 unfolding fields_at
@@ -61,9 +42,6 @@ module _ (bytes ix : List ℕ) (c : Counts) (at : ℕ) (P : Placed c at) (L : Li
 
   -- a record of a kind that is taken
   module _ (k : Kind) (kind : kind_of (le16 bytes (at + 4)) ≡ k) (l : right_length k (le32 bytes at) ≡ true) where
-    number : (k ≡ Unknown → ⊥) → le16 bytes (at + 4) ≡ number_of k
-    number h = sym (kind_number (le16 bytes (at + 4)) (λ e. h (sym kind ∙ e))) ∙ ap number_of kind
-
     whole : 4 * n ≡ le32 bytes at
     whole = let e = whole_fields k (le32 bytes at) l in let q = fields_count bytes at in omega arith
 
@@ -71,18 +49,16 @@ module _ (bytes ix : List ℕ) (c : Counts) (at : ℕ) (P : Placed c at) (L : Li
       → loop_by bytes at (c.faces - 1) ≡ loop_of LoopRecord (length (faces_in bytes ix c) - 1) x
   unfolding number_of
   loop_content kind l =
-      let five = number LoopRecord kind l (λ e. let z : ◌≡◌ {A = ℕ} 0 1 = cc in omega arith) in
       let faces = count_faces bytes ix c in
-      λ i. record { face = sym faces i - 1; content = cond (eqb (five i) 5) (of_items (items_of x)) (at_vertex (le32 bytes (at + 6))) }
+      λ i. record { face = sym faces i - 1; content = cond (eqb (number_of (kind i)) 5) (of_items (items_of x)) (at_vertex (le32 bytes (at + 6))) }
 
   vertex_content : kind_of (le16 bytes (at + 4)) ≡ VertexLoop → right_length VertexLoop (le32 bytes at) ≡ true
       → loop_by bytes at (c.faces - 1) ≡ loop_of VertexLoop (length (faces_in bytes ix c) - 1) x
   unfolding number_of right_length
   vertex_content kind l =
-      let six = number VertexLoop kind l (λ e. let z : ◌≡◌ {A = ℕ} 0 1 = cc in omega arith) in
       let faces = count_faces bytes ix c in
       let v = field_is bytes ix c at P L I 0 1 (at + 6) (long (le32 bytes at) 1 l) (omega arith) (omega arith) in
-      λ i. record { face = sym faces i - 1; content = cond (eqb (six i) 5) (of_items (items_of x)) (at_vertex (sym v i)) }
+      λ i. record { face = sym faces i - 1; content = cond (eqb (number_of (kind i)) 5) (of_items (items_of x)) (at_vertex (sym v i)) }
 
   -- the job after a record that is taken
   pub job_kept : (k : Kind) → kind_of (le16 bytes (at + 4)) ≡ k → right_length k (le32 bytes at) ≡ true → right_position k c.part ≡ true → limit_passed k c n ≡ false

@@ -9,6 +9,7 @@ use Rattle.rules.specs.declared.Counts.{Counts}
 use Rattle.rules.specs.declared.Edge.{Edge}
 use Rattle.rules.specs.declared.Face.{Face}
 use Rattle.rules.specs.Fields.{le16, le32}
+use Rattle.rules.specs.Kinds.{kind_of, number_of}
 use Rattle.rules.specs.Job.{of_items, at_vertex, Loop, items_of}
 use Rattle.job.specs.Lists.{point_in, points_in, edge_in, edge_place, edges_in, face_byte, loop_byte, fields_at, face_in, faces_in, loop_in, loops_in, stretch_in, stretches_in}
 
@@ -45,7 +46,7 @@ module _ (bytes : List ℕ) (c d : Counts) where
 
 -- a loop whose record stands at a byte, with its face
 abbrev pub loop_by : List ℕ → ℕ → ℕ → Loop
-loop_by bytes p f = record { face = f; content = cond (eqb (le16 bytes (p + 4)) 5) (of_items (items_of (fields_at bytes p))) (at_vertex (le32 bytes (p + 6))) }
+loop_by bytes p f = record { face = f; content = cond (eqb (number_of (kind_of (le16 bytes (p + 4)))) 5) (of_items (items_of (fields_at bytes p))) (at_vertex (le32 bytes (p + 6))) }
 
 module _ (bytes ix iy : List ℕ) (c d : Counts) where
   pub faces_same : d.faces ≡ c.faces → c.faces ≤ 256 → ((j : ℕ) → 5120 ≤ j → j < 5376 → get_or iy j 0 ≡ get_or ix j 0) → faces_in bytes iy d ≡ faces_in bytes ix c

@@ -15,7 +15,7 @@ use Rattle.answers.specs.Index.{Indexed, entered}
 use Rattle.answers.specs.EnterLaws.{entered_past}
 use Rattle.selected.specs.Sources.{face_entered, Sourced}
 use Rattle.selected.specs.SourceLaws.{sourced_same, sourced_enter}
-use Rattle.records.specs.Apart.{other_kind}
+use Rattle.job.specs.Apart.{other_kind}
 use Rattle.load.specs.Placed.{Placed}
 use Rattle.load.specs.Kept.{loop_kept, kept_index, long}
 use Rattle.load.specs.After.{job_kept}

@@ -8,19 +8,21 @@ ghost use Rattle.rules.specs.declared.Kind.TheVariants.{FaceRecord};
 ghost use Rattle.rules.specs.Outcome.{Ok, ◌>>=◌ as ◌and_then◌};
 ghost use Rattle.rules.specs.Frame.{whole_record, frame_at};
 ghost use Rattle.rules.specs.Kinds.{is_loop, is_answer, right_length, right_position};
-ghost use Rattle.rules.specs.Load.{no_counts, selected_before, answered_before, load_record, loading, requested, shown};
+ghost use Rattle.rules.specs.Load.{no_counts, selected_before, answered_before, load_record, loading, loaded, requested, shown};
 ghost use Rattle.theorems.specs.Sound.{Limited};
-ghost use Rattle.job.specs.Lists.{fields_at, faces_in, answers_in};
+ghost use Rattle.job.specs.Lists.{fields_at};
+ghost use Rattle.job.specs.Raw.{faces, answers};
 ghost use Rattle.answers.specs.Index.{Indexed};
 ghost use Rattle.selected.specs.Sources.{Sourced};
 ghost use Rattle.load.specs.Kept.{loop_kept, kept_index};
 ghost use Rattle.load.specs.SourcesKept.{kept_sources};
-ghost use Rattle.load.specs.Judged.{Here, record_at, state_in, taken_at};
+ghost use Rattle.load.specs.Judged.{Here, record_at, state_in, state, taken};
 ghost use Rattle.load.specs.Going.{Going, OnTo};
 ghost use Rattle.load.specs.Stretches.{Placed};
 
 use fields::{half, put, word};
-use job::{FACES, INDEX, LOOPS, OWNERS};
+use job::{FACES, INDEX, LOOPS, OWNERS, RawJob};
+use loaded::Loaded;
 use rules::{Counts, Fault, Kind, Refusal};
 use selected::SOURCES;
 use std::ops::Range;
@@ -44,63 +46,53 @@ fn is_misplaced(kind: Kind, size: usize, part: usize) -> bool
 
 // 45: the face of the record at a byte is selected before.
 #[tactic(auto, using(crate::specs::Judged::selected_as, crate::specs::Judged::no_face_lem))]
-fn is_selected(
-    job: &[u8],
-    index: &[u32],
-    sources: &[u8],
-    c: Counts,
-    at: usize,
-    kind: Kind,
-    size: usize,
-) -> bool
-    requires { Here job.now index.now c at kind size × Sourced job.now index.now sources.now c × (right_length kind size ≡ true) × (kind ≡ FaceRecord → c.faces < 256) }
-    ensures { result ≡ selected_before kind (faces_in job.now index.now c) (fields_at job.now at) }
+fn is_selected(raw: &RawJob<'_>, sources: &[u8], at: usize, kind: Kind, size: usize) -> bool
+    requires { Here raw.now at kind size × Sourced raw.now.bytes.now raw.now.index.now sources.now raw.now.counts × (right_length kind size ≡ true) × (kind ≡ FaceRecord → raw.now.counts.faces < 256) }
+    ensures { result ≡ selected_before kind (faces raw.now) (fields_at raw.now.bytes.now at) }
 {
     match kind {
-        Kind::FaceRecord => selected::selected_before(job, index, sources, c, at),
+        Kind::FaceRecord => selected::selected_before(raw, sources, at),
         _ => false,
     }
 }
 
 // 7: the question of the record at a byte is answered before.
 #[tactic(auto, unfolding(rules::specs::Load::answered_before))]
-fn is_answered(job: &[u8], index: &[u32], c: Counts, at: usize, kind: Kind, size: usize) -> bool
-    requires { Here job.now index.now c at kind size × (right_length kind size ≡ true) }
-    ensures { result ≡ answered_before kind (answers_in job.now index.now c) (fields_at job.now at) }
+fn is_answered(raw: &RawJob<'_>, at: usize, kind: Kind, size: usize) -> bool
+    requires { Here raw.now at kind size × (right_length kind size ≡ true) }
+    ensures { result ≡ answered_before kind (answers raw.now) (fields_at raw.now.bytes.now at) }
 {
-    records::is_answer(kind) && answers::answered_before(job, index, c, at)
+    records::is_answer(kind) && answers::answered_before(raw, at)
 }
 
 // The tests of a whole record from 3 on, in their order.
 fn judge(
-    job: &[u8],
-    index: &[u32],
+    raw: &RawJob<'_>,
     sources: &[u8],
-    c: Counts,
     at: usize,
     kind: Kind,
     size: usize,
 ) -> Result<(), Refusal>
-    requires { Here job.now index.now c at kind size × Sourced job.now index.now sources.now c }
-    ensures { (result and_then λ _. Ok (taken_at kind job.now index.now c at)) ≡ load_record (record_at job.now at) (state_in job.now index.now c) }
+    requires { Here raw.now at kind size × Sourced raw.now.bytes.now raw.now.index.now sources.now raw.now.counts }
+    ensures { (result and_then λ _. Ok (taken kind raw.now at)) ≡ load_record (record_at raw.now.bytes.now at) (state raw.now) }
 {
-    if is_misplaced(kind, size, c.part) {
+    if is_misplaced(kind, size, raw.counts.part) {
         return Err(Fault::Misplaced.at(at));
     }
     let n = size / 4;
-    if records::limit_passed(kind, c, n) {
+    if records::limit_passed(kind, raw.counts, n) {
         return Err(Fault::LimitPassed.at(at));
     }
-    if !records::fields_permitted(job, kind, c, at + 6, n) {
+    if !records::fields_permitted(raw, kind, at + 6, n) {
         return Err(Fault::FieldNotPermitted.at(at));
     }
-    if is_selected(job, index, sources, c, at, kind, size) {
+    if is_selected(raw, sources, at, kind, size) {
         return Err(Fault::SelectedTwice.at(at));
     }
-    if !records::right_joints(job, kind, c, at + 6, n) {
+    if !records::right_joints(raw, kind, at + 6, n) {
         return Err(Fault::LoopJoints.at(at));
     }
-    if is_answered(job, index, c, at, kind, size) {
+    if is_answered(raw, at, kind, size) {
         return Err(Fault::AnsweredTwice.at(at));
     }
     Ok(())
@@ -165,13 +157,19 @@ fn step(
     }
     let size = word(job, at);
     let kind = Kind::from(half(job, at + 4));
-    judge(job, index, sources, c, at, kind, size)?;
+    let raw = RawJob {
+        bytes: job,
+        index,
+        counts: c,
+    };
+    judge(&raw, sources, at, kind, size)?;
     keep(job, index, kind, c, at);
     keep_source(job, sources, kind, c, at);
     let after = records::count_record(kind, size / 4, c);
     Ok((after, at + 6 + size))
 }
 
+// Written out: the definitions' `Counts` has no default of its own.
 fn nothing() -> Counts
     ensures { result ≡ no_counts }
 {
@@ -201,10 +199,20 @@ pub fn load(job: &[u8], index: &mut [u32]) -> Result<Counts, Refusal>
     let mut sources = [0u8; SOURCES];
     let mut c = nothing();
     let mut at: usize = 0;
+    // a `while`: where the next record begins is known only once this one is read
     while at < job.len() {
         (c, at) = step(job, index, &mut sources, c, at)?;
     }
     Ok(c)
+}
+
+// The loaded job over an index that is all 0 at first, or the refusal of load.
+pub fn open<'a>(job: &'a [u8], index: &'a mut [u32]) -> Result<Loaded<'a>, Refusal>
+    requires { index.old ≡ replicate 7424 0 }
+    ensures { result ≡ loaded job.now }
+{
+    let counts = load(job, index)?;
+    Ok(Loaded::new(job, index, counts))
 }
 
 // THE LOOP REQUEST
@@ -220,8 +228,13 @@ pub fn loop_stretch(job: &[u8], n: usize) -> Result<Range<usize>, Refusal>
     if c.loops <= n {
         return Err(Fault::FieldNotPermitted.at(n));
     }
-    let start = job::loop_start(&index, n);
-    Ok(start..start + job::loop_size(job, &index, n))
+    let raw = RawJob {
+        bytes: job,
+        index: &index,
+        counts: c,
+    };
+    let start = raw.loop_start(n);
+    Ok(start..start + raw.loop_size(n))
 }
 
 // The bytes of the job that hold the payload of loop n, where they stand in the job; none where the request is refused.

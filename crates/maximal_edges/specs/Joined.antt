@@ -1,83 +1,101 @@
 -- Joining over the tables of edges, items and stretches: the tables of ends, what a sweep finds, and what the stage answers.
-use Rattle.std.specs.Prelude.{ℕ, ◌+◌, ◌*◌, ◌-◌, ◌<◌, ◌≤◌, ◌≡◌, List, [], ◌∷◌, Bool, false, cond, length, get_or, set, take, eqb, ltb, min, max}
+use Rattle.std.specs.Prelude.{ℕ, ◌+◌, ◌-◌, ◌<◌, ◌≤◌, ◌≡◌, List, [], ◌∷◌, Bool, false, cond, length, get_or, set, take, eqb, ltb, min, max}
 use Rattle.std.specs.Prelude.{Option, Some, None, IfOk}
 use Rattle.lists.specs.Lists.{◌∈◌, keep}
+use Rattle.fields.specs.declared.Span.{Span}
 use Rattle.rules.specs.declared.EdgeData.{EdgeData}
 use Rattle.rules.specs.declared.Refusal.{Refusal}
 use Rattle.rules.specs.Outcome.{Outcome, Ok, Err, ◌>>=◌}
 use Rattle.rules.specs.Job.{Answer}
 use Rattle.rules.specs.Fans.{fan_point}
-use Rattle.rules.specs.Join.{Joining, edge_data_at, ends_at, active_edges, two_ends, far_end, joined_edge, join_edges, join_at, ring_at}
+use Rattle.rules.specs.Join.{Joining, edge_data_at, ends_at, two_ends, far_end, joined_edge, join_edges, join_at, ring_at}
 use Rattle.rules.specs.Join.{not_singular, may_join, Tried, unchanged, changed, sweep, maximal_edges}
-use Rattle.edges.specs.Table.{rows_in, face_loops_in, Laid}
-use Rattle.links.specs.Replace.{Replaced}
+use Rattle.edges.specs.Table.{face_loops_in, Laid}
+use Rattle.links.specs.Tables.{LinkTables}
+use Rattle.links.specs.JoinLinks.{Joined}
 use Rattle.maximal_edges.specs.declared.Change.{Change}
 use Rattle.maximal_edges.specs.declared.Change.TheVariants.{Ring, Join}
 use Rattle.maximal_edges.specs.declared.Joins.{Joins}
+use Rattle.maximal_edges.specs.declared.Corner.{Corner}
 use Rattle.maximal_edges.specs.declared.Resume.{Resume}
 
 -- THE STAGE
 
--- the first edges of a table of edges
-abbrev pub edges_in : List ℕ → ℕ → List EdgeData
-edges_in rows n = rows_in (take (7 * n) rows)
-
 -- what the tables stand for
-unfoldable pub state_in : List ℕ → ℕ → List ℕ → List ℕ → List ℕ → ℕ → ℕ → Joining
-state_in rows n items stretches faces joins rings = record { edges = edges_in rows n; loops = face_loops_in items stretches faces; joins = joins; rings = rings }
+unfoldable pub state_in : List EdgeData → ℕ → List ℕ → List Span → List ℕ → ℕ → ℕ → Joining
+state_in rows n items stretches faces joins rings = record { edges = take n rows; loops = face_loops_in items stretches faces; joins = joins; rings = rings }
 
 -- what the whole run gives for the faces of the loops
-abbrev pub whole_run : List Answer → List ℕ → List ℕ → List ℕ → ℕ → List ℕ → List ℕ → List ℕ → Outcome Joining
+abbrev pub whole_run : List Answer → List ℕ → List ℕ → List EdgeData → ℕ → List ℕ → List Span → List ℕ → Outcome Joining
 whole_run answers starts names rows n items stretches faces =
     maximal_edges answers starts names (length names) (state_in rows n items stretches faces 0 0)
 
 -- what later stages need of a run that is not refused: the loops lie one after the other, there are at most 2,047 edges,
 -- and at most as many changes as fans; the table has the edges
-pub record Fitting (names rows items stretches : List ℕ) (k : Joins) : Type 0 where
+pub record Fitting (names : List ℕ) (rows : List EdgeData) (items : List ℕ) (stretches : List Span) (k : Joins) : Type 0 where
   pub laid : Laid stretches items
   pub few : k.edges ≤ 2047
   pub changes : k.joins + k.rings ≤ length names
-  pub room : 7 * k.edges ≤ length rows
+  pub room : k.edges ≤ length rows
 
 -- what the stage leaves in the tables and answers
-pub record Ran (answers : List Answer) (starts names rows : List ℕ) (n : ℕ) (items stretches rows' items' stretches' : List ℕ) (r : Outcome Joins) : Type 0 where
-  pub run : (faces : List ℕ) → 2 * length faces ≤ length stretches
+pub record Ran (answers : List Answer) (starts names : List ℕ) (rows : List EdgeData) (n : ℕ) (items : List ℕ) (stretches : List Span)
+    (rows' : List EdgeData) (items' : List ℕ) (stretches' : List Span) (r : Outcome Joins) : Type 0 where
+  pub run : (faces : List ℕ) → length faces ≤ length stretches
       → (r >>= λ k. Ok (state_in rows' k.edges items' stretches' faces k.joins k.rings)) ≡ whole_run answers starts names rows n items stretches faces
   pub fitting : IfOk r (λ k. Fitting names rows' items' stretches' k)
 
--- TABLES OF ENDS
+-- CORNERS
 
--- tables for as many fans, with no end counted
-pub record Blank (ends lows highs : List ℕ) : Type 0 where
-  pub size : length ends ≤ 2048
-  pub lows_size : length lows ≡ length ends
-  pub highs_size : length highs ≡ length ends
-  pub none : (v : ℕ) → get_or ends v 0 ≡ 0
+-- a fan at which no end was counted
+abbrev pub no_corner : Corner
+no_corner = record { ends = 0; low = 0; high = 0 }
+
+-- what is known of fan v
+abbrev pub corner_at : List Corner → ℕ → Corner
+corner_at corners v = get_or corners v no_corner
+
+-- one end more at a corner, of edge e, the highest so far
+abbrev pub one_more : ℕ → Corner → Corner
+one_more e c = record { ends = c.ends + 1; low = cond (eqb c.ends 0) e c.low; high = e }
+
+-- the same at fan v
+abbrev pub count_end : ℕ → ℕ → List Corner → List Corner
+count_end v e corners = set corners v (one_more e (corner_at corners v))
+
+-- what is known of a fan with such ends, once they are counted
+abbrev pub corner_with : List ℕ → Corner
+corner_with l = record { ends = length l; low = get_or l 0 0; high = get_or l (length l - 1) 0 }
+
+-- such ends are counted at each fan
+pub record Noted (corners : List Corner) (ends : ℕ → List ℕ) : Type 0 where
+  pub size : length corners ≤ 2048
+  pub each : (v : ℕ) → v < length corners → corner_at corners v ≡ corner_with (ends v)
+
+-- no ends, and those of the edges below e
+abbrev pub Blank : List Corner → Type 0
+Blank corners = Noted corners (λ v. [])
+
+abbrev pub Counted : List EdgeData → List Corner → ℕ → Type 0
+Counted es corners e = Noted corners (λ v. ends_at (take e es) v)
 
 -- the number of active edge ends at each fan; and, where there are exactly two, the lower edge and the higher
-pub record Tabled (es : List EdgeData) (ends lows highs : List ℕ) : Type 0 where
-  pub size : length ends ≤ 2048
-  pub lows_size : length lows ≡ length ends
-  pub highs_size : length highs ≡ length ends
-  pub counts : (v : ℕ) → v < length ends → get_or ends v 0 ≡ length (ends_at es v)
-  pub pairs : (v : ℕ) → v < length ends → length (ends_at es v) ≡ 2 → ends_at es v ≡ get_or lows v 0 ∷ get_or highs v 0 ∷ []
+pub record Tabled (es : List EdgeData) (corners : List Corner) : Type 0 where
+  pub size : length corners ≤ 2048
+  pub counts : (v : ℕ) → v < length corners → (corner_at corners v).ends ≡ length (ends_at es v)
+  pub pairs : (v : ℕ) → v < length corners → length (ends_at es v) ≡ 2 → ends_at es v ≡ (corner_at corners v).low ∷ (corner_at corners v).high ∷ []
 
--- one end more at fan v, of edge e, the highest so far
-pub record EndCounted (v e : ℕ) (ends lows highs ends' lows' highs' : List ℕ) : Type 0 where
-  pub count : ends' ≡ set ends v (get_or ends v 0 + 1)
-  pub lowest : lows' ≡ cond (eqb (get_or ends v 0) 0) (set lows v e) lows
-  pub highest : highs' ≡ set highs v e
+-- of the two edges at a corner, edge a gives way to edge n, which is the higher one then
+abbrev pub given_way : ℕ → ℕ → Corner → Corner
+given_way a n c = record { ends = c.ends; low = cond (eqb c.low a) c.high c.low; high = n }
 
--- the lower edges once edge a at fan v has given way to a higher one: if it was the lower, then the other one is now
-abbrev pub lows_after : List ℕ → List ℕ → ℕ → ℕ → List ℕ
-lows_after lows highs v a = cond (eqb (get_or lows v 0) a) (set lows v (get_or highs v 0)) lows
+-- the same at fan v
+abbrev pub give_way : ℕ → ℕ → ℕ → List Corner → List Corner
+give_way v a n corners = set corners v (given_way a n (corner_at corners v))
 
--- the lower edges, and the higher, once edge n has the far ends p of edge a and q of edge b
-abbrev pub highs_joined : ℕ → ℕ → ℕ → List ℕ → List ℕ
-highs_joined p q n highs = set (set highs p n) q n
-
-abbrev pub lows_joined : ℕ → ℕ → ℕ → ℕ → ℕ → List ℕ → List ℕ → List ℕ
-lows_joined p q a b n lows highs = lows_after (lows_after lows highs p a) (set highs p n) q b
+-- no ends at fan v; and at the far ends p of edge a and q of edge b, edge n in their places
+abbrev pub corners_joined : ℕ → ℕ → ℕ → ℕ → ℕ → ℕ → List Corner → List Corner
+corners_joined v p q a b n corners = give_way q b n (give_way p a n (set corners v no_corner))
 
 -- WHAT A SWEEP FINDS
 
@@ -165,28 +183,12 @@ pub record Swept (answers : List Answer) (starts names : List ℕ) (es : List Ed
 -- THE TWO CHANGES
 
 -- the far end of edge a, of n edges, from corner v
-abbrev pub far_at : List ℕ → ℕ → ℕ → ℕ → ℕ
-far_at rows n v a = far_end v (edge_data_at (edges_in rows n) a)
+abbrev pub far_at : List EdgeData → ℕ → ℕ → ℕ → ℕ
+far_at rows n v a = far_end v (edge_data_at (take n rows) a)
 
--- the join of edges a and b, of n edges, at corner v: the new edge takes their places at their far ends
-pub record JoinedAt (n v a b : ℕ) (rows items stretches ends lows highs rows' items' stretches' ends' lows' highs' : List ℕ) (new : EdgeData) : Type 0 where
-  pub edges : edges_in rows' (n + 1) ≡ join_edges v a b (edges_in rows n)
-  pub loops : Replaced (edges_in rows n) v a b n items stretches items' stretches'
-  pub corner : ends' ≡ set ends v 0
-  pub lower : lows' ≡ lows_joined (far_at rows n v a) (far_at rows n v b) a b n lows highs
-  pub higher : highs' ≡ highs_joined (far_at rows n v a) (far_at rows n v b) n highs
-  pub made : new ≡ joined_edge v (edge_data_at (edges_in rows n) a) (edge_data_at (edges_in rows n) b)
-
--- the tables before a sweep, in a run that began with the first ones: for the faces of its loops it gives what the rules make of the tables as they are now
-pub record Going (answers : List Answer) (starts names rows₀ : List ℕ) (n₀ : ℕ) (items₀ stretches₀ rows : List ℕ) (n : ℕ)
-    (items stretches ends lows highs : List ℕ) (joins rings : ℕ) (from : Resume) : Type 0 where
-  pub size : 7 * (n + length (active_edges (edges_in rows n))) ≤ length rows
-  pub sizes : length stretches₀ ≤ length stretches
-  pub few : n ≤ 2047
-  pub room : n + length (active_edges (edges_in rows n)) ≤ 2048
-  pub laid : Laid stretches items
-  pub tabled : Tabled (edges_in rows n) ends lows highs
-  pub known : StillBut answers starts names (edges_in rows n) from
-  pub budget : length (keep (two_ends (edges_in rows n)) names) + (joins + rings) ≤ length names
-  pub run : (faces : List ℕ) → 2 * length faces ≤ length stretches₀ → whole_run answers starts names rows₀ n₀ items₀ stretches₀ faces
-      ≡ maximal_edges answers starts names (length names - (joins + rings)) (state_in rows n items stretches faces joins rings)
+-- the join of edges a and b, of n edges, at corner v: the new edge takes their places in the loops and at their far ends
+pub record JoinedAt (n v a b : ℕ) (rows : List EdgeData) (t : LinkTables) (corners : List Corner) (rows' : List EdgeData) (t' : LinkTables) (corners' : List Corner) (new : EdgeData) : Type 0 where
+  pub edges : take (n + 1) rows' ≡ join_edges v a b (take n rows)
+  pub loops : Joined (take n rows) v a b t t'
+  pub table : corners' ≡ corners_joined v (far_at rows n v a) (far_at rows n v b) a b n corners
+  pub made : new ≡ joined_edge v (edge_data_at (take n rows) a) (edge_data_at (take n rows) b)

@@ -1,19 +1,18 @@
 -- What a change leaves still, and where the next sweep begins: a corner whose two edges stay the same is tried again in vain.
 use Prim.Native.Nat.{ℕ, ◌+◌, ◌<◌, ◌≤◌}
-use Rattle.std.proofs.Math.Decide.{dec_lt, ℕ_discrete}
-use Rattle.std.proofs.Common.{arith, sym, ◌∙◌, get_or-set_same}
+use Rattle.std.proofs.Common.{arith, sym, ◌∙◌}
 use Rattle.std.specs.Prelude.{◌≡◌, List, [], ◌∷◌, cond, length, get_or, set, eqb}
 use Rattle.std.proofs.Math.Path.{refl, ap}
 use Rattle.std.proofs.Math.Logic.{inl, inr, ⊎_elim}
-use Rattle.std.proofs.Math.Seq.{get_or-set_other}
-use Rattle.lists.specs.Lists.{◌∈◌, Nodup, index_of}
+use Rattle.std.proofs.lemmas.Grind.{common_steps}
+use Rattle.lists.specs.Lists.{◌∈◌, Nodup}
 use Rattle.lists.specs.Tests.{equal_or_not}
 use Rattle.lists.specs.Members.{index_of_at}
 use Rattle.lists.specs.Membership.{get_or_in}
 use Rattle.rules.specs.declared.EdgeData.{EdgeData}
 use Rattle.rules.specs.Job.{unset, Answer}
 use Rattle.rules.specs.Fans.{fan_point}
-use Rattle.rules.specs.Join.{Joining, no_edge_data, edge_data_at, ends_at, far_end, ring_of, joined_edge, join_edges, join_at, ring_at, not_singular, may_join}
+use Rattle.rules.specs.Join.{Joining, edge_data_at, ends_at, far_end, ring_of, join_edges, join_at, ring_at, not_singular, may_join}
 use Rattle.theorems.specs.Ends.{one_at, ends_one}
 use Rattle.theorems.proofs.Ends.{one_at_same, one_at_other, two_edges, one_edge}
 use Rattle.theorems.specs.Changes.{Made}
@@ -52,32 +51,24 @@ module _ (answers : List Answer) (starts : List ℕ) (es : List EdgeData) (v : �
       (λ w. gone (ring_at (bare es) a) m w.0)
       (λ w.
       kept answers starts es (set es a (ring_of d)) u (ends_elsewhere m u other w.0) (ring_elsewhere es v a u k other w.0)
-      (λ x some.
-      ⊎_elim
-      (λ q. absurd (omega (arith, ap (λ i. ends_one u (edge_data_at (set es a (ring_of d)) i)) q.0, ap (ends_one u) (get_or-set_same es a (ring_of d) no_edge_data k.inside), ring_ends d u other)))
-      (λ q. get_or-set_other es a x (ring_of d) no_edge_data q.0)
-      (equal_or_not x a))
+      (λ x some. grind (arith, common_steps, ring_ends d u other, k.inside))
       (still w.0))
       (equal_or_not u v)
 
-  pub still_join : (a b : ℕ) → ends_at es v ≡ a ∷ b ∷ [] → a < b → (u ≡ far_end v (edge_data_at es a) → ⊥) → (u ≡ far_end v (edge_data_at es b) → ⊥) → ((u ≡ v → ⊥) → Still answers starts es u)
+  pub still_join : (a b : ℕ) → ends_at es v ≡ a ∷ b ∷ [] → a < b → (u ≡ far_end v (edge_data_at es a) → ⊥) → (u ≡ far_end v (edge_data_at es b) → ⊥)
+      → ((u ≡ v → ⊥) → Still answers starts es u)
       → Still answers starts (join_edges v a b es) u
   unfolding join_at
   still_join a b e lower np nq still =
       let k = two_edges es v a b e lower in
       let p : one_at (far_end v (edge_data_at es a)) u ≡ 0 = one_at_other (far_end v (edge_data_at es a)) u (λ z. np (sym z)) in
       let q : one_at (far_end v (edge_data_at es b)) u ≡ 0 = one_at_other (far_end v (edge_data_at es b)) u (λ z. nq (sym z)) in
-      let after : ℕ → ℕ = λ x. ends_one u (edge_data_at (join_edges v a b es) x) in
       let m : Made (bare es) v (join_at (bare es) v a b) = inr (record { first = a; second = b; ends = e; lower = lower; after = refl }) in
       ⊎_elim
       (λ w. gone (join_at (bare es) v a b) m w.0)
       (λ w.
       kept answers starts es (join_edges v a b es) u (ends_elsewhere m u other w.0) (λ x. omega (arith, join_elsewhere es v a b k u w.0 0 0 p q x))
-      (λ x some.
-      other_edge es v a b k x
-      (λ z. omega (arith, ap after z, first_gone es v a b k u))
-      (λ z. omega (arith, ap after z, second_gone es v a b k u))
-      (λ z. omega (arith, ap after z, new_there es v a b k u)))
+      (λ x some. grind (arith, other_edge es v a b k x, first_gone es v a b k u, second_gone es v a b k u, new_there es v a b k u))
       (still w.0))
       (equal_or_not u v)
 
@@ -87,14 +78,7 @@ module _ (answers : List Answer) (starts : List ℕ) (es : List EdgeData) (v : �
 pub ranked_more : (names ranks : List ℕ) {ranks' : List ℕ} {i v : ℕ} → Nodup names → i < length names → v ≡ get_or names i 0 → v < length ranks → ranks' ≡ set ranks v i
     → RankedTo names ranks i → RankedTo names ranks' (i + 1)
 ranked_more names ranks {i = i} {v} nodup h ev inside er known k b =
-    elim (ℕ_discrete k i) [
-      | yes e ↦ (λ j. get_or (er j) ((ap (λ x. get_or names x 0) e ∙ sym ev) j) 0) ∙ get_or-set_same ranks v i 0 inside ∙ sym e
-      | no ne ↦
-          let c : k < i = elim (dec_lt k i) [ yes c ↦ c | no c ↦ absurd (ne (omega arith)) ] in
-          ap (λ l. get_or l (get_or names k 0) 0) er
-          ∙ get_or-set_other ranks v (get_or names k 0) i 0 (λ q. ne (sym (index_of_at names k nodup (omega arith)) ∙ ap (λ x. index_of x names) (q ∙ ev) ∙ index_of_at names i nodup h))
-          ∙ known k c
-    ]
+    ap (λ l. get_or l (get_or names k 0) 0) er ∙ grind (arith, common_steps, index_of_at names k nodup, index_of_at names i nodup h, known k)
 
 -- AFTER A CHANGE
 
@@ -132,12 +116,3 @@ module _ (answers : List Answer) (starts names : List ℕ) (fans : (x : ℕ) →
         (λ z. let here : q ≡ k = eq ∙ ap (λ x. get_or ranks x 0) (sym z) ∙ ranked k inside in omega arith)
         (still k h inside);
   }
-
--- the ends of the new edge
-pub new_start : {new : EdgeData} (x y : EdgeData) (v : ℕ) → new ≡ joined_edge v x y → new.start ≡ far_end v x
-unfolding joined_edge
-new_start x y v e = ap (λ (d : EdgeData). d.start) e
-
-pub new_end : {new : EdgeData} (x y : EdgeData) (v : ℕ) → new ≡ joined_edge v x y → new.end ≡ far_end v y
-unfolding joined_edge
-new_end x y v e = ap (λ (d : EdgeData). d.end) e

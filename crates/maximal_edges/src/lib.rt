@@ -2,32 +2,37 @@
 
 #![tactic(auto)]
 
-ghost use Rattle.std.specs.Prelude.{◌≡◌, ℕ, ◌+◌, ◌*◌, ◌<◌, ◌≤◌, ◌^◌, List, true, cond, length, get_or, set, eqb, Ok, IfOk, EachIndex};
+ghost use Rattle.std.specs.Prelude.{◌≡◌, ℕ, ◌+◌, ◌*◌, ◌<◌, ◌≤◌, ◌^◌, List, true, cond, length, get_or, set, take, eqb, Ok, IfOk, EachIndex};
 ghost use Rattle.lists.specs.Lists.{◌∈◌, Nodup};
 ghost use Rattle.rules.specs.Sense.{reverse};
 ghost use Rattle.rules.specs.Outcome.{◌>>=◌ as ◌and_then◌};
 ghost use Rattle.rules.specs.Join.{edge_data_at, singular, not_singular, may_join, joined_edge, retired as retired_edge, ring_of, maximal_edges};
-ghost use Rattle.job.specs.Lists.{answers_in};
-ghost use Rattle.answers.specs.Index.{Indexed};
-ghost use Rattle.edges.specs.Table.{rows_in, Laid};
-ghost use Rattle.links.specs.Tables.{links_of};
+ghost use Rattle.edges.specs.Table.{Laid};
 ghost use Rattle.links.specs.JoinLinks.{Joinable};
-ghost use Rattle.links.specs.Lay.{laid_out};
+ghost use Rattle.links.specs.Lay.{laid_by};
 ghost use Rattle.theorems.specs.Ends.{ends_one};
-ghost use Rattle.maximal_edges.specs.Joined.{edges_in, state_in, Fitting, Ran, Blank, Tabled, EndCounted, lows_after};
-ghost use Rattle.maximal_edges.specs.Joined.{may_change, change_at, try_corner, StillBut, next_after, after_ring, after_join, Ranked, Swept};
-ghost use Rattle.maximal_edges.specs.Hung.{SoundIn, LinksFit, JoinedIn, Hung};
-ghost use Rattle.maximal_edges.specs.CountLaws.{Counted};
+ghost use Rattle.maximal_edges.specs.Joined.{state_in, Fitting, Ran, no_corner, corner_at, one_more, count_end, given_way, give_way, Blank, Tabled, Counted};
+ghost use Rattle.maximal_edges.specs.Joined.{may_change, change_at, try_corner, StillBut, next_after, after_ring, after_join, Ranked, Swept, JoinedAt};
+ghost use Rattle.maximal_edges.specs.Hung.{SoundIn, Hung};
 
-use edges::{edge_active, edge_at, edge_end, edge_start, put_edge};
-use fields::{get, put};
-use rules::{Counts, EdgeData, Refusal, Sense};
+use edges::edge_at;
+use fields::{Span, entry, get, put, put_entry};
+use links::Links;
+use loaded::Loaded;
+use rules::{EdgeData, Kind, Refusal, Sense};
 
-// A change at the corner that its first number names: an edge becomes a ring, or two edges become one.
+// A change at a corner: an edge becomes a ring, or two edges become one.
 #[derive(Clone, Copy)]
-pub enum Change {
-    Ring(usize, usize),
-    Join(usize, usize, usize),
+enum Change {
+    Ring {
+        corner: usize,
+        edge: usize,
+    },
+    Join {
+        corner: usize,
+        low: usize,
+        high: usize,
+    },
 }
 
 // How many edges there are, and how many joins and rings made them so.
@@ -38,78 +43,106 @@ pub struct Joins {
     pub rings: usize,
 }
 
-// ENDS
+// What does not change in a run: the job, the point of each fan, and the fans, ascending.
+#[derive(Clone, Copy)]
+struct Run<'a> {
+    job: &'a Loaded<'a>,
+    points: &'a [u32],
+    names: &'a [u32],
+}
+
+// What is known of a fan: how many active edge ends there are; and where there are exactly two, the lower and the higher
+// edge that they are of.
+#[derive(Clone, Copy)]
+struct Corner {
+    ends: u32,
+    low: u32,
+    high: u32,
+}
+
+// A fan at which no end was counted.
+const NO_CORNER: Corner = Corner {
+    ends: 0,
+    low: 0,
+    high: 0,
+};
+
+// CORNERS
 
 // The active ends of edge e at corner v: 0, 1 or 2.
 #[tactic(auto, unfolding(theorems::specs::Ends::ends_one))]
-fn ends_of(rows: &[u32], e: usize, v: usize) -> usize
-    ensures { (result ≡ ends_one v (edge_data_at (rows_in rows.now) e)) × (result ≤ 2) }
+fn ends_of(rows: &[EdgeData], e: usize, v: usize) -> usize
+    ensures { (result ≡ ends_one v (edge_data_at rows.now e)) × (result ≤ 2) }
 {
-    if edge_active(rows, e) {
-        return usize::from(edge_start(rows, e) == v) + usize::from(edge_end(rows, e) == v);
+    let edge = edge_at(rows, e);
+    if edge.active {
+        return usize::from(edge.start as usize == v) + usize::from(edge.end as usize == v);
     }
     0
 }
 
-// Edge e is the lowest at fan v, where n ends were counted before.
-fn note_lowest(lows: &mut [u32], v: usize, e: usize, n: usize)
-    requires { e < 4294967296 }
-    ensures { lows.new ≡ cond (eqb n 0) (set lows.old v e) lows.old }
+// What is known of fan v.
+fn corner_at(corners: &[Corner], v: usize) -> Corner
+    ensures { result ≡ corner_at corners.now v }
 {
-    if n == 0 {
-        put(lows, v, e);
+    entry(corners, v, NO_CORNER)
+}
+
+// One end more at a corner, of edge e, the highest so far.
+fn one_more(e: usize, c: Corner) -> Corner
+    requires { (c.ends < 4294967295) × (e < 4294967296) }
+    ensures { result ≡ one_more e c }
+{
+    let low = if c.ends == 0 { e as u32 } else { c.low };
+    Corner {
+        ends: c.ends + 1,
+        low,
+        high: e as u32,
     }
 }
 
-// One end more at fan v, of edge e, the highest so far.
-fn count_end(ends: &mut [u32], lows: &mut [u32], highs: &mut [u32], v: usize, e: usize)
-    requires { (get_or ends.old v 0 < 4294967295) × (e < 4294967296) }
-    ensures { EndCounted v e ends.old lows.old highs.old ends.new lows.new highs.new }
+// The same at fan v.
+fn count_end(corners: &mut [Corner], v: usize, e: usize)
+    requires { ((corner_at corners.old v).ends < 4294967295) × (e < 4294967296) }
+    ensures { corners.new ≡ count_end v e corners.old }
 {
-    let n = get(ends, v);
-    note_lowest(lows, v, e, n);
-    put(highs, v, e);
-    put(ends, v, n + 1);
+    let c = corner_at(corners, v);
+    put_entry(corners, v, one_more(e, c));
 }
 
 // The ends of edge e.
-fn count_edge(rows: &[u32], ends: &mut [u32], lows: &mut [u32], highs: &mut [u32], e: usize)
-    requires { Counted (rows_in rows.now) ends.old lows.old highs.old e × (e < length (rows_in rows.now)) × (e < 2048) }
-    ensures { Counted (rows_in rows.now) ends.new lows.new highs.new (e + 1) }
+#[tactic(auto, using(crate::specs::CountLaws::counted_active, crate::specs::CountLaws::counted_idle))]
+fn count_edge(rows: &[EdgeData], corners: &mut [Corner], e: usize)
+    requires { Counted rows.now corners.old e × (e < length rows.now) × (e < 2048) }
+    ensures { Counted rows.now corners.new (e + 1) }
 {
-    if edge_active(rows, e) {
-        count_end(ends, lows, highs, edge_start(rows, e), e);
-        count_end(ends, lows, highs, edge_end(rows, e), e);
+    let edge = edge_at(rows, e);
+    if edge.active {
+        count_end(corners, edge.start as usize, e);
+        count_end(corners, edge.end as usize, e);
     }
 }
 
-// The number of active edge ends at each fan, and the lowest and the highest edge there; the tables are all 0 at first.
-fn count_ends(rows: &[u32], ends: &mut [u32], lows: &mut [u32], highs: &mut [u32])
-    requires { (length rows.now ≤ 14336) × Blank ends.old lows.old highs.old }
-    ensures { Tabled (rows_in rows.now) ends.new lows.new highs.new }
+// The active edge ends at each fan; none is counted at first.
+#[tactic(auto, using(crate::specs::CountLaws::counted_all), unfolding(rules::specs::Join::ends_from))]
+fn count_ends(rows: &[EdgeData], corners: &mut [Corner])
+    requires { (length rows.now ≤ 2048) × Blank corners.old }
+    ensures { Tabled rows.now corners.new }
 {
-    for e in 0..rows.len() / 7 {
-        count_edge(rows, ends, lows, highs, e);
+    for e in 0..rows.len() {
+        count_edge(rows, corners, e);
     }
 }
 
 // QUESTIONS AT A CORNER
 
 // Kind 11 for an edge, at a point.
-fn singular(
-    job: &[u8],
-    index: &[u32],
-    c: Counts,
-    e: EdgeData,
-    point: usize,
-) -> Result<bool, Refusal>
-    requires { Indexed job.now index.now c × (point < 4294967296) }
-    ensures { result ≡ singular (answers_in job.now index.now c) e point }
+fn singular(job: &Loaded<'_>, e: EdgeData, point: usize) -> Result<bool, Refusal>
+    requires { point < 4294967296 }
+    ensures { result ≡ singular job.now.answers e point }
 {
     ask::ask_singular(
         job,
-        index,
-        c,
         e.curve as usize,
         e.faces[0] as usize,
         e.faces[1] as usize,
@@ -118,41 +151,28 @@ fn singular(
 }
 
 // An edge is not singular at a point.
-fn not_singular(
-    job: &[u8],
-    index: &[u32],
-    c: Counts,
-    e: EdgeData,
-    point: usize,
-) -> Result<bool, Refusal>
-    requires { Indexed job.now index.now c × (point < 4294967296) }
-    ensures { result ≡ not_singular (answers_in job.now index.now c) e point }
+fn not_singular(job: &Loaded<'_>, e: EdgeData, point: usize) -> Result<bool, Refusal>
+    requires { point < 4294967296 }
+    ensures { result ≡ not_singular job.now.answers e point }
 {
-    let yes = singular(job, index, c, e, point)?;
+    let yes = singular(job, e, point)?;
     Ok(!yes)
 }
 
 // Two edges need equal face pairs, then same curve, then not singular for the first.
-#[tactic(auto, using(crate::specs::SweepLaws::pointwise_same), unfolding(rules::specs::Join::may_join))]
-fn may_join(
-    job: &[u8],
-    index: &[u32],
-    c: Counts,
-    a: EdgeData,
-    b: EdgeData,
-    point: usize,
-) -> Result<bool, Refusal>
-    requires { Indexed job.now index.now c × (point < 4294967296) }
-    ensures { result ≡ may_join (answers_in job.now index.now c) a b point }
+#[tactic(auto, using(crate::specs::SweepLaws::pointwise_same), unfolding(rules::specs::Join::may_join, rules::specs::Kinds::number_of))]
+fn may_join(job: &Loaded<'_>, a: EdgeData, b: EdgeData, point: usize) -> Result<bool, Refusal>
+    requires { point < 4294967296 }
+    ensures { result ≡ may_join job.now.answers a b point }
 {
     if a.faces != b.faces {
         return Ok(false);
     }
-    let same_curve = ask::ask_same(job, index, c, 10, a.curve as usize, b.curve as usize)?;
+    let same_curve = ask::ask_same(job, Kind::Curves, a.curve as usize, b.curve as usize)?;
     if !same_curve {
         return Ok(false);
     }
-    not_singular(job, index, c, a, point)
+    not_singular(job, a, point)
 }
 
 // The ring of edge a at corner v, or the join of edges a and b.
@@ -160,45 +180,43 @@ fn change_at(v: usize, a: usize, b: usize) -> Change
     ensures { result ≡ change_at v a b }
 {
     if a == b {
-        return Change::Ring(v, a);
+        return Change::Ring { corner: v, edge: a };
     }
-    Change::Join(v, a, b)
+    Change::Join {
+        corner: v,
+        low: a,
+        high: b,
+    }
 }
 
 // One edge with both ends at a corner, or two edges.
 fn may_change(
-    job: &[u8],
-    index: &[u32],
-    c: Counts,
-    rows: &[u32],
+    job: &Loaded<'_>,
+    rows: &[EdgeData],
     a: usize,
     b: usize,
     point: usize,
 ) -> Result<bool, Refusal>
-    requires { Indexed job.now index.now c × (point < 4294967296) }
-    ensures { result ≡ may_change (answers_in job.now index.now c) (rows_in rows.now) a b point }
+    requires { point < 4294967296 }
+    ensures { result ≡ may_change job.now.answers rows.now a b point }
 {
     if a == b {
-        return not_singular(job, index, c, edge_at(rows, a), point);
+        return not_singular(job, edge_at(rows, a), point);
     }
-    may_join(job, index, c, edge_at(rows, a), edge_at(rows, b), point)
+    may_join(job, edge_at(rows, a), edge_at(rows, b), point)
 }
 
 // Corner v with the active ends of edges a and b.
 fn try_corner(
-    job: &[u8],
-    index: &[u32],
-    c: Counts,
-    starts: &[u32],
-    rows: &[u32],
+    run: &Run<'_>,
+    rows: &[EdgeData],
     v: usize,
     a: usize,
     b: usize,
 ) -> Result<Option<Change>, Refusal>
-    requires { Indexed job.now index.now c }
-    ensures { result ≡ try_corner (answers_in job.now index.now c) starts.now (rows_in rows.now) v a b }
+    ensures { result ≡ try_corner run.now.job.now.answers run.now.points.now rows.now v a b }
 {
-    let yes = may_change(job, index, c, rows, a, b, get(starts, v))?;
+    let yes = may_change(run.job, rows, a, b, get(run.points, v))?;
     Ok(yes.then_some(change_at(v, a, b)))
 }
 
@@ -255,37 +273,32 @@ fn after_join(from: Resume, ranks: &[u32], v: usize, e: EdgeData) -> Resume
 // One sweep over the corners, which stops at its first change; it passes over those that are known to be still. The edges
 // of a corner are its lower one, then its higher one, until two ends are seen: one edge may have both.
 fn sweep(
-    job: &[u8],
-    index: &[u32],
-    c: Counts,
-    starts: &[u32],
-    names: &[u32],
-    rows: &[u32],
-    ends: &[u32],
-    lows: &[u32],
-    highs: &[u32],
+    run: &Run<'_>,
+    rows: &[EdgeData],
+    corners: &[Corner],
     from: Resume,
 ) -> Result<Option<Change>, Refusal>
-    requires indexed { Indexed job.now index.now c }
-    requires tabled { Tabled (rows_in rows.now) ends.now lows.now highs.now }
-    requires fans { (v : ℕ) → v ∈ names.now → v < length ends.now }
-    requires known { StillBut (answers_in job.now index.now c) starts.now names.now (rows_in rows.now) from }
-    ensures { Swept (answers_in job.now index.now c) starts.now names.now (rows_in rows.now) from result }
+    requires tabled { Tabled rows.now corners.now }
+    requires inside { (v : ℕ) → v ∈ run.now.names.now → v < length corners.now }
+    requires known { StillBut run.now.job.now.answers run.now.points.now run.now.names.now rows.now from }
+    ensures { Swept run.now.job.now.answers run.now.points.now run.now.names.now rows.now from result }
 {
     let mut change = None;
     let mut i = from.low;
-    'corners: while i < names.len() {
-        let v = get(names, i);
+    // No counting loop: `next_after` jumps over corners that are known to be still.
+    'corners: while i < run.names.len() {
+        let v = get(run.names, i);
         i = next_after(from, i);
-        if get(ends, v) == 2 {
-            let a = get(lows, v);
+        let corner = corner_at(corners, v);
+        if corner.ends == 2 {
+            let a = corner.low as usize;
             let mut seen: usize = 0;
-            'edges: for e in [a, get(highs, v)] {
+            'edges: for e in [a, corner.high as usize] {
                 seen += ends_of(rows, e, v);
                 if seen != 2 {
                     continue 'edges;
                 }
-                change = try_corner(job, index, c, starts, rows, v, a, e)?;
+                change = try_corner(run, rows, v, a, e)?;
                 if change.is_none() {
                     continue 'corners;
                 }
@@ -361,108 +374,92 @@ fn ring_of(e: EdgeData) -> EdgeData
 }
 
 // Edge a, of n edges, with both ends at corner v becomes a ring.
-fn ring_at(rows: &mut [u32], n: usize, ends: &mut [u32], v: usize, a: usize)
-    requires { (7 * n ≤ length rows.old) × (n < 2048) × (a < n) }
-    ensures { (edges_in rows.new n ≡ set (edges_in rows.old n) a (ring_of (edge_data_at (edges_in rows.old n) a))) × (ends.new ≡ set ends.old v 0) }
+#[tactic(auto, using(crate::specs::ChangeLaws::stores))]
+fn ring_at(rows: &mut [EdgeData], n: usize, corners: &mut [Corner], v: usize, a: usize)
+    requires { (n ≤ length rows.old) × (a < n) }
+    ensures { (take n rows.new ≡ set (take n rows.old) a (ring_of (edge_data_at (take n rows.old) a))) × (corners.new ≡ set corners.old v no_corner) }
 {
-    let x = edge_at(&rows[..7 * n], a);
-    put_edge(rows, a, ring_of(x));
-    put(ends, v, 0);
+    let x = edge_at(&rows[..n], a);
+    put_entry(rows, a, ring_of(x));
+    put_entry(corners, v, NO_CORNER);
 }
 
-// At fan v the edge h is the lower one where edge a was.
-fn replace_low(lows: &mut [u32], v: usize, a: usize, h: usize)
-    requires { h < 4294967296 }
-    ensures { lows.new ≡ cond (eqb (get_or lows.old v 0) a) (set lows.old v h) lows.old }
+// Of the two edges at a corner, edge a gives way to edge n, which is the higher one then.
+fn given_way(a: usize, n: usize, c: Corner) -> Corner
+    requires { n < 4294967296 }
+    ensures { result ≡ given_way a n c }
 {
-    if get(lows, v) == a {
-        put(lows, v, h);
+    let low = if c.low as usize == a { c.high } else { c.low };
+    Corner {
+        low,
+        high: n as u32,
+        ..c
     }
 }
 
-// Of the two edges at fan v, edge a gives way to edge n, which is the higher one then.
-fn replace_end(lows: &mut [u32], highs: &mut [u32], v: usize, a: usize, n: usize)
+// The same at fan v.
+fn give_way(corners: &mut [Corner], v: usize, a: usize, n: usize)
     requires { n < 4294967296 }
-    ensures { (lows.new ≡ lows_after lows.old highs.old v a) × (highs.new ≡ set highs.old v n) }
+    ensures { corners.new ≡ give_way v a n corners.old }
 {
-    replace_low(lows, v, a, get(highs, v));
-    put(highs, v, n);
+    let c = corner_at(corners, v);
+    put_entry(corners, v, given_way(a, n, c));
 }
 
 // The join of edges a and b, of n edges, at corner v; the new edge is numbered last.
-fn join_at(
-    rows: &mut [u32],
+fn join_at<const SLOTS: usize, const CODES: usize>(
+    rows: &mut [EdgeData],
     n: usize,
-    list: &mut [u32],
-    nexts: &mut [u32],
-    heads: &mut [u32],
-    owners: &[u32],
-    spots: &mut [u32],
-    stretches: &mut [u32],
-    ends: &mut [u32],
-    lows: &mut [u32],
-    highs: &mut [u32],
+    links: &mut Links<SLOTS, CODES>,
+    corners: &mut [Corner],
     v: usize,
     a: usize,
     b: usize,
 ) -> EdgeData
-    requires room { 7 * n + 7 ≤ length rows.old }
+    requires room { n < length rows.old }
     requires few { n < 2048 }
     requires lower { a < b }
     requires inside { b < n }
-    requires joinable { Joinable (edges_in rows.old n) v a b n (links_of list.old nexts.old heads.old owners.now spots.old stretches.old) }
-    ensures { JoinedIn n v a b rows.old (links_of list.old nexts.old heads.old owners.now spots.old stretches.old) ends.old lows.old highs.old
-        rows.new (links_of list.new nexts.new heads.new owners.now spots.new stretches.new) ends.new lows.new highs.new result }
+    requires joinable { Joinable (take n rows.old) v a b n links.old }
+    ensures { JoinedAt n v a b rows.old links.old corners.old rows.new links.new corners.new result }
 {
-    let x = edge_at(&rows[..7 * n], a);
-    let y = edge_at(&rows[..7 * n], b);
-    let part = &rows[..7 * n];
-    links::join_places(
-        part, list, nexts, heads, owners, spots, stretches, v, a, b, n,
-    );
-    put_edge(rows, a, retired(x));
-    put_edge(rows, b, retired(y));
+    let part = &rows[..n];
+    let x = edge_at(part, a);
+    let y = edge_at(part, b);
+    links.join_places(part, v, a, b, n);
+    put_entry(rows, a, retired(x));
+    put_entry(rows, b, retired(y));
     let e = joined_edge(v, x, y);
-    put_edge(rows, n, e);
-    put(ends, v, 0);
-    replace_end(lows, highs, e.start as usize, a, n);
-    replace_end(lows, highs, e.end as usize, b, n);
+    put_entry(rows, n, e);
+    put_entry(corners, v, NO_CORNER);
+    give_way(corners, e.start as usize, a, n);
+    give_way(corners, e.end as usize, b, n);
     e
 }
 
 // After a change the sweep begins afresh, up to a sweep without change. What was tried in vain before is tried again only at
 // the far ends of a join: nowhere else can something have changed.
-fn join_all(
-    job: &[u8],
-    index: &[u32],
-    c: Counts,
-    starts: &[u32],
-    names: &[u32],
+fn join_all<const SLOTS: usize, const CODES: usize>(
+    run: &Run<'_>,
     ranks: &[u32],
-    ends: &mut [u32],
-    lows: &mut [u32],
-    highs: &mut [u32],
-    rows: &mut [u32],
+    corners: &mut [Corner],
+    rows: &mut [EdgeData],
     count: usize,
-    list: &mut [u32],
-    nexts: &mut [u32],
-    heads: &mut [u32],
-    owners: &[u32],
-    spots: &mut [u32],
+    links: &mut Links<SLOTS, CODES>,
     items: &mut [u32],
-    stretches: &mut [u32],
+    stretches: &mut [Span],
 ) -> Result<Joins, Refusal>
-    requires indexed { Indexed job.now index.now c }
-    requires room { 14 * count ≤ length rows.old }
+    requires room { 2 * count ≤ length rows.old }
     requires count_few { count ≤ 1024 }
     requires laid { Laid stretches.old items.old }
-    requires tabled { Tabled (edges_in rows.old count) ends.old lows.old highs.old }
-    requires nodup { Nodup names.now }
-    requires fans { (v : ℕ) → v ∈ names.now → v < length ends.old }
-    requires ranked { Ranked names.now ranks.now }
-    requires hung { Hung (edges_in rows.old count) (links_of list.old nexts.old heads.old owners.now spots.old stretches.old) }
-    requires linked { laid_out list.old nexts.old heads.old stretches.old items.old ≡ items.old }
-    ensures { Ran (answers_in job.now index.now c) starts.now names.now rows.old count items.old stretches.old rows.new items.new stretches.new result }
+    requires tabled { Tabled (take count rows.old) corners.old }
+    requires nodup { Nodup run.now.names.now }
+    requires inside { (v : ℕ) → v ∈ run.now.names.now → v < length corners.old }
+    requires ranked { Ranked run.now.names.now ranks.now }
+    requires hung { Hung (take count rows.old) links.old }
+    requires linked { laid_by links.old items.old ≡ items.old }
+    requires own { links.old.stretches ≡ stretches.old }
+    ensures { Ran run.now.job.now.answers run.now.points.now run.now.names.now rows.old count items.old stretches.old rows.new items.new stretches.new result }
 {
     let mut made = Joins {
         edges: count,
@@ -470,129 +467,57 @@ fn join_all(
         rings: 0,
     };
     let mut from = Resume::default();
-    'sweeps: while let Some(change) = sweep(
-        job,
-        index,
-        c,
-        starts,
-        names,
-        &rows[..7 * made.edges],
-        ends,
-        lows,
-        highs,
-        from,
-    )? {
+    'sweeps: while let Some(change) = sweep(run, &rows[..made.edges], corners, from)? {
         match change {
-            Change::Ring(v, a) => {
-                ring_at(rows, made.edges, ends, v, a);
-                from = after_ring(from, ranks, v);
+            Change::Ring { corner, edge } => {
+                ring_at(rows, made.edges, corners, corner, edge);
+                from = after_ring(from, ranks, corner);
                 made.rings += 1;
             }
-            Change::Join(v, a, b) => {
-                let e = join_at(
-                    rows, made.edges, list, nexts, heads, owners, spots, stretches, ends, lows,
-                    highs, v, a, b,
-                );
-                from = after_join(from, ranks, v, e);
+            Change::Join { corner, low, high } => {
+                let e = join_at(rows, made.edges, links, corners, corner, low, high);
+                from = after_join(from, ranks, corner, e);
                 made.edges += 1;
                 made.joins += 1;
             }
         }
     }
-    links::lay_loops(list, nexts, heads, stretches, items);
+    links.lay_loops(items);
+    stretches.copy_from_slice(links.stretches());
     Ok(made)
 }
 
-// The same, with tables for the fans that are still blank.
-fn join_with(
-    job: &[u8],
-    index: &[u32],
-    c: Counts,
-    starts: &[u32],
-    names: &[u32],
-    ranks: &mut [u32],
-    ends: &mut [u32],
-    lows: &mut [u32],
-    highs: &mut [u32],
-    rows: &mut [u32],
+// The same, with tables for as many fans, items and loops as there are slots, and for the numbers of so many items.
+fn join_in<const SLOTS: usize, const CODES: usize>(
+    run: &Run<'_>,
+    rows: &mut [EdgeData],
     count: usize,
-    list: &mut [u32],
-    nexts: &mut [u32],
-    heads: &mut [u32],
-    owners: &mut [u32],
-    spots: &mut [u32],
     items: &mut [u32],
-    stretches: &mut [u32],
+    stretches: &mut [Span],
 ) -> Result<Joins, Refusal>
-    requires indexed { Indexed job.now index.now c }
-    requires room { 14 * count ≤ length rows.old }
+    requires room { 2 * count ≤ length rows.old }
     requires count_few { count ≤ 1024 }
     requires laid { Laid stretches.old items.old }
-    requires nodup { Nodup names.now }
-    requires fans { (v : ℕ) → v ∈ names.now → v < length ends.old }
-    requires blank { Blank ends.old lows.old highs.old }
-    requires ranks_size { length ranks.old ≡ length ends.old }
-    requires links_fit { LinksFit rows.old count items.old stretches.old list.old nexts.old heads.old owners.old spots.old }
-    ensures { Ran (answers_in job.now index.now c) starts.now names.now rows.old count items.old stretches.old rows.new items.new stretches.new result }
+    requires nodup { Nodup run.now.names.now }
+    requires inside { (v : ℕ) → v ∈ run.now.names.now → v < SLOTS }
+    requires sound { SoundIn rows.old count items.old stretches.old SLOTS }
+    requires small { SLOTS ≤ 2048 }
+    requires twice { CODES ≡ 2 * SLOTS }
+    ensures { Ran run.now.job.now.answers run.now.points.now run.now.names.now rows.old count items.old stretches.old rows.new items.new stretches.new result }
 {
-    count_ends(&rows[..7 * count], ends, lows, highs);
-    rank(names, ranks);
-    links::link_loops(items, stretches, list, nexts, heads, owners, spots);
+    let mut corners = [NO_CORNER; SLOTS];
+    count_ends(&rows[..count], &mut corners);
+    let mut ranks = [0u32; SLOTS];
+    rank(run.names, &mut ranks);
+    let mut links = Links::<SLOTS, CODES>::new();
+    links.link(items, stretches);
     join_all(
-        job, index, c, starts, names, ranks, ends, lows, highs, rows, count, list, nexts, heads,
-        owners, spots, items, stretches,
-    )
-}
-
-// The same, with tables of their own for so many fans, and twice as many spots.
-fn join_in<const N: usize, const M: usize>(
-    job: &[u8],
-    index: &[u32],
-    c: Counts,
-    starts: &[u32],
-    names: &[u32],
-    rows: &mut [u32],
-    count: usize,
-    items: &mut [u32],
-    stretches: &mut [u32],
-) -> Result<Joins, Refusal>
-    requires indexed { Indexed job.now index.now c }
-    requires room { 14 * count ≤ length rows.old }
-    requires count_few { count ≤ 1024 }
-    requires laid { Laid stretches.old items.old }
-    requires nodup { Nodup names.now }
-    requires fans { (v : ℕ) → v ∈ names.now → v < N }
-    requires sound { SoundIn rows.old count items.old stretches.old N }
-    requires small { N ≤ 2048 }
-    requires twice { M ≡ 2 * N }
-    ensures { Ran (answers_in job.now index.now c) starts.now names.now rows.old count items.old stretches.old rows.new items.new stretches.new result }
-{
-    let mut ranks = [0u32; N];
-    let mut ends = [0u32; N];
-    let mut lows = [0u32; N];
-    let mut highs = [0u32; N];
-    let mut list = [0u32; N];
-    let mut nexts = [0u32; N];
-    let mut heads = [0u32; N];
-    let mut owners = [0u32; N];
-    let mut spots = [0u32; M];
-    join_with(
-        job,
-        index,
-        c,
-        starts,
-        names,
-        &mut ranks,
-        &mut ends,
-        &mut lows,
-        &mut highs,
+        run,
+        &ranks,
+        &mut corners,
         rows,
         count,
-        &mut list,
-        &mut nexts,
-        &mut heads,
-        &mut owners,
-        &mut spots,
+        &mut links,
         items,
         stretches,
     )
@@ -600,37 +525,41 @@ fn join_in<const N: usize, const M: usize>(
 
 // Fans, edges, items and loops fit the small tables.
 fn is_small(names: &[u32], count: usize, items: usize, stretches: usize) -> bool
-    ensures { result ≡ true → EachIndex names.now (λ k. get_or names.now k 0 < 64) × (2 * count ≤ 64) × (items ≤ 64) × (stretches ≤ 128) }
+    ensures { result ≡ true → EachIndex names.now (λ k. get_or names.now k 0 < 64) × (2 * count ≤ 64) × (items ≤ 64) × (stretches ≤ 64) }
 {
-    count <= 32 && items <= 64 && stretches <= 128 && names.iter().all(|v| *v < 64)
+    count <= 32 && items <= 64 && stretches <= 64 && names.iter().all(|v| *v < 64)
 }
 
 // The edges joined: corners with exactly two active edge ends are taken away until no sweep changes anything.
+// The tables are lent one by one, here and in `join_in` and `join_all`: of a struct that lends them, a contract could not say
+// that they are the same tables afterwards.
 pub fn maximal_edges(
-    job: &[u8],
-    index: &[u32],
-    c: Counts,
+    job: &Loaded<'_>,
     starts: &[u32],
     names: &[u32],
-    rows: &mut [u32],
+    rows: &mut [EdgeData],
     count: usize,
     items: &mut [u32],
-    stretches: &mut [u32],
+    stretches: &mut [Span],
 ) -> Result<Joins, Refusal>
-    requires indexed { Indexed job.now index.now c }
-    requires room { 14 * count ≤ length rows.old }
+    requires room { 2 * count ≤ length rows.old }
     requires count_few { count ≤ 1024 }
     requires laid { Laid stretches.old items.old }
     requires nodup { Nodup names.now }
     requires fans { (v : ℕ) → v ∈ names.now → v < 2048 }
     requires sound { SoundIn rows.old count items.old stretches.old 2048 }
-    ensures run { (faces : List ℕ) → 2 * length faces ≤ length stretches.old
+    ensures run { (faces : List ℕ) → length faces ≤ length stretches.old
         → (result and_then λ k. Ok (state_in rows.new k.edges items.new stretches.new faces k.joins k.rings))
-        ≡ maximal_edges (answers_in job.now index.now c) starts.now names.now (length names.now) (state_in rows.old count items.old stretches.old faces 0 0) }
+        ≡ maximal_edges job.now.answers starts.now names.now (length names.now) (state_in rows.old count items.old stretches.old faces 0 0) }
     ensures fitting { IfOk result (λ k. Fitting names.now rows.new items.new stretches.new k) }
 {
+    let run = Run {
+        job,
+        points: starts,
+        names,
+    };
     if is_small(names, count, items.len(), stretches.len()) {
-        return join_in::<64, 128>(job, index, c, starts, names, rows, count, items, stretches);
+        return join_in::<64, 128>(&run, rows, count, items, stretches);
     }
-    join_in::<2048, 4096>(job, index, c, starts, names, rows, count, items, stretches)
+    join_in::<2048, 4096>(&run, rows, count, items, stretches)
 }

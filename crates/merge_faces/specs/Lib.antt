@@ -1,4 +1,4 @@
-pub mod Flags
+pub mod FaceTables
 pub mod Merging
 pub mod MergingLaws
 pub mod Removing

@@ -1,5 +1,5 @@
 -- What one step of merging answers, as outcomes of the definitions.
-use Rattle.std.specs.Prelude.{ℕ, ◌+◌, ◌≤◌, ◌≡◌, cond}
+use Rattle.std.specs.Prelude.{ℕ, ◌+◌, ◌≡◌, cond}
 use mathlib.Core.List.{List, foldl}
 use Rattle.lists.specs.Lists.{below}
 use Rattle.rules.specs.declared.Face.{Face}
@@ -19,13 +19,16 @@ pub record JoinedPairs (us : List Use) (ts : List ℕ) (n : ℕ) (before after :
   pub ordered : Ordered after
   pub stands : (g : List ℕ) → Stands before g → Stands after (foldl (boundary_step us ts) g (below n))
 
--- an outcome that was reached from s by at most one join: its groups as a table of parents, or the refusal
-abbrev pub MergedTo : Outcome ℕ → List ℕ → Grouping → Outcome Grouping → Type 0
-MergedTo (Ok k) parents s o = (g : List ℕ) × (o ≡ Ok (record { groups = g; joins = s.joins + k })) × Stands parents g × (k ≤ 1)
-MergedTo (Err refusal) parents s o = o ≡ Err refusal
+-- a step of the code beside that of the definitions, from groups with so many joins: both refuse alike, or the parents stand for
+-- the groups after it
+abbrev pub MergedTo : Outcome ℕ → List ℕ → ℕ → Outcome Grouping → Type 0
+MergedTo (Ok k) parents joins (Ok g) = Stands parents g.groups × (g.joins ≡ joins + k)
+MergedTo (Ok k) parents joins (Err q) = ⊥
+MergedTo (Err r) parents joins (Ok g) = ⊥
+MergedTo (Err r) parents joins (Err q) = r ≡ q
 
 -- the groups after the surface answer v about faces a and b
-unfoldable pub answered_step : List Face → ℕ → ℕ → SurfaceAnswer → Grouping → Outcome Grouping
+abbrev pub answered_step : List Face → ℕ → ℕ → SurfaceAnswer → Grouping → Outcome Grouping
 answered_step fs a b v g =
     joins_faces full_table (same_sense (stored_sense (face_at fs a)) (stored_sense (face_at fs b))) v >>= λ yes.
     Ok (cond yes (join_groups g a b) g)

@@ -2,23 +2,26 @@
 
 #![tactic(auto)]
 
-ghost use Rattle.std.specs.Prelude.{◌≡◌, ◌+◌, ◌≤◌, ◌<◌, length, take};
+ghost use Rattle.std.specs.Prelude.{◌≡◌, ◌+◌, ◌≤◌, ◌<◌, length, take, IfOk};
 ghost use Rattle.lists.specs.Lists.{keep};
 ghost use Rattle.rules.specs.Outcome.{◌>>=◌ as ◌and_then◌};
-ghost use Rattle.rules.specs.Read.{face_of_use};
+ghost use Rattle.rules.specs.Sense.{same_sense};
+ghost use Rattle.rules.specs.Job.{face_at};
+ghost use Rattle.rules.specs.Read.{face_of_use, stored_sense};
 ghost use Rattle.rules.specs.Groups.{Grouping, lowest_members, group_numbers, Lowest};
 ghost use Rattle.rules.specs.Rules.{full_table};
 ghost use Rattle.rules.specs.Merge.{boundaries as boundaries_of, other_face, joins_faces, merge_step, merged_groups, removes, removed_uses};
-ghost use Rattle.job.specs.Lists.{faces_in, answers_in};
-ghost use Rattle.uses.specs.Table.{uses_in};
 ghost use Rattle.groups.specs.Parents.{Ordered, Stands};
-ghost use Rattle.answers.specs.Index.{Indexed};
 ghost use Rattle.merge_faces.specs.Merging.{MergedTo, answered_step, JoinedPairs};
-ghost use Rattle.merge_faces.specs.Numbering.{Numbering};
+ghost use Rattle.merge_faces.specs.Numbering.{MembersBelow, NumbersBelow};
 
+mod faces;
+
+pub use faces::{Faces, merge_faces};
 use fields::{get, put};
 use groups::{Groups, join, join_in};
-use rules::{Counts, Fault, Refusal, SurfaceAnswer};
+use loaded::Loaded;
+use rules::{Fault, Kind, Refusal, SurfaceAnswer, Use};
 use uses::use_face;
 
 // BOUNDARIES
@@ -31,8 +34,8 @@ struct TwoFaces {
 }
 
 // The face of use h, and that of its twin.
-fn sides(uses: &[u32], twins: &[u32], h: usize) -> TwoFaces
-    ensures { (result.face ≡ face_of_use (uses_in uses.now) h) × (result.other ≡ other_face (uses_in uses.now) twins.now h) }
+fn sides(uses: &[Use], twins: &[u32], h: usize) -> TwoFaces
+    ensures { (result.face ≡ face_of_use uses.now h) × (result.other ≡ other_face uses.now twins.now h) }
 {
     let t = get(twins, h);
     TwoFaces {
@@ -41,13 +44,13 @@ fn sides(uses: &[u32], twins: &[u32], h: usize) -> TwoFaces
     }
 }
 
-// The faces of the first n twin pairs join.
-pub fn join_pairs(g: Groups, uses: &[u32], twins: &[u32], n: usize) -> Groups
+// The faces of every twin pair join.
+fn join_pairs(g: Groups, uses: &[Use], twins: &[u32]) -> Groups
     requires { Ordered g.parents }
-    ensures { JoinedPairs (uses_in uses.now) twins.now n g.parents result.parents }
+    ensures { JoinedPairs uses.now twins.now (length uses.now) g.parents result.parents }
 {
     let mut groups = g;
-    for h in 0..n {
+    for h in 0..uses.len() {
         let s = sides(uses, twins, h);
         // boundaries count no joins
         let _separate = join(&mut groups, s.face, s.other);
@@ -55,68 +58,76 @@ pub fn join_pairs(g: Groups, uses: &[u32], twins: &[u32], n: usize) -> Groups
     groups
 }
 
-// The faces of every twin pair join. Each face's label in the end.
-pub fn boundaries(uses: &[u32], twins: &[u32], labels: &mut [u32])
+// Each face's label after the faces of every twin pair joined.
+pub fn boundaries(uses: &[Use], twins: &[u32], labels: &mut [u32])
     requires { length labels.old ≤ 256 }
-    ensures { labels.new ≡ boundaries_of (uses_in uses.now) twins.now (length labels.old) }
+    ensures { labels.new ≡ boundaries_of uses.now twins.now (length labels.old) }
 {
     let alone = groups::new(labels.len());
-    let joined = join_pairs(alone, uses, twins, uses::count(uses));
+    let joined = join_pairs(alone, uses, twins);
     groups::labels_of(joined, labels);
 }
 
 // MERGED GROUPS
 
 // Whether a surface answer joins: agreeing where stored senses are equal, opposed where they differ; refused where
-// normals vanish and where it is undecided. The place of a refusal is the question's kind, 8.
-#[tactic(auto, unfolding(rules::specs::Merge::joins_faces))]
+// normals vanish and where it is undecided. The place of a refusal is the question's kind.
+#[tactic(auto, unfolding(rules::specs::Merge::joins_faces, rules::specs::Kinds::number_of))]
 fn joins_faces(v: SurfaceAnswer, equal: bool) -> Result<bool, Refusal>
     ensures { result ≡ joins_faces full_table equal v }
 {
+    let kind = Kind::Surface;
     match v {
         SurfaceAnswer::Different => Ok(false),
         SurfaceAnswer::Agreeing => Ok(equal),
         SurfaceAnswer::Opposed => Ok(!equal),
-        SurfaceAnswer::Vanishing => Err(Fault::NormalsVanish.at(8)),
-        SurfaceAnswer::Undecided => Err(Fault::AnswerUndecided.at(8)),
+        SurfaceAnswer::Vanishing => Err(Fault::NormalsVanish.at(kind.number())),
+        SurfaceAnswer::Undecided => Err(Fault::AnswerUndecided.at(kind.number())),
     }
 }
 
+// The stored senses of faces a and b are equal.
+#[tactic(auto, using(rules::proofs::SenseLaws::same_tested))]
+fn equal_senses(job: &Loaded<'_>, a: usize, b: usize) -> bool
+    ensures { result ≡ same_sense (stored_sense (face_at job.now.faces a)) (stored_sense (face_at job.now.faces b)) }
+{
+    let sense = job.face(a).stored_sense();
+    let other = job.face(b).stored_sense();
+    sense == other
+}
+
 // The groups after the surface answer v about faces a and b. Gives how many joins of separate groups it made, 1 or 0.
+#[tactic(auto, unfolding(rules::specs::Groups::join_groups))]
 fn join_by(
-    job: &[u8],
-    index: &[u32],
-    c: Counts,
+    job: &Loaded<'_>,
     labels: &mut [u32],
     a: usize,
     b: usize,
     v: SurfaceAnswer,
 ) -> Result<usize, Refusal>
-    requires { (c.faces ≤ 256) × Ordered labels.old }
-    ensures { (g : Grouping) → Stands labels.old g.groups → MergedTo result labels.new g (answered_step (faces_in job.now index.now c) a b v g) }
+    requires { Ordered labels.old }
+    ensures merged { (g : Grouping) → Stands labels.old g.groups → MergedTo result labels.new g.joins (answered_step job.now.faces a b v g) }
+    ensures one { IfOk result (λ joins. joins ≤ 1) }
 {
-    let sense = job::stored_sense(job, index, c, a);
-    let other = job::stored_sense(job, index, c, b);
-    let equal = sense == other;
-    if joins_faces(v, equal)? {
+    if joins_faces(v, equal_senses(job, a, b))? {
         return Ok(usize::from(join_in(labels, a, b)));
     }
     Ok(0)
 }
 
 // The surface question of use h, unless it is the higher of its pair or both are on one selected face.
+#[tactic(auto, unfolding(rules::specs::Merge::merge_step, rules::specs::Merge::surface_step, rules::specs::Questions::on_record))]
 fn merge_use(
-    job: &[u8],
-    index: &[u32],
-    c: Counts,
-    uses: &[u32],
+    job: &Loaded<'_>,
+    uses: &[Use],
     twins: &[u32],
     labels: &mut [u32],
     h: usize,
 ) -> Result<usize, Refusal>
-    requires { Indexed job.now index.now c × (c.faces ≤ 256) × (h < 4294967296) × Ordered labels.old }
-    ensures { (g : Grouping) → Stands labels.old g.groups
-        → MergedTo result labels.new g (merge_step full_table (answers_in job.now index.now c) (faces_in job.now index.now c) (uses_in uses.now) twins.now h g) }
+    requires { (h < 4294967296) × Ordered labels.old }
+    ensures merged { (g : Grouping) → Stands labels.old g.groups
+        → MergedTo result labels.new g.joins (merge_step full_table job.now.answers job.now.faces uses.now twins.now h g) }
+    ensures one { IfOk result (λ joins. joins ≤ 1) }
 {
     let t = get(twins, h);
     if t <= h {
@@ -127,29 +138,27 @@ fn merge_use(
     if a == b {
         return Ok(0);
     }
-    let Some(v) = ask::ask_surface(job, index, c, h) else {
-        return Err(Fault::Unanswered.at(8));
-    };
-    join_by(job, index, c, labels, a, b, v)
+    let v = ask::ask_surface(job, h)?;
+    join_by(job, labels, a, b, v)
 }
 
 // The surface questions of the uses in order. Each face's label in the end, and how many joins of separate groups there were.
-pub fn merge_faces(
-    job: &[u8],
-    index: &[u32],
-    c: Counts,
-    uses: &[u32],
+#[tactic(auto, using(crate::specs::MergingLaws::merging_start, crate::specs::MergingLaws::merging_step, crate::specs::MergingLaws::stands_lowest))]
+fn merge_groups(
+    job: &Loaded<'_>,
+    uses: &[Use],
     twins: &[u32],
     labels: &mut [u32],
 ) -> Result<usize, Refusal>
-    requires { Indexed job.now index.now c × (c.faces ≤ 256) × (length labels.old ≡ c.faces) × (length (uses_in uses.now) ≤ 2048) }
-    ensures { (result and_then λ joins. Ok (record { groups = labels.new; joins = joins }))
-        ≡ merged_groups full_table (answers_in job.now index.now c) (faces_in job.now index.now c) (uses_in uses.now) twins.now }
+    requires { (length labels.old ≡ length job.now.faces) × (length labels.old ≤ 256) × (length uses.now ≤ 2048) }
+    ensures equals { (result and_then λ joins. Ok (record { groups = labels.new; joins = joins }))
+        ≡ merged_groups full_table job.now.answers job.now.faces uses.now twins.now }
+    ensures lowest { IfOk result (λ _. Lowest labels.new) }
 {
     groups::alone(labels);
     let mut joins = 0;
-    for h in 0..uses::count(uses) {
-        joins += merge_use(job, index, c, uses, twins, labels, h)?;
+    for h in 0..uses.len() {
+        joins += merge_use(job, uses, twins, labels, h)?;
     }
     groups::settle(labels);
     Ok(joins)
@@ -158,8 +167,8 @@ pub fn merge_faces(
 // REMOVED USES
 
 // Use h is removed: its face and its twin's have one group.
-fn is_removed(uses: &[u32], twins: &[u32], groups: &[u32], h: usize) -> bool
-    ensures { result ≡ removes (uses_in uses.now) twins.now groups.now h }
+fn is_removed(uses: &[Use], twins: &[u32], groups: &[u32], h: usize) -> bool
+    ensures { result ≡ removes uses.now twins.now groups.now h }
 {
     let t = get(twins, h);
     let a = get(groups, use_face(uses, h));
@@ -168,21 +177,21 @@ fn is_removed(uses: &[u32], twins: &[u32], groups: &[u32], h: usize) -> bool
 }
 
 // Each use: whether it is removed. Gives how many are.
-pub fn remove(uses: &[u32], twins: &[u32], groups: &[u32], removed: &mut [bool]) -> usize
-    requires { length removed.old ≡ length (uses_in uses.now) }
-    ensures { (removed.new ≡ removed_uses (uses_in uses.now) twins.now groups.now) × (result ≡ length (keep (λ gone. gone) removed.new)) }
+#[tactic(auto, using(crate::specs::Removing::flags_are, crate::specs::Removing::set_flags))]
+pub fn remove(uses: &[Use], twins: &[u32], groups: &[u32], removed: &mut [bool]) -> usize
+    requires { length removed.old ≡ length uses.now }
+    ensures { (removed.new ≡ removed_uses uses.now twins.now groups.now) × (result ≡ length (keep (λ gone. gone) removed.new)) }
 {
-    let mut gone = 0;
     for (h, flag) in removed.iter_mut().enumerate() {
         *flag = is_removed(uses, twins, groups, h);
-        gone += usize::from(*flag);
     }
-    gone
+    removed.iter().filter(|gone| **gone).count()
 }
 
 // MERGED FACES BY NUMBER
 
 // Face f: the lowest member of the next group, or of a group met before. Gives how many groups there are up to f.
+#[tactic(auto, using(crate::specs::Numbering::no_member))]
 fn number_face(
     groups: &[u32],
     members: &mut [u32],
@@ -190,8 +199,10 @@ fn number_face(
     count: usize,
     f: usize,
 ) -> usize
-    requires { Numbering groups.now members.old numbers.old count f × (f < length groups.now) × (length groups.now ≤ 256) }
-    ensures { Numbering groups.now members.new numbers.new result (f + 1) }
+    requires { Lowest groups.now × (f < length groups.now) × (length groups.now ≤ 256) × (length members.old ≡ length groups.now) × (length numbers.old ≡ length groups.now)
+        × MembersBelow groups.now members.old count f × NumbersBelow groups.now numbers.old f }
+    ensures members { MembersBelow groups.now members.new result (f + 1) }
+    ensures numbers { NumbersBelow groups.now numbers.new (f + 1) }
 {
     let g = get(groups, f);
     if g == f {
@@ -205,6 +216,7 @@ fn number_face(
 }
 
 // The lowest member of each merged face, and each selected face's merged face. Gives how many merged faces there are.
+#[tactic(auto, using(crate::specs::Numbering::all_numbered), unfolding(lists::specs::Lists::from, lists::specs::Lists::keep))]
 pub fn number(groups: &[u32], members: &mut [u32], numbers: &mut [u32]) -> usize
     requires { Lowest groups.now × (length members.old ≡ length groups.now) × (length numbers.old ≡ length groups.now) × (length groups.now ≤ 256) }
     ensures { (take result members.new ≡ lowest_members groups.now) × (result ≡ length (lowest_members groups.now)) × (numbers.new ≡ group_numbers groups.now) }

@@ -1,4 +1,4 @@
-pub mod OrderLaws
-pub mod PairLaws
+pub mod All
+pub mod Last
 pub mod EdgeLaws
-pub mod AllLaws
+pub mod Complete

@@ -22,7 +22,7 @@ const PATH: usize = 4096;
 const NAME_TOO_LONG: i32 = 36;
 
 // Reads until the buffer is full or the input ends, and says how many bytes were read. A read that fails is told from the
-// end of the input.
+// end of the input. How many bytes a read gives is known only after it.
 pub fn read_to_end<R: Read>(input: &mut R, buffer: &mut [u8]) -> io::Result<usize>
     ensures { IfOk result (λ n. n ≤ length buffer.old) }
 {
@@ -85,6 +85,11 @@ pub struct Program<'a> {
     pub usage: &'a str,
 }
 
+// A text up to a mark, or all of it.
+fn up_to<'a>(text: &'a str, mark: &str) -> &'a str {
+    text.split_once(mark).map_or(text, |(words, _)| words)
+}
+
 // Says on standard error why a call failed, after the program's name: in the system's words, without the number that the
 // library puts behind them.
 pub fn fail(rt: &impl Eprint, program: Program<'_>, what: &str, why: &io::Error) {
@@ -92,17 +97,9 @@ pub fn fail(rt: &impl Eprint, program: Program<'_>, what: &str, why: &io::Error)
     let mut text = [0u8; 256];
     let mut room: &mut [u8] = &mut text;
     let _written = write!(room, "{why}");
-    let words = front(from_utf8(&text).unwrap_or(""), "\0");
-    let reason = front(words, " (os error ");
+    let words = up_to(from_utf8(&text).unwrap_or(""), "\0");
+    let reason = up_to(words, " (os error ");
     let _told = eprintln!(rt; "{name}: {what}: {reason}");
-}
-
-// A text up to a mark, or all of it.
-fn front<'a>(text: &'a str, mark: &str) -> &'a str {
-    match text.split_once(mark) {
-        Some((front, _)) => front,
-        None => text,
-    }
 }
 
 // Says on standard error what words a program takes.

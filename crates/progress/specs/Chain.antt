@@ -91,8 +91,12 @@ after_reading stage j room us = pair j.answers us (length j.edges) >>= after_pai
 unfoldable pub staged : Option Stage → List ℕ → ℕ → Outcome (List ℕ)
 staged stage job room = loaded job >>= λ j. after_reading stage j room (uses_of j)
 
--- sewing: the body; one that selects no face is Empty
-unfoldable pub sewn_by : List ℕ → ℕ → Outcome (List ℕ)
-sewn_by job room = loaded job >>= λ j.
+-- sewing of a loaded job: the body; one that selects no face is Empty
+unfoldable pub sewn_from : ℕ → Job → Outcome (List ℕ)
+sewn_from room j =
     let full = after_reading None j room (uses_of j) in
     cond (eqb (length j.faces) 0) (fitting room (framed_all (body_records empty_body))) full
+
+-- sewing
+unfoldable pub sewn_by : List ℕ → ℕ → Outcome (List ℕ)
+sewn_by job room = loaded job >>= sewn_from room

@@ -1,129 +1,107 @@
 -- What follows from what is known: sizes within the limits, labels that are lowest members, and the walks of the definitions.
-use Rattle.std.specs.Prelude.{ℕ, ◌<◌, ◌≤◌, ◌≡◌, List, Bool, length}
-use Rattle.std.proofs.Common.{arith, subst, ◌∙◌}
-use Rattle.std.proofs.Math.Path.{sym, ap}
-use Rattle.rules.specs.declared.Counts.{Counts}
+use Rattle.std.specs.Prelude.{ℕ, ◌<◌, ◌≤◌, ◌≡◌, refl, List, Bool, length}
+use Rattle.std.proofs.Common.{arith, sym, ap, subst, ◌∙◌}
 use Rattle.rules.specs.declared.Use.{Use}
+use Rattle.rules.specs.declared.KeptVertexLoop.{KeptVertexLoop}
 use Rattle.rules.specs.Outcome.{Ok}
 use Rattle.rules.proofs.OutcomeLaws.{bind_on}
+use Rattle.rules.specs.Job.{Job}
 use Rattle.rules.specs.Load.{loaded}
-use Rattle.rules.specs.Read.{face_of_use}
-use Rattle.rules.specs.Groups.{Lowest, Grouping}
+use Rattle.rules.specs.Read.{face_of_use, uses_of}
+use Rattle.lists.specs.Lists.{below, keep, sum_of}
+use Rattle.lists.specs.Runs.{length_below}
+use Rattle.lists.specs.Members.{keep_length}
+use Rattle.rules.specs.Groups.{Lowest, is_lowest, lowest_members}
 use Rattle.rules.specs.Rules.{full_table, ordinary}
 use Rattle.rules.specs.Pair.{pair}
-use Rattle.rules.specs.Merge.{boundaries, merge_faces, removed_uses, merged_groups}
+use Rattle.rules.specs.Merge.{boundaries, merge_faces, merged_faces, removed_uses}
 use Rattle.rules.specs.VertexLoops.{vertex_loops}
+use Rattle.rules.specs.Walk.{circuits}
 use Rattle.rules.specs.Sew.{walks_of, walked}
-use Rattle.theorems.specs.Sound.{Counted, Limited, Sound}
+use Rattle.theorems.specs.Sound.{Sound}
 use Rattle.theorems.specs.Linked.{Twins, Linked}
-use Rattle.theorems.proofs.Loading.{loading_counted, loaded_sound}
+use Rattle.theorems.proofs.Loading.{loaded_limits, loaded_sound, faces_few}
 use Rattle.theorems.proofs.Reading.{use_face_below}
 use Rattle.theorems.proofs.Pairing.{pairs_fully}
-use Rattle.theorems.proofs.Connected.{boundaries_lowest}
+use Rattle.theorems.proofs.Connected.{boundaries_lowest, boundaries_length}
 use Rattle.theorems.proofs.Merging.{merged_length, merged_lowest, length_removed_uses}
 use Rattle.theorems.specs.Circuits.{Permuted}
 use Rattle.theorems.proofs.Circuits.{linked_permuted}
 use Rattle.theorems.specs.Demand3.{Settled as SettledRules}
 use Rattle.theorems.specs.Ground.{Ground}
 use Rattle.theorems.proofs.Ground.{ground, settled_walked}
-use Rattle.job.specs.Lists.{points_in, edges_in, faces_in, loops_in, answers_in, job_in}
-use Rattle.vertex_loops.specs.Kept.{kept_in}
-use Rattle.progress.specs.declared.Faces.{Faces}
-use Rattle.progress.specs.declared.Figures.{Figures}
-use Rattle.progress.specs.Known.{Opened, Paired, boundaries_in, groups_in, grouping_in, Grouped, merged_in, walked_in, Settled}
+use Rattle.loaded.specs.Opened.{Loads}
+use Rattle.merge_faces.specs.FaceTables.{FaceTables}
+use Rattle.progress.specs.Known.{Paired, Grouped, merged_in, walked_in, Kept, Settled, Walking}
 
 -- LOADED
 
-module _ (bytes ix : List ℕ) (c : Counts) (O : Opened bytes ix c) where
-  pub opened_counted : Counted c (job_in bytes ix c)
-  opened_counted = (loading_counted bytes (record { counts = c; job = job_in bytes ix c }) O.loads).0
+module _ {j : Job} (l : Loads j) where
+  pub loads_sound : Sound j
+  loads_sound = loaded_sound l.bytes j l.loads
 
-  pub opened_limited : Limited c
-  opened_limited = (loading_counted bytes (record { counts = c; job = job_in bytes ix c }) O.loads).1
+  pub loads_loops : length j.loops ≤ 1024
+  loads_loops = let c = loaded_limits l.bytes j l.loads in omega (arith, c.1.loops, c.2.loops)
 
-  pub opened_loaded : loaded bytes ≡ Ok (job_in bytes ix c)
-  opened_loaded = bind_on (λ s. Ok s.job) O.loads
-
-  opened_sound : Sound (job_in bytes ix c)
-  opened_sound = loaded_sound bytes (job_in bytes ix c) opened_loaded
-
-  pub opened_edges : c.edges ≡ length (edges_in bytes c)
-  unfolding job_in
-  opened_edges = opened_counted.edges
-
-  pub opened_faces : c.faces ≡ length (faces_in bytes ix c)
-  unfolding job_in
-  opened_faces = opened_counted.faces
+  pub loads_faces : length j.faces ≤ 256
+  loads_faces = faces_few l.bytes j l.loads
 
 -- PAIRED
 
-module _ (bytes ix : List ℕ) (c : Counts) (us : List Use) (ts : List ℕ) (P : Paired bytes ix c us ts) where
-  pub paired_uses : length us ≡ c.uses
-  paired_uses = ap length P.uses ∙ sym (opened_counted bytes ix c P.opened).uses
-
+module _ {j : Job} {us : List Use} {ts : List ℕ} (P : Paired j us ts) where
   pub paired_few : length us ≤ 2048
-  paired_few = omega (arith, paired_uses, (opened_limited bytes ix c P.opened).uses)
+  paired_few = omega (arith, (loads_sound P.loads).few, ap length P.uses)
 
   pub paired_twins : Twins us ts
-  paired_twins = pairs_fully (answers_in bytes ix c) us ts c.edges (omega (arith, paired_few)) P.pairs
+  paired_twins = pairs_fully j.answers us ts (length j.edges) (omega (arith, paired_few)) P.pairs
 
-  pub paired_size : length ts ≡ c.uses
-  paired_size = paired_twins.size ∙ paired_uses
-
-  face_below : (h : ℕ) → h < length us → face_of_use us h < c.faces
-  face_below =
-      subst (λ (u : List Use). (h : ℕ) → h < length u → face_of_use u h < c.faces) (sym P.uses)
-      (λ h b. omega (arith, use_face_below (job_in bytes ix c) (opened_sound bytes ix c P.opened) h b, (opened_counted bytes ix c P.opened).faces))
-
-  pub boundaries_are_lowest : Lowest (boundaries us ts c.faces)
-  boundaries_are_lowest = boundaries_lowest us ts c.faces face_below paired_twins.below
-
-  -- the groups that merging gives
-  pub groups_are_lowest : (g : Grouping) → merged_groups full_table (answers_in bytes ix c) (faces_in bytes ix c) us ts ≡ Ok g → Lowest g.groups
-  groups_are_lowest g e =
-      merged_lowest full_table (answers_in bytes ix c) (faces_in bytes ix c) us ts g e
-      (λ h b. omega (arith, face_below h b, opened_faces bytes ix c P.opened)) paired_twins.below
-
-  pub groups_length : (g : Grouping) → merged_groups full_table (answers_in bytes ix c) (faces_in bytes ix c) us ts ≡ Ok g → length g.groups ≡ c.faces
-  groups_length g e = merged_length full_table (answers_in bytes ix c) (faces_in bytes ix c) us ts g e ∙ sym (opened_faces bytes ix c P.opened)
+  pub face_below : (h : ℕ) → h < length us → face_of_use us h < length j.faces
+  face_below = subst (λ (u : List Use). (h : ℕ) → h < length u → face_of_use u h < length j.faces) (sym P.uses) (use_face_below j (loads_sound P.loads))
 
 -- MERGED
 
-module _ (bytes ix : List ℕ) (c : Counts) (us : List Use) (ts : List ℕ) (m : Faces) (G : Grouped bytes ix c us ts m) where
-  pub grouped_lowest : Lowest (groups_in c m)
-  grouped_lowest = groups_are_lowest bytes ix c us ts G.paired (grouping_in c m) G.merges
+module _ {j : Job} {us : List Use} {ts : List ℕ} {m : FaceTables} (G : Grouped j us ts m) where
+  pub grouped_lowest : Lowest m.groups
+  grouped_lowest = merged_lowest full_table j.answers j.faces us ts _ G.merges (face_below G.paired) (paired_twins G.paired).below
 
-  pub bounded_lowest : Lowest (boundaries_in c m)
-  bounded_lowest = subst Lowest (sym G.bounds) (boundaries_are_lowest bytes ix c us ts G.paired)
+  pub bounded_lowest : Lowest m.boundaries
+  bounded_lowest = subst Lowest (sym G.tables.boundaries) (boundaries_lowest us ts (length j.faces) (face_below G.paired) (paired_twins G.paired).below)
+
+  pub groups_length : length m.groups ≡ length j.faces
+  groups_length = merged_length full_table j.answers j.faces us ts _ G.merges
+
+  pub labels_length : length m.boundaries ≡ length j.faces
+  labels_length = ap length G.tables.boundaries ∙ boundaries_length us ts (length j.faces)
 
   -- with the uses removed, this is merging
-  pub grouped_merges : (rm : List Bool) → rm ≡ removed_uses us ts (groups_in c m) → merge_faces full_table (answers_in bytes ix c) (faces_in bytes ix c) us ts ≡ Ok (merged_in c m rm)
+  pub grouped_merges : (rm : List Bool) → rm ≡ removed_uses us ts m.groups → merge_faces full_table j.answers j.faces us ts ≡ Ok (merged_in m rm)
   unfolding merge_faces
-  grouped_merges rm e =
-      bind_on _ G.merges
-      ∙ (λ i. Ok (record { boundaries = (ap (boundaries us ts) (sym (opened_faces bytes ix c G.paired.opened)) ∙ sym G.bounds) i; groups = groups_in c m; joins = m.joins; removed = sym e i }))
+  grouped_merges rm e = bind_on _ G.merges ∙ (λ i. Ok (record { boundaries = sym G.tables.boundaries i; groups = m.groups; joins = m.joins; removed = sym e i }))
 
 -- SETTLED
 
-module _ (bytes ix : List ℕ) (c : Counts) (us : List Use) (ts : List ℕ) (m : Faces) (rm : List Bool) (ss kept : List ℕ) (g : Figures) (S : Settled bytes ix c us ts m rm ss kept g) where
-  settled_rules : SettledRules full_table (job_in bytes ix c) (walked_in c m us ts rm g.kept kept)
-  unfolding job_in walks_of
+module _ {j : Job} {us : List Use} {ts : List ℕ} {m : FaceTables} {kept : List KeptVertexLoop} {rm : List Bool} {ss : List ℕ} {count total : ℕ} (S : Settled j us ts m kept rm ss count total) where
+  abbrev G : Grouped j us ts m
+  G = S.keeps.grouped
+
+  settled_rules : SettledRules full_table j (walked_in us ts m rm kept)
+  unfolding walks_of
   settled_rules = record {
-    pairs = sym (λ i. pair (answers_in bytes ix c) (S.grouped.paired.uses i) (opened_edges bytes ix c S.grouped.paired.opened i)) ∙ S.grouped.paired.pairs;
-    surfaces = sym (ap (λ u. merge_faces full_table (answers_in bytes ix c) (faces_in bytes ix c) u ts) S.grouped.paired.uses) ∙ grouped_merges bytes ix c us ts m S.grouped rm S.removed;
-    vertices = ap (λ n. vertex_loops (answers_in bytes ix c) (points_in bytes c) n (loops_in bytes ix c)) (sym S.grouped.numbered) ∙ S.vertices;
-    walks = ap (λ u. walks_of u ts (merged_in c m rm) (kept_in g.kept kept)) S.grouped.paired.uses;
+    pairs = sym (ap (λ u. pair j.answers u (length j.edges)) G.paired.uses) ∙ G.paired.pairs;
+    surfaces = sym (ap (λ u. merge_faces full_table j.answers j.faces u ts) G.paired.uses) ∙ grouped_merges G rm S.removed;
+    vertices = ap (λ n. vertex_loops j.answers j.points n j.loops) (sym G.tables.numbers) ∙ S.keeps.vertices;
+    walks = ap (λ u. walks_of u ts (merged_in m rm) kept) G.paired.uses;
   }
 
   -- the walks of the definitions
-  pub settled_is : walked ordinary (job_in bytes ix c) ≡ Ok (walked_in c m us ts rm g.kept kept)
-  settled_is = settled_walked full_table (job_in bytes ix c) (walked_in c m us ts rm g.kept kept) settled_rules
+  pub settled_is : walked ordinary j ≡ Ok (walked_in us ts m rm kept)
+  settled_is = settled_walked full_table j (walked_in us ts m rm kept) settled_rules
 
   -- what they give to the stages after them
-  pub settled_ground : Ground (job_in bytes ix c) (walked_in c m us ts rm g.kept kept)
-  settled_ground = ground full_table bytes (job_in bytes ix c) (walked_in c m us ts rm g.kept kept) (opened_loaded bytes ix c S.grouped.paired.opened) settled_rules
+  pub settled_ground : Ground j (walked_in us ts m rm kept)
+  settled_ground = ground full_table G.paired.loads.bytes j (walked_in us ts m rm kept) G.paired.loads.loads settled_rules
 
-  pub settled_linked : Linked us ts rm (groups_in c m)
+  pub settled_linked : Linked us ts rm m.groups
   unfolding walks_of
   settled_linked = settled_ground.linked
 
@@ -131,4 +109,63 @@ module _ (bytes ix : List ℕ) (c : Counts) (us : List Use) (ts : List ℕ) (m :
   settled_permuted = subst (Permuted (length us) rm) (sym S.follows) (linked_permuted settled_linked)
 
   pub settled_removed : length rm ≡ length us
-  settled_removed = ap length S.removed ∙ length_removed_uses us ts (groups_in c m)
+  settled_removed = ap length S.removed ∙ length_removed_uses us ts m.groups
+
+-- A JOB WITH ITS WALKS, AND THE TABLES THAT HOLD IT
+
+-- what the tables have of the walks of the definitions, and what is known of these
+pub record Seen (v : Walking) (j : Job) (us : List Use) (ts : List ℕ) (m : FaceTables) (ks : List KeptVertexLoop) (rm : List Bool) (ss : List ℕ) (count total : ℕ) : Type 0 where
+  pub job : j ≡ v.job
+  pub uses : us ≡ v.walked.uses
+  pub twins : ts ≡ v.walked.twins
+  pub boundaries : m.boundaries ≡ v.walked.merge.boundaries
+  pub groups : m.groups ≡ v.walked.merge.groups
+  pub joins : m.joins ≡ v.walked.merge.joins
+  pub numbers : m.numbers ≡ merged_faces v.walked.merge
+  pub members : m.members ≡ lowest_members v.walked.merge.groups
+  pub kept : ks ≡ v.walked.vertex_loops
+  pub removed : rm ≡ v.walked.merge.removed
+  pub succ : ss ≡ v.walked.successors
+  pub circuits : circuits rm ss ≡ v.walked.circuits
+  pub gone : count ≡ length (keep (λ gone. gone) v.walked.merge.removed)
+  pub passed : total ≡ sum_of (λ k. k) v.walked.passed
+  pub few_kept : length ks ≤ 1024
+  pub lowest_boundaries : Lowest v.walked.merge.boundaries
+  pub lowest_groups : Lowest v.walked.merge.groups
+  pub faces : length v.walked.merge.boundaries ≤ 256
+  pub few_members : length (lowest_members v.walked.merge.groups) ≤ 256
+  pub ground : Ground v.job v.walked
+  pub loads : Loads v.job
+
+module _ {j : Job} {us : List Use} {ts : List ℕ} {m : FaceTables} {ks : List KeptVertexLoop} {rm : List Bool} {ss : List ℕ} {count total : ℕ} (S : Settled j us ts m ks rm ss count total) where
+  pub seen : {v : Walking} → record { job = j; walked = walked_in us ts m rm ks } ≡ v → Seen v j us ts m ks rm ss count total
+  unfolding walks_of
+  seen {v} e = subst (λ x. Seen x j us ts m ks rm ss count total) e (record {
+    job = refl;
+    uses = refl;
+    twins = refl;
+    boundaries = refl;
+    groups = refl;
+    joins = refl;
+    numbers = S.keeps.grouped.tables.numbers;
+    members = S.keeps.grouped.tables.members;
+    kept = refl;
+    removed = refl;
+    succ = S.follows;
+    circuits = ap (circuits rm) S.follows;
+    gone = S.gone;
+    passed = S.passed;
+    few_kept = omega (arith, S.keeps.few, loads_loops S.keeps.grouped.paired.loads);
+    lowest_boundaries = bounded_lowest S.keeps.grouped;
+    lowest_groups = grouped_lowest S.keeps.grouped;
+    faces = omega (arith, labels_length S.keeps.grouped, loads_faces S.keeps.grouped.paired.loads);
+    few_members = omega (
+      arith,
+      keep_length (is_lowest m.groups) (below (length m.groups)),
+      length_below (length m.groups),
+      groups_length S.keeps.grouped,
+      loads_faces S.keeps.grouped.paired.loads,
+    );
+    ground = settled_ground S;
+    loads = S.keeps.grouped.paired.loads;
+  })

@@ -23,7 +23,7 @@ use Rattle.rules.specs.Shells.{Nested, nested, lumps}
 use Rattle.rules.specs.Body.{Body, empty_body, body_records}
 use Rattle.rules.specs.Sew.{Walked, walks_of, walked, Fanned, fans_of, fanned, Joined, unjoined, edged, through_joining, shells_of, lumps_clear, body_of, solid, rebuild, fitting, sewn}
 use Rattle.rules.specs.Stage.{pair_stage, merge_stage, vertex_loop_stage, walk_stage, loop_stage, fan_stage, edge_stage, joining_stage, shell_stage, lump_stage, group_fields, kept_fields, kept_uses, walk_fields, loop_fields, fan_fields, joining_fields, shell_fields, lump_fields, stage_bytes}
-use Rattle.progress.specs.Chain.{after_lumps, after_nesting, after_shells, after_joining, after_edges, after_fans, after_loops, after_walks, after_keeping, after_merging, after_pairing, after_reading, staged, sewn_by}
+use Rattle.progress.specs.Chain.{after_lumps, after_nesting, after_shells, after_joining, after_edges, after_fans, after_loops, after_walks, after_keeping, after_merging, after_pairing, after_reading, staged, sewn_from, sewn_by}
 use Rattle.rules.specs.declared.Fault.TheVariants.{PairsInBoundary, FansInBoundary}
 use Rattle.rules.specs.Operation.{stage_number, is_asked}
 use Rattle.rules.specs.declared.Stage.{Stage}
@@ -206,7 +206,7 @@ module _ (job : List ℕ) (room : ℕ) where
       whole b = fitting room (framed_all (body_records b))
 
   pub stage_body : sewn_by job room ≡ sewn ordinary job room
-  unfolding sewn_by sewn rebuild is_asked stage_number
+  unfolding sewn_by sewn_from sewn rebuild is_asked stage_number
   stage_body =
       bind_same (loaded job)
       (λ j. cond (eqb (length j.faces) 0) (whole empty_body) (by_job None room j))

@@ -1,3 +1,1 @@
-pub mod Items
-pub mod ItemLaws
-pub mod ReadLaws
+pub mod Places

@@ -2,27 +2,13 @@
 
 #![tactic(auto)]
 
-ghost use Rattle.std.specs.Prelude.{◌≡◌, ◌++◌, ◌+◌, ◌*◌, ◌<◌, ◌≤◌, length, take};
+ghost use Rattle.std.specs.Prelude.{◌≡◌, ◌+◌, ◌<◌, ◌≤◌, length};
 ghost use Rattle.lists.specs.Cyclic.{next_place};
 ghost use Rattle.rules.specs.Read.{traversed, loop_uses, uses_of};
-ghost use Rattle.job.specs.Lists.{job_in};
-ghost use Rattle.uses.specs.Table.{uses_in};
-ghost use Rattle.read.specs.Items.{place_of, items_in, item_count};
+ghost use Rattle.read.specs.Places.{place_of};
 
-use fields::word;
-use rules::{Counts, Sense};
-
-// How many items a loop has; a vertex loop has none.
-#[tactic(auto, unfolding(crate::specs::Items::item_count))]
-fn item_count(job: &[u8], index: &[u32], l: usize) -> usize
-    requires { l < 1024 }
-    ensures { result ≡ item_count job.now index.now l }
-{
-    if job::loop_kind(job, index, l) == 5 {
-        return job::loop_size(job, index, l) / 8;
-    }
-    0
-}
+use loaded::{Items, Loaded};
+use rules::{Sense, Use};
 
 // The item, of n, at place i of a loop as its face is selected.
 fn place(selected: Sense, n: usize, i: usize) -> usize
@@ -47,40 +33,37 @@ fn next_of(first: usize, n: usize, i: usize) -> usize
     first + (i + 1)
 }
 
-// The uses of a loop of n items that stand from a byte of the job on, numbered from `first`.
-fn read_loop(
-    uses: &mut [u32],
-    first: usize,
-    job: &[u8],
-    at: usize,
-    n: usize,
-    face: usize,
-    selected: Sense,
-)
-    requires { (first + n ≤ length (uses_in uses.old)) × (first + n ≤ 2048) × (at < 4294967302) × (face < 4294967296) }
-    ensures { take (first + n) (uses_in uses.new) ≡ take first (uses_in uses.old) ++ loop_uses face first first (traversed selected (items_in job.now at n)) }
+// The uses of a loop with some items, numbered from `first`.
+fn read_loop(uses: &mut [Use], first: usize, items: &Items<'_>, face: usize, selected: Sense)
+    requires { (length uses.old ≡ length items.now) × (first + length items.now ≤ 2048) × (face < 4294967296) }
+    ensures { uses.new ≡ loop_uses face first first (traversed selected items.now) }
 {
-    for i in 0..n {
-        let p = at + 8 * place(selected, n, i);
-        let edge = word(job, p);
-        let sense = Sense::from(word(job, p + 4)) * selected;
-        let next = next_of(first, n, i);
-        uses::put_use(uses, first + i, edge, face, sense, next);
+    let n = items.len();
+    for (i, u) in uses.iter_mut().enumerate() {
+        let item = items.at(place(selected, n, i));
+        *u = Use {
+            edge: item.edge,
+            face: face as u32,
+            sense: item.sense * selected,
+            next: next_of(first, n, i) as u32,
+        };
     }
 }
 
 // The uses of all loops.
-pub fn read(job: &[u8], index: &[u32], c: Counts, uses: &mut [u32])
-    requires { (c.loops ≤ 1024) × (c.faces ≤ 256) × (c.uses ≤ 2048) × (length uses.old ≡ 4 * c.uses) × (c.uses ≡ length (uses_of (job_in job.now index.now c))) }
-    ensures { uses_in uses.new ≡ uses_of (job_in job.now index.now c) }
+pub fn read(job: &Loaded<'_>, uses: &mut [Use])
+    requires { length uses.old ≡ length (uses_of job.now) }
+    ensures { uses.new ≡ uses_of job.now }
 {
+    // So each use's number fits the 32 bits in which another leads to it.
+    prove!(job.uses() <= 2048);
     let mut h = 0;
-    for l in 0..c.loops {
-        let n = item_count(job, index, l);
-        let f = job::loop_face(index, l);
-        let s = job::face_selected(job, index, c, f);
-        let at = job::loop_start(index, l);
-        read_loop(uses, h, job, at, n, f, s);
-        h += n;
+    for l in 0..job.loops() {
+        let items = job.items(l);
+        let face = job.loop_face(l);
+        let selected = job.face(face).selected;
+        let end = h + items.len();
+        read_loop(&mut uses[h..end], h, &items, face, selected);
+        h = end;
     }
 }

@@ -1,5 +1,5 @@
 -- The outer shells of lumps are named by merged faces, so labels by lump are below 256.
-use Prim.Native.Nat.{ℕ, ◌+◌, ◌*◌, ◌≤◌, ◌<◌}
+use Prim.Native.Nat.{ℕ, ◌≤◌, ◌<◌}
 use Rattle.std.proofs.Math.Decide.{dec_lt}
 use Rattle.std.proofs.Common.{arith, sym, ap, ◌∙◌, ⊎_elim}
 use Rattle.std.specs.Prelude.{◌≡◌, refl, Bool, true, false, length, get_or, eqb}
@@ -9,29 +9,21 @@ use mathlib.Core.List.{List, [], ◌∷◌, map}
 use Rattle.std.proofs.Math.Bool.{cond}
 use Rattle.std.proofs.lemmas.List.{length-map}
 use Rattle.std.proofs.Math.ListN.{get_or-eq_default}
-use Rattle.lists.specs.Lists.{below, ◌∈◌, keep, index_of}
+use Rattle.lists.specs.Lists.{◌∈◌, keep, index_of}
 use Rattle.lists.specs.Membership.{get_or_in}
-use Rattle.lists.specs.Runs.{in_below, below_in, length_below, length_table}
-use Rattle.lists.specs.Members.{keep_in, keep_length, positions_in, in_map, map_in, get_or_map}
+use Rattle.lists.specs.Members.{keep_in, positions_in, in_map, map_in, get_or_map}
 use Rattle.rules.specs.Outcome.{Outcome, Ok, ◌>>=◌, for_each}
 use Rattle.rules.proofs.OutcomeLaws.{refuse_ok, ok_one, bind_ok, cond_ok, each_none, each_ok}
 use Rattle.rules.specs.Job.{Answer}
-use Rattle.rules.specs.Groups.{label_of, is_lowest, lowest_members}
+use Rattle.rules.specs.Groups.{label_of, lowest_members}
 use Rattle.rules.specs.Shells.{Shell, lowest_face, shell_faces, shell_inside, Taken, none, shell, innermost, enclosing_shell, or_refuse, outers, Nested, nest, nested, lump_labels}
 use Rattle.contact.specs.Clear.{LowLabels}
-use Rattle.shells.specs.Table.{boundary_in, shell_in, shells_in, nested_one, nested_in, Shelled}
+use Rattle.shells.specs.declared.ShellRow.{ShellRow}
+use Rattle.shells.specs.Table.{shell_in, shells_in, nested_one, nested_in}
 
--- the outer shells of the lumps of n shells
-abbrev pub LowHomes : ℕ → List ℕ → Type 0
-LowHomes n t = (k : ℕ) → k < n → get_or t (4 * k + 3) 0 < 256
-
--- as many shells as boundaries
-pub shelled_count : (boundaries members : List ℕ) (n : ℕ) (t : List ℕ) → Shelled boundaries members n t → n ≡ length (lowest_members boundaries)
-shelled_count boundaries members n t S = sym (length_table (boundary_in t) n) ∙ ap length S.labels
-
-pub shelled_few : (boundaries members : List ℕ) (n : ℕ) (t : List ℕ) → Shelled boundaries members n t → n ≤ length boundaries
-shelled_few boundaries members n t S =
-    omega (arith, shelled_count boundaries members n t S, keep_length (is_lowest boundaries) (below (length boundaries)), length_below (length boundaries))
+-- the outer shells of the lumps of some shells
+abbrev pub LowHomes : List ShellRow → Type 0
+LowHomes rows = (row : ShellRow) → row ∈ rows → row.home < 256
 
 -- LOWEST FACES
 
@@ -103,36 +95,35 @@ module _ (answers : List Answer) where
       (Memᴰ.cases_cons (subst (λ l. n ∈ l) r.4 m))
 
   -- the table after nesting
-  pub homes_low : (boundaries members : List ℕ) (n : ℕ) (t t' : List ℕ) → length members ≤ 256
-      → Ok (nested_in boundaries members n t') ≡ nested answers (shells_in boundaries members n t) → LowHomes n t'
-  unfolding nested_in shells_in
-  homes_low boundaries members n t t' few e k h =
-      each_low (outers shells) shells (map (nested_one boundaries members t') (below n))
+  pub homes_low : (boundaries members : List ℕ) (rows rows' : List ShellRow) → length members ≤ 256
+      → Ok (nested_in boundaries members rows') ≡ nested answers (shells_in boundaries members rows) → LowHomes rows'
+  homes_low boundaries members rows rows' few e row i =
+      each_low (outers shells) shells (nested_in boundaries members rows')
       (λ o m.
       let r = map_in (λ (s : Shell). lowest_face s.faces) (keep (λ s. s.outer) shells) o m in
       subst (λ x. x < 256) (sym r.2) (faces r.0 (keep_in (λ (s : Shell). s.outer) shells r.0 r.1).0))
-      faces (sym e) (nested_one boundaries members t' k) (in_map (nested_one boundaries members t') (in_below n k h))
+      faces (sym e) (nested_one boundaries members row) (in_map (nested_one boundaries members) i)
     where
       shells : List Shell
-      shells = map (shell_in boundaries members t) (below n)
+      shells = shells_in boundaries members rows
 
       faces : (s : Shell) → s ∈ shells → lowest_face s.faces < 256
       faces s m =
-          let r = map_in (shell_in boundaries members t) (below n) s m in
-          subst (λ (x : Shell). lowest_face x.faces < 256) (sym r.2) (lowest_low boundaries members (boundary_in t r.0) few)
+          let r = map_in (shell_in boundaries members) rows s m in
+          subst (λ (x : Shell). lowest_face x.faces < 256) (sym r.2) (lowest_low boundaries members r.0.boundary few)
 
 -- LABELS
 
-pub labels_low : (boundaries members : List ℕ) (n : ℕ) (t : List ℕ) → LowHomes n t → LowLabels (lump_labels boundaries (nested_in boundaries members n t))
-unfolding lump_labels nested_in
-labels_low boundaries members n t low f =
+pub labels_low : (boundaries members : List ℕ) (rows : List ShellRow) → LowHomes rows → LowLabels (lump_labels boundaries (nested_in boundaries members rows))
+unfolding lump_labels
+labels_low boundaries members rows low f =
     elim (dec_lt f (length boundaries)) [
       | yes h ↦ subst (λ x. x < 256) (sym (get_or_map label boundaries f 0 0 h)) (home (index_of (get_or boundaries f 0) (lowest_members boundaries)))
       | no h ↦ omega (arith, get_or-eq_default (map label boundaries) 0 {n = f} (omega (arith, length-map boundaries label)))
     ]
   where
     homes : List ℕ
-    homes = map (λ (x : Nested). x.home) (map (nested_one boundaries members t) (below n))
+    homes = map (λ (x : Nested). x.home) (nested_in boundaries members rows)
 
     label : ℕ → ℕ
     label b = get_or homes (index_of b (lowest_members boundaries)) 0
@@ -141,8 +132,8 @@ labels_low boundaries members n t low f =
     home i =
         elim (dec_lt i (length homes)) [
           | yes h ↦
-              let a = map_in (λ (x : Nested). x.home) (map (nested_one boundaries members t) (below n)) (get_or homes i 0) (get_or_in homes i 0 h) in
-              let b = map_in (nested_one boundaries members t) (below n) a.0 a.1 in
-              subst (λ x. x < 256) (sym (a.2 ∙ ap (λ (x : Nested). x.home) b.2)) (low b.0 (below_in n b.0 b.1))
+              let a = map_in (λ (x : Nested). x.home) (nested_in boundaries members rows) (get_or homes i 0) (get_or_in homes i 0 h) in
+              let b = map_in (nested_one boundaries members) rows a.0 a.1 in
+              subst (λ x. x < 256) (sym (a.2 ∙ ap (λ (x : Nested). x.home) b.2)) (low b.0 b.1)
           | no h ↦ omega (arith, get_or-eq_default homes 0 {n = i} (omega arith))
         ]

@@ -1,11 +1,5 @@
 pub mod Halves
+pub mod Fanning
+pub mod Tables
 pub mod Lined
-pub mod Sizes
-pub mod LoopExits
-pub mod Starts
-pub mod FanExits
 pub mod Homes
-pub mod JoinExits
-pub mod ShellExits
-pub mod Lumped
-pub mod BodyExits

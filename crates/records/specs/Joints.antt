@@ -17,7 +17,7 @@ use Rattle.rules.specs.Job.{item_at, items_from, of_ring, start_point, end_point
 use Rattle.rules.proofs.FieldLaws.{item_more, item_none, items_half}
 use Rattle.rules.specs.Kinds.{number_of}
 use Rattle.rules.specs.Load.{joint, lone_ring, jointed, right_joints}
-use Rattle.records.specs.Apart.{other_kind}
+use Rattle.job.specs.Apart.{other_kind}
 use Rattle.records.specs.declared.Ends.{Ends}
 
 -- whether an item is of a ring, and the points where it starts and ends

@@ -1,4 +1,3 @@
-pub mod Apart
 pub mod Permitted
 pub mod Joints
 pub mod Limits

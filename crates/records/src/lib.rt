@@ -9,10 +9,11 @@ ghost use Rattle.rules.specs.Job.{item_at, items_from, of_ring};
 ghost use Rattle.rules.specs.Kinds.{is_answer, in_turn, is_sense, is_body, exists, ends_permitted, items_permitted, fields_permitted, right_length, right_position, limit_passed, part_of};
 ghost use Rattle.rules.specs.Load.{joint, jointed as jointed_of, right_joints, counted};
 ghost use Rattle.theorems.specs.Sound.{Limited};
-ghost use Rattle.job.specs.Lists.{points_in, edges_in};
+ghost use Rattle.job.specs.Raw.{points, edges};
 ghost use Rattle.records.specs.Joints.{ends_of};
 
 use fields::{UNSET, word};
+use job::RawJob;
 use rules::{Counts, Kind, Sense};
 
 // LENGTH AND POSITION
@@ -48,7 +49,7 @@ pub fn right_length(kind: Kind, size: usize) -> bool
     }
 }
 
-// After Head, and not after a later part.
+// After Head, and not after a later part. Parts are numbers, as in the definitions, since they are compared by order.
 fn in_turn(reached: usize, part: usize) -> bool
     ensures { result ≡ in_turn reached part }
 {
@@ -238,11 +239,12 @@ fn all_exist(job: &[u8], count: usize, from: usize, n: usize) -> bool
     true
 }
 
-fn radial_permitted(job: &[u8], c: Counts, body: usize, n: usize) -> bool
+fn radial_permitted(raw: &RawJob<'_>, body: usize, n: usize) -> bool
     requires { (0 < n) × (body + 4 * n < 2 ^ 59) }
-    ensures { result ≡ (exists c.edges (le32 job.now body) && all (exists c.uses) (fields_in (n - 1) (drop (body + 4) job.now))) }
+    ensures { result ≡ (exists raw.now.counts.edges (le32 raw.now.bytes.now body) && all (exists raw.now.counts.uses) (fields_in (n - 1) (drop (body + 4) raw.now.bytes.now))) }
 {
-    word(job, body) < c.edges && all_exist(job, c.uses, body + 4, n - 1)
+    word(raw.bytes, body) < raw.counts.edges
+        && all_exist(raw.bytes, raw.counts.uses, body + 4, n - 1)
 }
 
 // A number that exists, and a value.
@@ -280,36 +282,36 @@ fn inside_permitted(job: &[u8], faces: usize, body: usize) -> bool
 
 // 4: the n fields of a record of the right length are permitted; its payload stands at `body`.
 #[tactic(auto, using(crate::specs::Permitted::permitted_at_lem, crate::specs::Permitted::radial_some), unfolding(crate::specs::Permitted::permitted_at))]
-pub fn fields_permitted(job: &[u8], kind: Kind, c: Counts, body: usize, n: usize) -> bool
+pub fn fields_permitted(raw: &RawJob<'_>, kind: Kind, body: usize, n: usize) -> bool
     requires { (right_length kind (4 * n) ≡ true) × (body + 4 * n < 2 ^ 59) }
-    ensures { result ≡ fields_permitted kind c (fields_in n (drop body job.now)) }
+    ensures { result ≡ fields_permitted kind raw.now.counts (fields_in n (drop body raw.now.bytes.now)) }
 {
     match kind {
         Kind::Unknown => false,
-        Kind::Head => word(job, body) <= 1,
+        Kind::Head => word(raw.bytes, body) <= 1,
         Kind::Vertex => true,
-        Kind::EdgeRecord => edge_permitted(job, c.vertices, body),
-        Kind::FaceRecord => face_permitted(job, body),
-        Kind::LoopRecord => items_permitted(job, c.edges, body, n / 2),
-        Kind::VertexLoop => word(job, body) < c.vertices,
-        Kind::Radial => radial_permitted(job, c, body, n),
-        Kind::Surface => valued_permitted(job, c.uses, 4, body),
-        Kind::Points => different_permitted(job, body),
-        Kind::Curves => different_permitted(job, body),
-        Kind::Singular => singular_permitted(job, c.faces, body),
-        Kind::Orientation => valued_permitted(job, c.faces, 2, body),
-        Kind::Inside => inside_permitted(job, c.faces, body),
+        Kind::EdgeRecord => edge_permitted(raw.bytes, raw.counts.vertices, body),
+        Kind::FaceRecord => face_permitted(raw.bytes, body),
+        Kind::LoopRecord => items_permitted(raw.bytes, raw.counts.edges, body, n / 2),
+        Kind::VertexLoop => word(raw.bytes, body) < raw.counts.vertices,
+        Kind::Radial => radial_permitted(raw, body, n),
+        Kind::Surface => valued_permitted(raw.bytes, raw.counts.uses, 4, body),
+        Kind::Points => different_permitted(raw.bytes, body),
+        Kind::Curves => different_permitted(raw.bytes, body),
+        Kind::Singular => singular_permitted(raw.bytes, raw.counts.faces, body),
+        Kind::Orientation => valued_permitted(raw.bytes, raw.counts.faces, 2, body),
+        Kind::Inside => inside_permitted(raw.bytes, raw.counts.faces, body),
     }
 }
 
 // JOINTS
 
 // The edge of the item at a place has no vertices.
-fn is_ring(job: &[u8], c: Counts, p: usize) -> bool
-    requires { Limited c × (p < 2 ^ 59) }
-    ensures { result ≡ of_ring (edges_in job.now c) (item_at job.now p) }
+fn is_ring(raw: &RawJob<'_>, p: usize) -> bool
+    requires { Limited raw.now.counts × (p < 2 ^ 59) }
+    ensures { result ≡ of_ring (edges raw.now) (item_at raw.now.bytes.now p) }
 {
-    job::edge_start(job, c, word(job, p)) == UNSET
+    raw.edge(word(raw.bytes, p)).is_ring()
 }
 
 // Whether an item is of a ring, and the points where it starts and ends.
@@ -321,39 +323,36 @@ struct Ends {
 }
 
 // Those of the item at a place; its edge, vertices and points are read once.
-fn item_ends(job: &[u8], c: Counts, p: usize) -> Ends
-    requires { Limited c × (p < 2 ^ 59) }
-    ensures { result ≡ ends_of (points_in job.now c) (edges_in job.now c) (item_at job.now p) }
+fn item_ends(raw: &RawJob<'_>, p: usize) -> Ends
+    requires { Limited raw.now.counts × (p < 2 ^ 59) }
+    ensures { result ≡ ends_of (points raw.now) (edges raw.now) (item_at raw.now.bytes.now p) }
 {
-    let e = word(job, p);
-    let s = Sense::from(word(job, p + 4));
-    let ring = job::edge_start(job, c, e) == UNSET;
-    let v = job::start_by(job, c, e, s);
-    let w = job::end_by(job, c, e, s);
+    let sense = Sense::from(word(raw.bytes, p + 4));
+    let edge = raw.edge(word(raw.bytes, p));
     Ends {
-        ring,
-        start: job::point(job, c, v),
-        end: job::point(job, c, w),
+        ring: edge.is_ring(),
+        start: raw.point(edge.start_by(sense) as usize),
+        end: raw.point(edge.end_by(sense) as usize),
     }
 }
 
 // Each of n items with its successor is a joint, the last with the first: none is of a ring, and each starts at the
 // point where the one before ends.
 #[tactic(auto, using(crate::specs::Joints::along), unfolding(rules::specs::Load::joint))]
-fn joined(job: &[u8], c: Counts, body: usize, n: usize) -> bool
-    requires { Limited c × (body + 8 * n < 2 ^ 59) }
-    ensures { result ≡ all (joint (points_in job.now c) (edges_in job.now c)) (neighbours (items_from job.now body n)) }
+fn joined(raw: &RawJob<'_>, body: usize, n: usize) -> bool
+    requires { Limited raw.now.counts × (body + 8 * n < 2 ^ 59) }
+    ensures { result ≡ all (joint (points raw.now) (edges raw.now)) (neighbours (items_from raw.now.bytes.now body n)) }
 {
     if n == 0 {
         return true;
     }
-    let first = item_ends(job, c, body);
+    let first = item_ends(raw, body);
     if first.ring {
         return false;
     }
     let mut end = first.end;
     for i in 1..n {
-        let next = item_ends(job, c, body + 8 * i);
+        let next = item_ends(raw, body + 8 * i);
         if next.ring {
             return false;
         }
@@ -367,21 +366,24 @@ fn joined(job: &[u8], c: Counts, body: usize, n: usize) -> bool
 
 // A ring's use alone, or joints.
 #[tactic(auto, using(crate::specs::Joints::jointed_is))]
-fn jointed(job: &[u8], c: Counts, body: usize, n: usize) -> bool
-    requires { Limited c × (body + 8 * n < 2 ^ 59) }
-    ensures { result ≡ jointed_of (points_in job.now c) (edges_in job.now c) (items_from job.now body n) }
+fn jointed(raw: &RawJob<'_>, body: usize, n: usize) -> bool
+    requires { Limited raw.now.counts × (body + 8 * n < 2 ^ 59) }
+    ensures { result ≡ jointed_of (points raw.now) (edges raw.now) (items_from raw.now.bytes.now body n) }
 {
-    n == 1 && is_ring(job, c, body) || joined(job, c, body, n)
+    n == 1 && is_ring(raw, body) || joined(raw, body, n)
 }
 
-// 6: a loop's joints hold.
+// 6: a loop's joints hold. They are looked at in a copy, so that what is read need not be stored for any other record.
 #[tactic(auto, using(crate::specs::Joints::loop_joints, crate::specs::Joints::no_loop))]
-pub fn right_joints(job: &[u8], kind: Kind, c: Counts, body: usize, n: usize) -> bool
-    requires { Limited c × (body + 4 * n < 2 ^ 59) }
-    ensures { result ≡ right_joints kind (points_in job.now c) (edges_in job.now c) (fields_in n (drop body job.now)) }
+pub fn right_joints(raw: &RawJob<'_>, kind: Kind, body: usize, n: usize) -> bool
+    requires { Limited raw.now.counts × (body + 4 * n < 2 ^ 59) }
+    ensures { result ≡ right_joints kind (points raw.now) (edges raw.now) (fields_in n (drop body raw.now.bytes.now)) }
 {
     match kind {
-        Kind::LoopRecord => jointed(job, c, body, n / 2),
+        Kind::LoopRecord => {
+            let copy = *raw;
+            jointed(&copy, body, n / 2)
+        }
         _ => true,
     }
 }

@@ -4,12 +4,14 @@
 
 #![tactic(auto)]
 
-ghost use Rattle.std.specs.Prelude.{◌≡◌, ◌+◌, ◌<◌, ◌≤◌, ◌^◌, length};
+ghost use Rattle.std.specs.Prelude.{◌≡◌, ◌+◌, ◌<◌, ◌≤◌, ◌^◌, length, IfOk};
 ghost use Rattle.replay.specs.Counted.{Counted};
+ghost use Rattle.replay.specs.Operation.{packed_number};
 
-use fields::{put_word, word};
+use fields::word;
 use programs::Program;
 use rules::{Refusal, Stage};
+use stages_out::put_two;
 
 // One byte more than a packed file may have: a longer file is told by its length.
 const FILE: usize = 2000001;
@@ -19,45 +21,120 @@ const OUT: usize = 131072;
 
 const BODY: usize = 65536;
 
-// An answer: the refusal's number or 0, its place or the output's length, the output's hash, and how many bytes of the
-// output are packed or agree with the packed ones.
+// A job has no more loops, so that a request for the loop of this number is refused.
+const LOOPS: usize = 1024;
+
+// What a packed answer is the answer to. Each has the number by which it is packed.
+#[derive(Clone, Copy)]
+enum Operation {
+    Sewing,
+    Single(Stage),
+    LoopRequests,
+    SewingInRoom,
+    // A number that none has: the job is sewn.
+    Unknown(usize),
+}
+
+impl From<usize> for Operation {
+    ghost use Rattle.std.specs.Prelude.{◌≡◌};
+    ghost use Rattle.replay.specs.Operation.{packed_number};
+
+    ghost from_gives = { λ n operation. packed_number operation ≡ n };
+
+    #[tactic(auto, using(crate::proofs::StageNumbers::numbered_is), unfolding(rules::specs::Operation::stage_of))]
+    fn from(n: usize) -> Self {
+        match n {
+            0 => Operation::Sewing,
+            12 => Operation::LoopRequests,
+            13 => Operation::SewingInRoom,
+            _ => match Stage::numbered(n) {
+                Some(stage) => Operation::Single(stage),
+                None => Operation::Unknown(n),
+            },
+        }
+    }
+}
+
+impl Operation {
+    // The number by which it is packed.
+    fn number(self) -> usize
+        ensures { result ≡ packed_number self }
+    {
+        match self {
+            Operation::Sewing => 0,
+            Operation::Single(stage) => stage.number(),
+            Operation::LoopRequests => 12,
+            Operation::SewingInRoom => 13,
+            Operation::Unknown(n) => n,
+        }
+    }
+
+    // The length of its output, where `given` is packed with it.
+    fn room(self, given: usize) -> usize {
+        match self {
+            Operation::Sewing => BODY,
+            Operation::SewingInRoom => given,
+            _ => OUT,
+        }
+    }
+
+    // How many bytes stand before its answer for its room.
+    fn room_field(self) -> usize
+        ensures { result ≤ 4 }
+    {
+        match self {
+            Operation::SewingInRoom => 4,
+            _ => 0,
+        }
+    }
+
+    // Whether bytes of its output are packed behind the hash, after their count.
+    fn shows_output(self) -> bool {
+        matches!(self, Operation::Sewing | Operation::SewingInRoom)
+    }
+}
+
+// A refusal as it is packed, by its number.
 #[derive(Clone, Copy, PartialEq, Eq)]
-struct Answer {
+struct Refused {
     number: usize,
     place: usize,
-    hash: usize,
+}
+
+impl From<Refusal> for Refused {
+    fn from(refusal: Refusal) -> Self {
+        Refused {
+            number: refusal.fault.number(),
+            place: refusal.place,
+        }
+    }
+}
+
+// An output as it is packed, by its length and hash, with how many bytes of it are packed or agree with the packed ones.
+#[derive(Clone, Copy, PartialEq, Eq)]
+struct Output {
+    length: usize,
+    hash: u32,
     shown: usize,
 }
 
-// What is packed at a place: the operation, its room, the answer, where the output's bytes start, the place after it.
+// What is packed at a place: the operation, its room, the answer, the output's bytes, the place after it.
 #[derive(Clone, Copy)]
-struct Packed {
-    operation: usize,
+struct Packed<'a> {
+    operation: Operation,
     room: usize,
-    answer: Answer,
-    start: usize,
+    answer: Result<Output, Refused>,
+    output: &'a [u8],
     next: usize,
 }
 
-// The place that is reached, how many jobs, answers and differences there were before it, and whether each of these jobs
-// has all its answers.
+// The place that is reached, and how many jobs, answers and differences there were before it.
 #[derive(Clone, Copy)]
 struct Tally {
     at: usize,
     jobs: usize,
     answers: usize,
     differences: usize,
-    whole: bool,
-}
-
-// A refusal has no output.
-fn refused(number: usize, place: usize) -> Answer {
-    Answer {
-        number: number,
-        place: place,
-        hash: 0,
-        shown: 0,
-    }
 }
 
 // READING WHAT IS PACKED
@@ -66,106 +143,57 @@ fn refused(number: usize, place: usize) -> Answer {
 fn part(bytes: &[u8], from: usize, count: usize) -> &[u8]
     ensures { length result.now ≤ length bytes.now }
 {
-    let rest = lines::back(bytes, from);
-    lines::front(rest, count)
+    lines::front(lines::back(bytes, from), count)
 }
 
-// Operation 13 has a field for its room.
-fn room_field(operation: usize) -> usize
-    ensures { result ≤ 4 }
-{
-    if operation == 13 {
-        return 4;
-    }
-    0
-}
-
-// The room of an operation: 13 has its own, given with it.
-fn room_of(operation: usize, given: usize) -> usize {
-    if operation == 13 {
-        return given;
-    }
-    if operation == 0 {
-        return BODY;
-    }
-    OUT
-}
-
-// How many fields stand after a body's hash: sewing has the count of its packed bytes.
-fn count_field(operation: usize) -> usize
-    ensures { result ≤ 4 }
-{
-    if operation == 0 {
-        return 4;
-    }
-    if operation == 13 {
-        return 4;
-    }
-    0
-}
-
-// The number of packed bytes, where there is a field for it.
-fn shown_at(bytes: &[u8], at: usize, field: usize) -> usize
-    requires { at < 2 ^ 40 }
-    ensures { result < 4294967296 }
-{
-    if field == 0 {
-        return 0;
-    }
-    word(bytes, at)
-}
-
-// The answer that is packed at a place.
-fn packed_at(bytes: &[u8], at: usize) -> Packed
+// The answer that is packed at a place: 0, length and hash of an output, or number and place of a refusal.
+fn packed_at(bytes: &[u8], at: usize) -> Packed<'_>
     requires { at < 4294967296 }
     ensures { (at + 1 < result.next) × (result.next < at + 2 ^ 33) }
 {
-    let operation = word(bytes, at);
-    let room = room_of(operation, word(bytes, at + 4));
-    let ending = at + 4 + room_field(operation);
+    let operation = Operation::from(word(bytes, at));
+    let room = operation.room(word(bytes, at + 4));
+    let ending = at + 4 + operation.room_field();
     let number = word(bytes, ending);
-    let place = word(bytes, ending + 4);
-    if 0 < number {
-        let answer = refused(number, place);
+    let second = word(bytes, ending + 4);
+    if number != 0 {
         return Packed {
-            operation: operation,
-            room: room,
-            answer: answer,
-            start: 0,
+            operation,
+            room,
+            answer: Err(Refused {
+                number,
+                place: second,
+            }),
+            output: &[],
             next: ending + 8,
         };
     }
-    let hash = word(bytes, ending + 8);
-    let field = count_field(operation);
-    let shown = shown_at(bytes, ending + 12, field);
-    let start = ending + 12 + field;
-    let answer = Answer {
-        number: 0,
-        place: place,
-        hash: hash,
-        shown: shown,
+    let hash = word(bytes, ending + 8) as u32;
+    let (shown, start) = if operation.shows_output() {
+        (word(bytes, ending + 12), ending + 16)
+    } else {
+        (0, ending + 12)
     };
     Packed {
-        operation: operation,
-        room: room,
-        answer: answer,
-        start: start,
+        operation,
+        room,
+        answer: Ok(Output {
+            length: second,
+            hash,
+            shown,
+        }),
+        output: part(bytes, start, shown),
         next: start + shown,
     }
 }
 
 // WORKING IT OUT ANEW
 
-// The 32-bit FNV-1a hash.
-fn hash_of(bytes: &[u8]) -> usize {
-    bytes
-        .iter()
-        .fold(2166136261, |hash, byte| hash_more(hash, *byte))
-}
-
-fn hash_more(hash: usize, byte: u8) -> usize {
-    let mixed = hash ^ (byte as usize);
-    mixed % 4294967296 * 16777619 % 4294967296
+// The 32-bit FNV-1a hash. By hand, since no crate of the kit has it.
+fn hash_of(bytes: &[u8]) -> u32 {
+    bytes.iter().fold(2166136261, |hash: u32, byte| {
+        (hash ^ u32::from(*byte)).wrapping_mul(16777619)
+    })
 }
 
 // How many bytes at the front of two texts are the same.
@@ -173,103 +201,86 @@ fn agreeing(a: &[u8], b: &[u8]) -> usize {
     a.iter().zip(b).take_while(|(x, y)| x == y).count()
 }
 
-// Two numbers as fields at a place; gives the place after them.
-fn put_two(out: &mut [u8], at: usize, a: usize, b: usize) -> usize
-    requires { at < 4294967296 }
-    ensures { result ≡ at + 8 }
-{
-    let p = put_word(out, at, a);
-    put_word(out, p, b)
-}
-
 // The payload of a requested loop at a place, which is no longer than the job; gives the place after it.
 fn put_payload(job: &[u8], n: usize, out: &mut [u8], at: usize) -> usize
-    requires { (at < 2 ^ 40) × (length job.now < 4294967296) }
-    ensures { at ≤ result }
+    requires { (at < 2 ^ 50) × (length job.now < 4294967296) }
+    ensures { (at ≤ result) × (result ≤ at + length job.now) }
 {
     let payload = load::loop_payload(job, n);
     lines::put_text(out, at, lines::front(payload, job.len()))
 }
 
 // The answers to the loop requests from 0 up to the first that is refused: number and place, or 0, length and payload.
+#[tactic(auto, using(fields::specs::Tabled::length_field_bytes))]
 fn requests(job: &[u8], out: &mut [u8]) -> usize
     requires { (length job.now < 4294967296) × (length out.old < 4294967296) }
 {
-    let mut p: usize = 0;
-    let mut n: usize = 0;
-    while p < out.len() {
+    let mut p = 0;
+    for n in 0..=LOOPS {
         match load::loop_stretch(job, n) {
-            Err(refusal) => {
-                return put_two(out, p, refusal.fault.number(), refusal.place);
-            }
+            Err(refusal) => return put_two(out, p, refusal.fault.number(), refusal.place),
             Ok(bytes) => {
-                let q = put_two(out, p, 0, bytes.end - bytes.start);
+                let q = put_two(out, p, 0, bytes.len());
                 p = put_payload(job, n, out, q);
             }
         }
-        n += 1;
     }
     p
 }
 
-fn run(operation: usize, job: &[u8], out: &mut [u8]) -> Result<usize, Refusal>
+fn run(operation: Operation, job: &[u8], out: &mut [u8]) -> Result<usize, Refusal>
     requires { (length job.now < 4294967296) × (length out.old < 4294967296) }
 {
-    if operation == 12 {
-        return Ok(requests(job, out));
+    match operation {
+        Operation::LoopRequests => Ok(requests(job, out)),
+        Operation::Single(stage) => programs::operate(Some(stage), job, out),
+        _ => sewing::sew(job, out),
     }
-    programs::operate(Stage::numbered(operation), job, out)
-}
-
-fn least(a: usize, b: usize) -> usize
-    ensures { result ≤ b }
-{
-    a.min(b)
 }
 
 // The answer that is found, with the bytes of the output held against the packed ones.
-fn found(bytes: &[u8], job: &[u8], p: Packed, out: &mut [u8]) -> Answer
+fn found(job: &[u8], p: Packed<'_>, out: &mut [u8]) -> Result<Output, Refused>
     requires { (length job.now < 4294967296) × (length out.old < 4294967296) }
 {
-    let expected = p.answer;
-    let room = least(p.room, out.len());
-    let ending = run(p.operation, job, &mut out[..room]);
-    match ending {
-        Err(refusal) => refused(refusal.fault.number(), refusal.place),
-        Ok(n) => {
-            let written = lines::front(out, n);
-            let packed = part(bytes, p.start, expected.shown);
-            Answer {
-                number: 0,
-                place: n,
-                hash: hash_of(written),
-                shown: agreeing(packed, written),
-            }
-        }
-    }
+    let room = p.room.min(out.len());
+    let length = run(p.operation, job, &mut out[..room])?;
+    let written = lines::front(out, length);
+    Ok(Output {
+        length,
+        hash: hash_of(written),
+        shown: agreeing(p.output, written),
+    })
 }
 
 // REPORTING
 
-// Says on standard output what is found; where that does not take it, the last line tells.
-fn say(rt: &impl Print, text: &str) {
-    let _told = rt.print(text);
-}
-
-fn say_answer(rt: &impl Print, text: &str, a: Answer) {
-    let number = a.number;
-    let place = a.place;
-    let hash = a.hash;
-    let shown = a.shown;
-    let _told = print!(rt; " {text} {number} {place} {hash} {shown}");
+// Says on standard output what an answer is; where that does not take it, the last line tells.
+fn say_answer(rt: &impl Print, text: &str, answer: Result<Output, Refused>) {
+    let _told = match answer {
+        Err(Refused { number, place }) => print!(rt; " {text} {number} {place} 0 0"),
+        Ok(
+            Output {
+                length,
+                hash,
+                shown,
+            },
+        ) => print!(rt; " {text} 0 {length} {hash} {shown}"),
+    };
 }
 
 // The line of a difference.
-fn report(rt: &impl Print, vector: usize, operation: usize, expected: Answer, answer: Answer) {
-    let _told = print!(rt; "vector {vector} operation {operation}");
+fn report(
+    rt: &impl Print,
+    vector: usize,
+    operation: Operation,
+    expected: Result<Output, Refused>,
+    answer: Result<Output, Refused>,
+) {
+    let number = operation.number();
+    let _told = print!(rt; "vector {vector} operation {number}");
     say_answer(rt, "expected", expected);
     say_answer(rt, "found", answer);
-    say(rt, "\n");
+    let _told = rt.print("\n");
 }
 
 const PROGRAM: Program<'static> = Program {
@@ -277,46 +288,29 @@ const PROGRAM: Program<'static> = Program {
     usage: "replay FILE: holds the answers packed in FILE against the answers that its jobs have now",
 };
 
-// The end of the last line. Where standard output does not take it, that is told.
-fn say_last(rt: &(impl Print + Eprint), text: &str) {
-    programs::print(rt, PROGRAM, text.as_bytes());
-}
-
-// Says why the file is not usable; gives false.
-fn unusable(rt: &(impl Print + Eprint), why: &str) -> bool {
-    let _told = print!(rt; "not usable: {why}");
-    say_last(rt, "\n");
-    false
-}
-
-// Whether the vectors fill the file and have answers. If not, that is told.
-fn is_usable(rt: &(impl Print + Eprint), bytes: &[u8], t: Tally) -> bool {
-    if !t.whole {
-        return unusable(rt, "a vector has fewer answers than it says");
-    }
-    if t.jobs < word(bytes, 0) {
-        return unusable(rt, "the file has fewer vectors than its first field says");
-    }
-    if t.answers == 0 {
-        return unusable(rt, "the file has no answers");
-    }
-    if t.at != bytes.len() {
-        return unusable(rt, "the file does not end with its last vector");
-    }
-    true
-}
-
-// The closing line.
-fn close(rt: &(impl Print + Eprint), t: Tally) {
-    let differences = t.differences;
-    let answers = t.answers;
-    let jobs = t.jobs;
-    if differences == 0 {
-        let _told = print!(rt; "no difference in {answers} answers of {jobs}");
-    } else {
-        let _told = print!(rt; "{differences} differences in {answers} answers of {jobs}");
-    }
-    say_last(rt, " jobs\n");
+// The last line: what the vectors come to, or why the file is not usable. Where standard output does not take its end, that
+// is told.
+fn close(rt: &(impl Print + Eprint), ending: Result<Tally, &str>) {
+    let _told = match ending {
+        Err(why) => print!(rt; "not usable: {why}"),
+        Ok(
+            Tally {
+                differences: 0,
+                answers,
+                jobs,
+                ..
+            },
+        ) => print!(rt; "no difference in {answers} answers of {jobs} jobs"),
+        Ok(
+            Tally {
+                differences,
+                answers,
+                jobs,
+                ..
+            },
+        ) => print!(rt; "{differences} differences in {answers} answers of {jobs} jobs"),
+    };
+    programs::print(rt, PROGRAM, b"\n");
 }
 
 // THE VECTORS
@@ -324,38 +318,26 @@ fn close(rt: &(impl Print + Eprint), t: Tally) {
 // One answer of a job.
 fn run_answer(
     rt: &impl Print,
-    bytes: &[u8],
     job: &[u8],
     vector: usize,
-    p: Packed,
-    t: Tally,
+    p: Packed<'_>,
+    mut t: Tally,
     out: &mut [u8],
 ) -> Tally
     requires { Counted t × (t.at < p.next) × (p.next < 4294967296) × (length job.now < 4294967296) × (length out.old < 4294967296) }
-    ensures { Counted result × (result.at ≡ p.next) }
+    ensures { Counted result × (result.at ≡ p.entry.next) }
 {
-    let expected = p.answer;
-    let answer = found(bytes, job, p, out);
-    if expected == answer {
-        return Tally {
-            at: p.next,
-            jobs: t.jobs,
-            answers: t.answers + 1,
-            differences: t.differences,
-            whole: t.whole,
-        };
+    let answer = found(job, p, out);
+    t.at = p.next;
+    t.answers += 1;
+    if answer != p.answer {
+        report(rt, vector, p.operation, p.answer, answer);
+        t.differences += 1;
     }
-    report(rt, vector, p.operation, expected, answer);
-    Tally {
-        at: p.next,
-        jobs: t.jobs,
-        answers: t.answers + 1,
-        differences: t.differences + 1,
-        whole: t.whole,
-    }
+    t
 }
 
-// So many answers of a job, up to the first that is not in the file.
+// So many answers of a job.
 fn run_answers(
     rt: &impl Print,
     bytes: &[u8],
@@ -364,25 +346,19 @@ fn run_answers(
     count: usize,
     first: Tally,
     out: &mut [u8],
-) -> Tally
+) -> Result<Tally, &'static str>
     requires { Counted first × (first.at ≤ length bytes.now) × (length bytes.now < 4294967296) × (length job.now < 4294967296) × (length out.old < 4294967296) }
-    ensures { Counted result × (result.at ≤ length bytes.now) }
+    ensures { IfOk result (λ t. Counted t × (t.at ≤ length bytes.now)) }
 {
     let mut t = first;
     for _ in 0..count {
         let p = packed_at(bytes, t.at);
         if bytes.len() < p.next {
-            return Tally {
-                at: t.at,
-                jobs: t.jobs,
-                answers: t.answers,
-                differences: t.differences,
-                whole: false,
-            };
+            return Err("a vector has fewer answers than it says");
         }
-        t = run_answer(rt, bytes, job, vector, p, t, out);
+        t = run_answer(rt, job, vector, p, t, out);
     }
-    t
+    Ok(t)
 }
 
 // The place after a vector's job and the number of its answers.
@@ -394,9 +370,15 @@ fn answers_at(bytes: &[u8], at: usize) -> usize
 }
 
 // One vector: a job with its answers.
-fn run_vector(rt: &impl Print, bytes: &[u8], t: Tally, start: usize, out: &mut [u8]) -> Tally
+fn run_vector(
+    rt: &impl Print,
+    bytes: &[u8],
+    t: Tally,
+    start: usize,
+    out: &mut [u8],
+) -> Result<Tally, &'static str>
     requires { Counted t × (t.at + 8 ≤ start) × (start ≤ length bytes.now) × (length bytes.now < 4294967296) × (length out.old < 4294967296) }
-    ensures { Counted result × (result.at ≤ length bytes.now) }
+    ensures { IfOk result (λ t. Counted t × (t.at ≤ length bytes.now)) }
 {
     let size = word(bytes, t.at);
     let job = part(bytes, t.at + 4, size);
@@ -404,15 +386,13 @@ fn run_vector(rt: &impl Print, bytes: &[u8], t: Tally, start: usize, out: &mut [
     let first = Tally {
         at: start,
         jobs: t.jobs + 1,
-        answers: t.answers,
-        differences: t.differences,
-        whole: t.whole,
+        ..t
     };
     run_answers(rt, bytes, job, t.jobs, count, first, out)
 }
 
-// All vectors, up to the first that is not in the file.
-fn run_vectors(rt: &impl Print, bytes: &[u8], out: &mut [u8]) -> Tally
+// All vectors.
+fn run_vectors(rt: &impl Print, bytes: &[u8], out: &mut [u8]) -> Result<Tally, &'static str>
     requires { (length bytes.now < 4294967296) × (length out.old < 4294967296) }
 {
     let count = word(bytes, 0);
@@ -421,37 +401,36 @@ fn run_vectors(rt: &impl Print, bytes: &[u8], out: &mut [u8]) -> Tally
         jobs: 0,
         answers: 0,
         differences: 0,
-        whole: true,
     };
     for _ in 0..count {
         let start = answers_at(bytes, t.at);
         if bytes.len() < start {
-            return t;
+            return Err("the file has fewer vectors than its first field says");
         }
-        t = run_vector(rt, bytes, t, start, out);
-        if !t.whole {
-            return t;
-        }
+        t = run_vector(rt, bytes, t, start, out)?;
     }
-    t
+    Ok(t)
 }
 
-// Replays the vectors of a file's bytes.
-fn replay(rt: &(impl Print + Eprint), bytes: &[u8])
+// What the vectors of a file's bytes come to, or why the file is not usable: they must fill it and have answers.
+fn replay(rt: &impl Print, bytes: &[u8]) -> Result<Tally, &'static str>
     requires { length bytes.now < 4294967296 }
 {
     if bytes.len() == FILE {
-        let _told = unusable(rt, "the file has more than 2,000,000 bytes");
-        return;
+        return Err("the file has more than 2,000,000 bytes");
     }
     let mut out = [0u8; OUT];
-    let t = run_vectors(rt, bytes, &mut out);
-    if is_usable(rt, bytes, t) {
-        close(rt, t);
+    let t = run_vectors(rt, bytes, &mut out)?;
+    if t.answers == 0 {
+        return Err("the file has no answers");
     }
+    if t.at != bytes.len() {
+        return Err("the file does not end with its last vector");
+    }
+    Ok(t)
 }
 
-// Room for a file.
+// Room for a file: apart from `main`, where proofs would write a list so long out.
 fn blank() -> [u8; FILE]
     ensures { 2000001 ≡ length result }
 {
@@ -463,5 +442,6 @@ fn main(rt: HostRuntime) {
     let Some(n) = programs::read_file(&rt, PROGRAM, 1, &mut file) else {
         return;
     };
-    replay(&rt, part(&file, 0, n));
+    let ending = replay(&rt, part(&file, 0, n));
+    close(&rt, ending);
 }

@@ -1,7 +1,31 @@
 -- Kinds by number.
 use Rattle.std.specs.Prelude.{ℕ, zero, suc, ◌≡◌, refl}
-use Rattle.rules.specs.declared.Kind.TheVariants.{Unknown}
-use Rattle.rules.specs.Kinds.{kind_of}
+use Rattle.std.proofs.Common.{sym, ap, ◌∙◌}
+use Rattle.rules.specs.declared.Kind.{Kind}
+use Rattle.rules.specs.declared.Kind.TheVariants.{Unknown, Head, Vertex, EdgeRecord, FaceRecord, LoopRecord, VertexLoop, Radial, Surface, Points, Curves, Singular, Orientation, Inside}
+use Rattle.rules.specs.Kinds.{kind_of, number_of}
+
+-- the kind of a kind's number
+kind_is : (k : Kind) → kind_of (number_of k) ≡ k
+unfolding kind_of number_of
+kind_is Unknown = refl
+kind_is Head = refl
+kind_is Vertex = refl
+kind_is EdgeRecord = refl
+kind_is FaceRecord = refl
+kind_is LoopRecord = refl
+kind_is VertexLoop = refl
+kind_is Radial = refl
+kind_is Surface = refl
+kind_is Points = refl
+kind_is Curves = refl
+kind_is Singular = refl
+kind_is Orientation = refl
+kind_is Inside = refl
+
+-- so kinds are told apart by their numbers
+pub one_kind : (k l : Kind) → number_of k ≡ number_of l → k ≡ l
+one_kind k l e = sym (kind_is k) ∙ ap kind_of e ∙ kind_is l
 
 -- a number that is none of 1 to 13 is no kind
 pub no_kind : (k : ℕ) → (k ≡ 1 → ⊥) → (k ≡ 2 → ⊥) → (k ≡ 3 → ⊥) → (k ≡ 4 → ⊥) → (k ≡ 5 → ⊥) → (k ≡ 6 → ⊥) → (k ≡ 7 → ⊥) → (k ≡ 8 → ⊥) → (k ≡ 9 → ⊥)

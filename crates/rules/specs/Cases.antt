@@ -1,5 +1,5 @@
 -- Further jobs made by hand from document 01, each with its ending: what P1 to P9 leave open.
-use Rattle.std.specs.Prelude.{◌≡◌, refl, List, [], ◌∷◌, ◌++◌, Bool, true, false, ◌&&◌, ℕ, eqb}
+use Rattle.std.specs.Prelude.{◌≡◌, refl, List, [], ◌∷◌, ◌++◌, Bool, true, false, ℕ}
 use Rattle.lists.specs.Lists.{same, all}
 use Rattle.rules.specs.Outcome.{Outcome, Ok, refuse, Err, same_refusal}
 use Rattle.rules.specs.Frame.{Record, framed_all}

@@ -30,3 +30,4 @@ pub mod Parts
 pub mod Cases
 pub mod MoreCases
 pub mod RequestCases
+pub mod FaultNumbers

@@ -1,5 +1,5 @@
 -- Questions and their answers: refusals 20, 21 and the values.
-use Rattle.std.specs.Prelude.{ℕ, List, [], ◌∷◌, Bool, true, false, ◌&&◌, cond, eqb, leb, Option, Some, None, is_some}
+use Rattle.std.specs.Prelude.{ℕ, List, [], ◌∷◌, Bool, true, false, ◌&&◌, cond, eqb, leb, Option, Some, None}
 use Rattle.lists.specs.Lists.{same}
 use Rattle.rules.specs.declared.SurfaceAnswer.{SurfaceAnswer}
 use Rattle.rules.specs.declared.SurfaceAnswer.TheVariants.{Different, Agreeing, Opposed, Vanishing, Undecided as SurfaceUndecided}

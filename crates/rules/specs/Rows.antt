@@ -1,6 +1,6 @@
 -- The records of each stage as rows: docs/STAGES.md's "A record for each", with the fields of the record in order. A stage
 -- writes its rows one after the other; a program prints a line for each.
-use Rattle.std.specs.Prelude.{ℕ, suc, length, get_or, Option, Some, None}
+use Rattle.std.specs.Prelude.{ℕ, suc, length, Option, Some, None}
 use mathlib.Core.List.{List, [], ◌∷◌, ◌++◌, flat_map, map}
 use Rattle.lists.specs.Lists.{below, keep}
 use Rattle.rules.specs.declared.Stage.{Stage}

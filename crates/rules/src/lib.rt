@@ -2,10 +2,13 @@
 
 #![tactic(auto)]
 
-ghost use Rattle.std.specs.Prelude.{◌≡◌};
+ghost use Rattle.std.specs.Prelude.{◌≡◌, ◌<◌};
 ghost use Rattle.rules.specs.Outcome.{fault_number};
 ghost use Rattle.rules.specs.Sense.{reverse};
 ghost use Rattle.rules.specs.Operation.{stage_number, stage_of, is_asked};
+ghost use Rattle.rules.specs.Kinds.{number_of};
+ghost use Rattle.rules.specs.Job.{ring, start_by, end_by};
+ghost use Rattle.rules.specs.Read.{stored_sense};
 
 use std::ops::Mul;
 
@@ -22,8 +25,8 @@ impl Sense {
         ensures { result ≡ reverse self }
     {
         match self {
-            Sense::Same => Sense::Reversed,
-            Sense::Reversed => Sense::Same,
+            Self::Same => Self::Reversed,
+            Self::Reversed => Self::Same,
         }
     }
 }
@@ -81,7 +84,7 @@ impl Mul for Sense {
 }
 
 // The kinds of job records, 1 to 13; any other number is unknown.
-#[derive(Clone, Copy)]
+#[derive(Clone, Copy, PartialEq, Eq)]
 pub enum Kind {
     Unknown,
     Head,
@@ -124,6 +127,16 @@ impl From<usize> for Kind {
             13 => Kind::Inside,
             _ => Kind::Unknown,
         }
+    }
+}
+
+impl Kind {
+    // The number of a kind; 0 for one that is unknown.
+    #[tactic(auto, unfolding(crate::specs::Kinds::number_of))]
+    pub fn number(self) -> usize
+        ensures { (result ≡ number_of self) × (result < 14) }
+    {
+        self as usize
     }
 }
 
@@ -203,6 +216,35 @@ pub struct Edge {
     pub end: u32,
 }
 
+impl Edge {
+    // It has no vertices.
+    pub fn is_ring(self) -> bool
+        ensures { result ≡ ring self }
+    {
+        self.start == u32::MAX
+    }
+
+    // The vertex where a sense of it starts.
+    pub fn start_by(self, sense: Sense) -> u32
+        ensures { result ≡ start_by sense self }
+    {
+        match sense {
+            Sense::Same => self.start,
+            Sense::Reversed => self.end,
+        }
+    }
+
+    // The vertex where a sense of it ends.
+    pub fn end_by(self, sense: Sense) -> u32
+        ensures { result ≡ end_by sense self }
+    {
+        match sense {
+            Sense::Same => self.end,
+            Sense::Reversed => self.start,
+        }
+    }
+}
+
 // A selected face: face `source` of one of two bodies, 0 and 1.
 #[derive(Clone, Copy)]
 pub struct Face {
@@ -211,6 +253,16 @@ pub struct Face {
     pub selected: Sense,
     pub body: u32,
     pub source: u32,
+}
+
+impl Face {
+    // Own times selected.
+    #[tactic(auto, using(crate::proofs::SenseLaws::answers_product))]
+    pub fn stored_sense(self) -> Sense
+        ensures { result ≡ stored_sense self }
+    {
+        self.own * self.selected
+    }
 }
 
 // An edge in a loop, with the sense in which the loop runs along it.

@@ -9,12 +9,12 @@ ghost use Rattle.std.specs.Prelude.{◌≡◌, ◌+◌, ◌<◌, ◌&&◌, eqb};
 ghost use Rattle.lists.specs.Lists.{some};
 ghost use Rattle.rules.specs.Fields.{le32};
 ghost use Rattle.rules.specs.Load.{same_source};
-ghost use Rattle.job.specs.Lists.{face_in, faces_in};
+ghost use Rattle.job.specs.Lists.{face_in};
+ghost use Rattle.job.specs.Raw.{faces};
 ghost use Rattle.selected.specs.Sources.{face_entered, Sourced};
 
 use fields::{byte, get, put_byte, word};
-use job::FACES;
-use rules::Counts;
+use job::{FACES, RawJob};
 
 // Heads of the chains, then the entry after each face.
 pub const SOURCES: usize = 512;
@@ -32,16 +32,17 @@ fn is_face(job: &[u8], at: usize, body: usize, source: usize) -> bool
 }
 
 // The face of the record at a byte is one of those selected before.
-pub fn selected_before(job: &[u8], index: &[u32], sources: &[u8], c: Counts, at: usize) -> bool
-    requires { Sourced job.now index.now sources.now c × (c.faces < 256) × (at < 4294967296) }
-    ensures { result ≡ some (same_source (face_in job.now at)) (faces_in job.now index.now c) }
+pub fn selected_before(raw: &RawJob<'_>, sources: &[u8], at: usize) -> bool
+    requires { Sourced raw.now.bytes.now raw.now.index.now sources.now raw.now.counts × (raw.now.counts.faces < 256) × (at < 4294967296) }
+    ensures { result ≡ some (same_source (face_in raw.now.bytes.now at)) (faces raw.now) }
 {
-    let body = word(job, at + 18);
-    let source = word(job, at + 22);
+    let body = word(raw.bytes, at + 18);
+    let source = word(raw.bytes, at + 22);
+    // a `while`: only an entry of the chain tells the next
     let mut i = byte(sources, source % BUCKETS);
     while 0 < i {
         let k = i - 1;
-        if is_face(job, get(index, FACES + k), body, source) {
+        if is_face(raw.bytes, get(raw.index, FACES + k), body, source) {
             return true;
         }
         i = byte(sources, NEXT + k);

@@ -1,410 +1,257 @@
 // Sewing: from a job's bytes to the body or to the fields of a single stage. Each stage is done and handed to the next, up
-// to the one that is asked for.
+// to the one that is asked for. Tables are made in two sizes, for small parts and for all others: small ones are cleared
+// sooner.
 
 #![tactic(auto)]
 
-ghost use Rattle.std.specs.Prelude.{◌≡◌, ◌*◌, ◌≤◌, length, take, false};
+ghost use Rattle.std.specs.Prelude.{◌≡◌, ◌≤◌, ◌<◌, length, false};
 ghost use Rattle.rules.specs.Operation.{is_asked};
 ghost use Rattle.rules.specs.Read.{uses_of};
 ghost use Rattle.rules.specs.Rules.{ordinary, full_table};
-ghost use Rattle.rules.specs.Groups.{Lowest};
 ghost use Rattle.rules.specs.Merge.{removed_uses};
+ghost use mathlib.Core.List.{flat_map};
 ghost use Rattle.rules.specs.Walk.{circuits, loops_of};
-ghost use Rattle.rules.specs.Sew.{sewn, Ends};
-ghost use Rattle.rules.specs.Stage.{read_stage, pair_stage, merge_stage, vertex_loop_stage, walk_stage, loop_stage, fan_stage, edge_stage, joining_stage, shell_stage, lump_stage};
-ghost use Rattle.theorems.specs.Promises.{Promises};
-ghost use Rattle.job.specs.Lists.{job_in};
-ghost use Rattle.uses.specs.Table.{uses_in};
+ghost use Rattle.theorems.specs.Circuits.{Permuted};
 ghost use Rattle.stages_out.specs.Rows.{Staged, round_rows};
+ghost use Rattle.rules.specs.Sew.{sewn, Ends};
+ghost use Rattle.rules.specs.Stage.{use_fields, loop_fields, stage_bytes, read_stage, pair_stage, merge_stage, vertex_loop_stage, walk_stage, loop_stage, fan_stage, edge_stage, joining_stage, shell_stage, lump_stage};
+ghost use Rattle.theorems.specs.Promises.{Promises};
+ghost use Rattle.loaded.specs.Opened.{Loads};
 ghost use Rattle.progress.specs.Chain.{after_reading, after_pairing, after_merging, after_keeping, after_walks, staged, sewn_by};
-ghost use Rattle.progress.specs.Known.{Opened, Paired, Grouped, Settled, groups_in, numbers_in, merged_in, walked_in};
-ghost use Rattle.sewing.specs.Steps.{Blank, Read, Chained, FacesOf, Kept, WalkTables, WalksOf, Walks, Promised};
+ghost use Rattle.progress.specs.Known.{Paired, Grouped, Kept, merged_in, walked_in};
+ghost use Rattle.sewing.specs.Steps.{Promised};
 
 use body::put_empty;
 use edge_uses::link;
-use load::load;
-use merge_faces::{boundaries, merge_faces, number, remove};
+use fields::Span;
+use job::INDEX;
+use load::open;
+use loaded::Loaded;
+use merge_faces::{Faces, merge_faces, remove};
 use pair::pair;
-use progress::{Faces, Figures};
+use progress::Walks;
 use read::read;
 use rebuild::rebuild;
-use rules::{Counts, Refusal, Stage};
+use rules::{KeptVertexLoop, Refusal, Stage, Use};
 use stages_out::{write_kept, write_loops, write_pairs, write_read, write_twins, write_walk};
+use uses::NO_USE;
 use vertex_loops::vertex_loops;
 use walk::{loops, successors};
 
-// The stage `loops` of walks that are known by their successors.
+// A kept vertex loop and a stretch before the tables of them are filled.
+const NO_VERTEX_LOOP: KeptVertexLoop = KeptVertexLoop { face: 0, point: 0 };
+
+const NO_SPAN: Span = Span { start: 0, end: 0 };
+
+// The stage `loops`, of walks that are known by their successors.
 fn put_loops(
-    c: Counts,
-    m: Faces,
-    uses: &[u32],
+    uses: &[Use],
+    numbers: &[u32],
     removed: &[bool],
     succ: &[u32],
     out: &mut [u8],
 ) -> Result<usize, Refusal>
-    requires { Walks c m (uses_in uses.now) removed.now succ.now }
-    ensures { Staged (round_rows (uses_in uses.now) (numbers_in c m) (loops_of (circuits removed.now succ.now))) out.old out.new result }
+    requires { Permuted (length uses.now) removed.now succ.now × (length uses.now ≤ 2048) }
+    ensures { Staged (round_rows uses.now numbers.now (loops_of (circuits removed.now succ.now))) out.old out.new result }
 {
     let n = succ.len();
-    let numbers = m.numbers;
-    let mut ways = [0u32; 2048];
-    let mut stretches = [0u32; 4096];
-    let k = loops(removed, succ, &mut ways[..n], &mut stretches[..2 * n]);
-    write_loops(
-        uses,
-        &numbers[..c.faces],
-        &ways[..n],
-        &stretches[..2 * n],
-        k,
-        out,
-    )
+    let mut table = [0u32; 2048];
+    let mut room = [NO_SPAN; 2048];
+    let ways = &mut table[..n];
+    let stretches = &mut room[..n];
+    let k = loops(removed, succ, ways, stretches);
+    write_loops(uses, numbers, ways, &stretches[..k], out)
 }
 
 // The loops, or what is built on the walks.
-fn on_walks(
-    stage: Option<Stage>,
-    job: &[u8],
-    index: &[u32],
-    c: Counts,
-    m: Faces,
-    uses: &[u32],
-    twins: &[u32],
-    removed: &[bool],
-    succ: &[u32],
-    kept: &[u32],
-    g: Figures,
-    out: &mut [u8],
-) -> Result<usize, Refusal>
-    requires { Settled job.now index.now c (uses_in uses.now) twins.now m removed.now succ.now kept.now g × (is_asked Stage.Walk stage ≡ false) }
-    ensures { Ends (after_walks stage (job_in job.now index.now c) (length out.old) (walked_in c m (uses_in uses.now) twins.now removed.now g.kept kept.now)) out.old out.new result }
+#[tactic(auto, unfolding(progress::specs::Chain::after_walks))]
+fn on_walks(stage: Option<Stage>, w: &Walks<'_>, out: &mut [u8]) -> Result<usize, Refusal>
+    requires { is_asked Stage.Walk stage ≡ false }
+    ensures { Ends (after_walks stage w.now.job (length out.old) w.now.walked) out.old out.new result }
 {
     if Stage::Loops.is_asked(stage) {
-        return put_loops(c, m, uses, removed, succ, out);
+        return put_loops(w.uses, w.faces.numbers(), w.removed, w.succ, out);
     }
-    rebuild(
-        stage, job, index, c, m, uses, twins, removed, succ, kept, g, out,
-    )
+    rebuild(stage, w, out)
 }
 
-// The uses removed and the walks past them, each in its table; how many are removed and passed over, beside the k vertex
-// loops kept.
-fn walks(
-    c: Counts,
-    m: Faces,
-    uses: &[u32],
-    twins: &[u32],
-    k: usize,
-    removed: &mut [bool],
-    succ: &mut [u32],
-    passed: &mut [u32],
-) -> Figures
-    requires { (c.faces ≤ length m.groups) × (length (uses_in uses.now) ≤ 2048) × WalkTables (length (uses_in uses.now)) removed.old succ.old passed.old }
-    ensures { WalksOf c m (uses_in uses.now) twins.now k removed.new succ.new passed.new result }
-{
-    let groups = m.groups;
-    let gone = remove(uses, twins, &groups[..c.faces], removed);
-    let total = successors(uses, twins, removed, succ, passed);
-    Figures {
-        removed: gone,
-        passed: total,
-        kept: k,
-    }
-}
-
-// The walks in tables for all uses.
-fn walk_in(
+// The uses removed and the walks past them, in tables for so many uses.
+#[tactic(auto, unfolding(progress::specs::Chain::after_walks, rules::specs::Sew::walks_of, stages_out::specs::Rows::walk_rows))]
+fn walk_in_tables<const USES: usize>(
     stage: Option<Stage>,
-    job: &[u8],
-    index: &[u32],
-    c: Counts,
-    m: Faces,
-    uses: &[u32],
+    job: &Loaded<'_>,
+    uses: &[Use],
     twins: &[u32],
-    kept: &[u32],
-    k: usize,
-    removed: &mut [bool],
-    succ: &mut [u32],
-    passed: &mut [u32],
+    faces: &Faces,
+    kept: &[KeptVertexLoop],
     out: &mut [u8],
 ) -> Result<usize, Refusal>
-    requires { Kept job.now index.now c (uses_in uses.now) twins.now m kept.now k × WalkTables c.uses removed.old succ.old passed.old }
-    ensures { Ends (after_walks stage (job_in job.now index.now c) (length out.old)
-        (walked_in c m (uses_in uses.now) twins.now (removed_uses (uses_in uses.now) twins.now (groups_in c m)) k kept.now)) out.old out.new result }
+    requires { Kept job.now uses.now twins.now faces.now kept.now × (length uses.now ≤ USES) × (USES ≤ 2048) }
+    ensures { Ends (after_walks stage job.now (length out.old) (walked_in uses.now twins.now faces.now (removed_uses uses.now twins.now faces.now.groups) kept.now)) out.old out.new result }
 {
-    let g = walks(c, m, uses, twins, k, removed, succ, passed);
+    let n = uses.len();
+    let mut flags = [false; USES];
+    let mut table = [0u32; USES];
+    let mut counts = [0u32; USES];
+    let removed = &mut flags[..n];
+    let succ = &mut table[..n];
+    let passed = &mut counts[..n];
+    let gone = remove(uses, twins, faces.groups(), removed);
+    let total = successors(uses, twins, removed, succ, passed);
     if Stage::Walk.is_asked(stage) {
         return write_walk(removed, succ, passed, out);
     }
-    on_walks(
-        stage, job, index, c, m, uses, twins, removed, succ, kept, g, out,
-    )
-}
-
-// The walks in tables for so many uses.
-fn walk_in_tables<const USES: usize>(
-    stage: Option<Stage>,
-    job: &[u8],
-    index: &[u32],
-    c: Counts,
-    m: Faces,
-    uses: &[u32],
-    twins: &[u32],
-    kept: &[u32],
-    k: usize,
-    out: &mut [u8],
-) -> Result<usize, Refusal>
-    requires { Kept job.now index.now c (uses_in uses.now) twins.now m kept.now k × (c.uses ≤ USES) × (USES ≤ 2048) }
-    ensures { Ends (after_walks stage (job_in job.now index.now c) (length out.old)
-        (walked_in c m (uses_in uses.now) twins.now (removed_uses (uses_in uses.now) twins.now (groups_in c m)) k kept.now)) out.old out.new result }
-{
-    let mut removed = [false; USES];
-    let mut succ = [0u32; USES];
-    let mut passed = [0u32; USES];
-    walk_in(
-        stage,
+    let walks = Walks {
         job,
-        index,
-        c,
-        m,
         uses,
         twins,
+        faces,
         kept,
-        k,
-        &mut removed[..c.uses],
-        &mut succ[..c.uses],
-        &mut passed[..c.uses],
-        out,
-    )
+        removed,
+        succ,
+        gone,
+        passed: total,
+    };
+    on_walks(stage, &walks, out)
 }
 
 // The walks, once the vertex loops are kept.
+#[tactic(auto, using(progress::specs::KnownLaws::loads_loops, progress::specs::KnownLaws::paired_few), unfolding(progress::specs::Chain::after_keeping, rules::specs::Sew::walks_of))]
 fn on_kept(
     stage: Option<Stage>,
-    job: &[u8],
-    index: &[u32],
-    c: Counts,
-    m: Faces,
-    uses: &[u32],
+    job: &Loaded<'_>,
+    uses: &[Use],
     twins: &[u32],
-    kept: &[u32],
-    k: usize,
+    faces: &Faces,
+    kept: &[KeptVertexLoop],
     out: &mut [u8],
 ) -> Result<usize, Refusal>
-    requires { Kept job.now index.now c (uses_in uses.now) twins.now m kept.now k }
-    ensures { Ends (after_keeping stage (job_in job.now index.now c) (length out.old)
-        (walked_in c m (uses_in uses.now) twins.now (removed_uses (uses_in uses.now) twins.now (groups_in c m)) k kept.now)) out.old out.new result }
+    requires { Kept job.now uses.now twins.now faces.now kept.now }
+    ensures { Ends (after_keeping stage job.now (length out.old) (walked_in uses.now twins.now faces.now (removed_uses uses.now twins.now faces.now.groups) kept.now)) out.old out.new result }
 {
     if Stage::VertexLoops.is_asked(stage) {
-        return write_kept(kept, k, out);
+        return write_kept(kept, out);
     }
-    if c.uses <= 64 {
-        // small tables are cleared sooner
-        return walk_in_tables::<64>(stage, job, index, c, m, uses, twins, kept, k, out);
+    if uses.len() <= 64 {
+        return walk_in_tables::<64>(stage, job, uses, twins, faces, kept, out);
     }
-    walk_in_tables::<2048>(stage, job, index, c, m, uses, twins, kept, k, out)
+    walk_in_tables::<2048>(stage, job, uses, twins, faces, kept, out)
+}
+
+// The vertex loops kept, in a table for so many loops.
+#[tactic(auto, unfolding(progress::specs::Chain::after_merging))]
+fn keep_in_table<const LOOPS: usize>(
+    stage: Option<Stage>,
+    job: &Loaded<'_>,
+    uses: &[Use],
+    twins: &[u32],
+    faces: &Faces,
+    out: &mut [u8],
+) -> Result<usize, Refusal>
+    requires { Grouped job.now uses.now twins.now faces.now × (is_asked Stage.Merge stage ≡ false) × (length job.now.loops ≤ LOOPS) × (LOOPS ≤ 1024) }
+    ensures { Ends (after_merging stage job.now uses.now twins.now (length out.old) (merged_in faces.now (removed_uses uses.now twins.now faces.now.groups))) out.old out.new result }
+{
+    let mut kept = [NO_VERTEX_LOOP; LOOPS];
+    let k = vertex_loops(job, faces.numbers(), &mut kept)?;
+    on_kept(stage, job, uses, twins, faces, &kept[..k], out)
 }
 
 // The vertex loops, once the faces are merged.
+#[tactic(auto, using(stages_out::specs::Rows::pair_rows_lem, progress::specs::KnownLaws::labels_length), unfolding(progress::specs::Chain::after_merging))]
 fn on_merged(
     stage: Option<Stage>,
-    job: &[u8],
-    index: &[u32],
-    c: Counts,
-    m: Faces,
-    uses: &[u32],
+    job: &Loaded<'_>,
+    uses: &[Use],
     twins: &[u32],
-    kept: &mut [u32],
+    faces: &Faces,
     out: &mut [u8],
 ) -> Result<usize, Refusal>
-    requires { Grouped job.now index.now c (uses_in uses.now) twins.now m × (2 * c.loops ≤ length kept.old) }
-    ensures { Ends (after_merging stage (job_in job.now index.now c) (uses_in uses.now) twins.now (length out.old)
-        (merged_in c m (removed_uses (uses_in uses.now) twins.now (groups_in c m)))) out.old out.new result }
+    requires { Grouped job.now uses.now twins.now faces.now }
+    ensures { Ends (after_merging stage job.now uses.now twins.now (length out.old) (merged_in faces.now (removed_uses uses.now twins.now faces.now.groups))) out.old out.new result }
 {
     if Stage::Merge.is_asked(stage) {
-        let labels = m.boundaries;
-        let groups = m.groups;
-        return write_pairs(&labels[..c.faces], &groups[..c.faces], out);
+        return write_pairs(faces.boundaries(), faces.groups(), out);
     }
-    let numbers = m.numbers;
-    let k = vertex_loops(job, index, c, &numbers[..c.faces], kept)?;
-    on_kept(stage, job, index, c, m, uses, twins, kept, k, out)
-}
-
-// The boundaries, numbers and lowest members that belong to merged groups, which so many face joins made.
-fn faces_of(n: usize, uses: &[u32], twins: &[u32], groups: [u32; 256], joins: usize) -> Faces
-    requires { (n ≤ 256) × (length groups ≡ 256) × Lowest (take n groups) }
-    ensures { FacesOf n (uses_in uses.now) twins.now groups joins result }
-{
-    let mut labels = [0u32; 256];
-    let mut numbers = [0u32; 256];
-    let mut members = [0u32; 256];
-    boundaries(uses, twins, &mut labels[..n]);
-    let merged = number(&groups[..n], &mut members[..n], &mut numbers[..n]);
-    Faces {
-        merged,
-        joins,
-        boundaries: labels,
-        groups,
-        numbers,
-        members,
+    if job.loops() <= 64 {
+        return keep_in_table::<64>(stage, job, uses, twins, faces, out);
     }
+    keep_in_table::<1024>(stage, job, uses, twins, faces, out)
 }
 
 // The faces merged, once the uses are paired.
+#[tactic(auto, using(progress::specs::KnownLaws::loads_sound, progress::specs::KnownLaws::paired_twins), unfolding(progress::specs::Chain::after_pairing, rules::specs::Merge::merge_faces))]
 fn on_paired(
     stage: Option<Stage>,
-    job: &[u8],
-    index: &[u32],
-    c: Counts,
-    uses: &[u32],
+    job: &Loaded<'_>,
+    uses: &[Use],
     twins: &[u32],
-    kept: &mut [u32],
     out: &mut [u8],
 ) -> Result<usize, Refusal>
-    requires { Paired job.now index.now c (uses_in uses.now) twins.now × (2 * c.loops ≤ length kept.old) }
-    ensures { Ends (after_pairing stage (job_in job.now index.now c) (uses_in uses.now) (length out.old) twins.now) out.old out.new result }
+    requires { Paired job.now uses.now twins.now }
+    ensures { Ends (after_pairing stage job.now uses.now (length out.old) twins.now) out.old out.new result }
 {
     if Stage::Pair.is_asked(stage) {
         return write_twins(twins, out);
     }
-    let mut groups = [0u32; 256];
-    let joins = merge_faces(job, index, c, uses, twins, &mut groups[..c.faces])?;
-    let m = faces_of(c.faces, uses, twins, groups, joins);
-    on_merged(stage, job, index, c, m, uses, twins, kept, out)
+    let faces = merge_faces(job, uses, twins)?;
+    on_merged(stage, job, uses, twins, &faces, out)
 }
 
-// The uses paired in a table for so many.
-fn pair_in_table<const USES: usize>(
+// The uses read, those of each edge chained, and paired, in tables for so many uses and edges.
+#[tactic(auto, unfolding(progress::specs::Chain::after_reading))]
+fn read_in_tables<const USES: usize, const EDGES: usize>(
     stage: Option<Stage>,
-    job: &[u8],
-    index: &[u32],
-    c: Counts,
-    uses: &[u32],
-    firsts: &[u32],
-    nexts: &[u32],
-    kept: &mut [u32],
+    job: &Loaded<'_>,
     out: &mut [u8],
 ) -> Result<usize, Refusal>
-    requires { Chained job.now index.now c (uses_in uses.now) firsts.now nexts.now kept.old × (c.uses ≤ USES) × (USES ≤ 2048) }
-    ensures { Ends (after_reading stage (job_in job.now index.now c) (length out.old) (uses_in uses.now)) out.old out.new result }
+    requires { Loads job.now × (length (uses_of job.now) ≤ USES) × (USES ≤ 2048) × (length job.now.edges ≤ EDGES) × (EDGES ≤ 1024) }
+    ensures { Ends (after_reading stage job.now (length out.old) (uses_of job.now)) out.old out.new result }
 {
-    let twins: [u32; USES] = pair(job, index, c, uses, firsts, nexts)?;
-    on_paired(stage, job, index, c, uses, &twins[..c.uses], kept, out)
+    let n = job.uses();
+    let mut table = [NO_USE; USES];
+    let mut heads = [0u32; EDGES];
+    let mut links = [0u32; USES];
+    let uses = &mut table[..n];
+    read(job, uses);
+    let linked = link(uses, &mut heads[..job.edges()], &mut links[..n]);
+    let twins: [u32; USES] = pair(job, &linked)?;
+    on_paired(stage, job, uses, &twins[..n], out)
 }
 
-// The uses paired, once they are read.
-fn on_read(
-    stage: Option<Stage>,
-    job: &[u8],
-    index: &[u32],
-    c: Counts,
-    uses: &[u32],
-    firsts: &mut [u32],
-    nexts: &mut [u32],
-    kept: &mut [u32],
-    out: &mut [u8],
-) -> Result<usize, Refusal>
-    requires { Read job.now index.now c (uses_in uses.now) × Blank c firsts.old nexts.old kept.old }
-    ensures { Ends (after_reading stage (job_in job.now index.now c) (length out.old) (uses_in uses.now)) out.old out.new result }
+// The uses read and paired, once the job is loaded.
+fn on_loaded(stage: Option<Stage>, job: &Loaded<'_>, out: &mut [u8]) -> Result<usize, Refusal>
+    requires { Loads job.now }
+    ensures { Ends (after_reading stage job.now (length out.old) (uses_of job.now)) out.old out.new result }
 {
-    link(uses, firsts, nexts);
-    if c.uses <= 64 {
-        return pair_in_table::<64>(stage, job, index, c, uses, firsts, nexts, kept, out);
+    let uses = job.uses();
+    let edges = job.edges();
+    if uses <= 64 && edges <= 64 {
+        return read_in_tables::<64, 64>(stage, job, out);
     }
-    pair_in_table::<2048>(stage, job, index, c, uses, firsts, nexts, kept, out)
-}
-
-// The uses read in tables for all uses, edges and loops.
-fn read_in(
-    stage: Option<Stage>,
-    job: &[u8],
-    index: &[u32],
-    c: Counts,
-    uses: &mut [u32],
-    firsts: &mut [u32],
-    nexts: &mut [u32],
-    kept: &mut [u32],
-    out: &mut [u8],
-) -> Result<usize, Refusal>
-    requires { Opened job.now index.now c × (length uses.old ≡ 4 * c.uses) × Blank c firsts.old nexts.old kept.old }
-    ensures { Ends (after_reading stage (job_in job.now index.now c) (length out.old) (uses_of (job_in job.now index.now c))) out.old out.new result }
-{
-    read(job, index, c, uses);
-    on_read(stage, job, index, c, uses, firsts, nexts, kept, out)
-}
-
-// The uses read in tables for so many uses, of four fields each, edges, and twice the loops.
-fn read_in_tables<const USES: usize, const FIELDS: usize, const EDGES: usize, const ENDS: usize>(
-    stage: Option<Stage>,
-    job: &[u8],
-    index: &[u32],
-    c: Counts,
-    out: &mut [u8],
-) -> Result<usize, Refusal>
-    requires { Opened job.now index.now c × (c.uses ≤ USES) × (4 * USES ≤ FIELDS) × (FIELDS ≤ 8192) × (c.edges ≤ EDGES) × (EDGES ≤ 1024) × (2 * c.loops ≤ ENDS) × (ENDS ≤ 2048) }
-    ensures { Ends (after_reading stage (job_in job.now index.now c) (length out.old) (uses_of (job_in job.now index.now c))) out.old out.new result }
-{
-    let mut uses = [0u32; FIELDS];
-    let mut firsts = [0u32; EDGES];
-    let mut nexts = [0u32; USES];
-    let mut kept = [0u32; ENDS];
-    read_in(
-        stage,
-        job,
-        index,
-        c,
-        &mut uses[..4 * c.uses],
-        &mut firsts[..c.edges],
-        &mut nexts[..c.uses],
-        &mut kept[..2 * c.loops],
-        out,
-    )
-}
-
-// The uses read, once the job is loaded.
-fn on_loaded(
-    stage: Option<Stage>,
-    job: &[u8],
-    index: &[u32],
-    c: Counts,
-    out: &mut [u8],
-) -> Result<usize, Refusal>
-    requires { Opened job.now index.now c }
-    ensures { Ends (after_reading stage (job_in job.now index.now c) (length out.old) (uses_of (job_in job.now index.now c))) out.old out.new result }
-{
-    if c.uses <= 64 && c.edges <= 64 && c.loops <= 64 {
-        return read_in_tables::<64, 256, 64, 128>(stage, job, index, c, out);
-    }
-    read_in_tables::<2048, 8192, 1024, 2048>(stage, job, index, c, out)
+    read_in_tables::<2048, 1024>(stage, job, out)
 }
 
 // The stages in order, up to the one that is asked for.
+#[tactic(auto, unfolding(progress::specs::Chain::staged))]
 fn run(stage: Option<Stage>, job: &[u8], out: &mut [u8]) -> Result<usize, Refusal>
     ensures { Ends (staged stage job.now (length out.old)) out.old out.new result }
 {
-    let mut index = [0u32; 7424];
-    let c = load(job, &mut index)?;
-    on_loaded(stage, job, &index, c, out)
+    let mut index = [0u32; INDEX];
+    let loaded = open(job, &mut index)?;
+    on_loaded(stage, &loaded, out)
 }
 
-// The uses of a loaded job, read and written.
-fn write_loaded(job: &[u8], index: &[u32], c: Counts, out: &mut [u8]) -> Result<usize, Refusal>
-    requires { Opened job.now index.now c }
-    ensures { Ends (read_stage job.now (length out.old)) out.old out.new result }
-{
-    let mut uses = [0u32; 8192];
-    read(job, index, c, &mut uses[..4 * c.uses]);
-    write_read(&uses[..4 * c.uses], out)
-}
-
-// The stage `read`. It hands nothing on, and goes a way of its own, so that the records that it makes of the uses take no
-// stack of sewing.
+// The stage `read`. It hands nothing on, and goes a way of its own.
+#[tactic(auto, unfolding(rules::specs::Stage::read_stage))]
 pub fn read_stage(job: &[u8], out: &mut [u8]) -> Result<usize, Refusal>
     ensures { Ends (read_stage job.now (length out.old)) out.old out.new result }
 {
-    let mut index = [0u32; 7424];
-    let c = load(job, &mut index)?;
-    write_loaded(job, &index, c, out)
+    let mut index = [0u32; INDEX];
+    let loaded = open(job, &mut index)?;
+    let mut table = [NO_USE; 2048];
+    let uses = &mut table[..loaded.uses()];
+    read(&loaded, uses);
+    write_read(uses, out)
 }
 
 // The stage `pair`.
@@ -485,15 +332,17 @@ pub fn lump_stage(job: &[u8], out: &mut [u8]) -> Result<usize, Refusal>
     run(Some(Stage::Lumps), job, out)
 }
 
-// The body of a loaded job; one that selects no face is Empty.
-fn sew_loaded(job: &[u8], index: &[u32], c: Counts, out: &mut [u8]) -> Result<usize, Refusal>
-    requires { Opened job.now index.now c }
+// The body of a job; one that selects no face is Empty.
+#[tactic(auto, unfolding(progress::specs::Chain::sewn_by, progress::specs::Chain::sewn_from))]
+fn sew_job(job: &[u8], out: &mut [u8]) -> Result<usize, Refusal>
     ensures { Ends (sewn_by job.now (length out.old)) out.old out.new result }
 {
-    if c.faces == 0 {
+    let mut index = [0u32; INDEX];
+    let loaded = open(job, &mut index)?;
+    if loaded.faces() == 0 {
         return put_empty(out);
     }
-    on_loaded(None, job, index, c, out)
+    on_loaded(None, &loaded, out)
 }
 
 // Sewing: the body's records from the output's start on, or a refusal and the output untouched. What demand 3 says holds
@@ -501,7 +350,5 @@ fn sew_loaded(job: &[u8], index: &[u32], c: Counts, out: &mut [u8]) -> Result<us
 pub fn sew(job: &[u8], out: &mut [u8]) -> Result<usize, Refusal>
     ensures { Ends (sewn ordinary job.now (length out.old)) out.old out.new result × Promises full_table job.now }
 {
-    let mut index = [0u32; 7424];
-    let c = load(job, &mut index)?;
-    sew_loaded(job, &index, c, out)
+    sew_job(job, out)
 }

@@ -1,9 +1,8 @@
 -- Laws of faces labelled by lump.
-use Rattle.std.specs.Prelude.{ℕ, ◌+◌, ◌*◌, ◌≤◌, ◌<◌, ◌≡◌, refl, List, [], ◌∷◌, map, length, get_or, set}
+use Rattle.std.specs.Prelude.{ℕ, ◌+◌, ◌≤◌, ◌<◌, ◌≡◌, refl, List, [], ◌∷◌, map, length, get_or, set}
 use Rattle.std.proofs.Common.{arith, sym, ap, ◌∙◌, length-set, length-append, ext_get_or, eq-eqb, ne_eqb}
 use Rattle.std.proofs.lemmas.List.{length-map}
 use Rattle.lists.specs.Lists.{from, below, keep, index_of}
-use Rattle.lists.specs.Runs.{length_table, get_or_table}
 use Rattle.lists.specs.Members.{index_of_in, get_or_map}
 use Rattle.lists.specs.Prefixes.{keep_below_yes, keep_below_no, keep_below_le}
 use Rattle.lists.specs.KeepBelow.{index_below}
@@ -11,23 +10,24 @@ use Rattle.lists.specs.Tables.{set_each}
 use Rattle.rules.specs.Groups.{label_of, is_lowest, lowest_members, Lowest}
 use Rattle.rules.proofs.GroupLaws.{label_in_lowest_members}
 use Rattle.rules.specs.Shells.{lump_labels}
-use Rattle.shells.specs.Table.{boundary_in, nested_one, nested_in, Shelled}
+use Rattle.shells.specs.declared.ShellRow.{ShellRow}
+use Rattle.shells.specs.Table.{no_row, row_at, nested_one, nested_in, Shelled}
 
 -- the label of face f, from the home of the shell that its boundary is
-abbrev pub lump_of_face : List ℕ → List ℕ → ℕ → ℕ
-lump_of_face boundaries t f = get_or t (4 * index_of (label_of boundaries f) (lowest_members boundaries) + 3) 0
+abbrev pub lump_of_face : List ℕ → List ShellRow → ℕ → ℕ
+lump_of_face boundaries rows f = (row_at rows (index_of (label_of boundaries f) (lowest_members boundaries))).home
 
 -- after f faces
-pub record LabelsAt (boundaries t labels : List ℕ) (count f : ℕ) : Type 0 where
+pub record LabelsAt (boundaries : List ℕ) (rows : List ShellRow) (labels : List ℕ) (count f : ℕ) : Type 0 where
   pub lowest : Lowest boundaries
   pub size : length labels ≡ length boundaries
   pub within : f ≤ length boundaries
   pub count_is : count ≡ length (keep (is_lowest boundaries) (below f))
-  pub values : (j : ℕ) → j < f → get_or labels j 0 ≡ lump_of_face boundaries t j
+  pub values : (j : ℕ) → j < f → get_or labels j 0 ≡ lump_of_face boundaries rows j
 
-pub labels_start : (boundaries t labels : List ℕ) → Lowest boundaries → length labels ≡ length boundaries → LabelsAt boundaries t labels 0 0
+pub labels_start : (boundaries : List ℕ) (rows : List ShellRow) (labels : List ℕ) → Lowest boundaries → length labels ≡ length boundaries → LabelsAt boundaries rows labels 0 0
 unfolding from keep
-labels_start boundaries t labels l e = record {
+labels_start boundaries rows labels l e = record {
   lowest = l;
   size = e;
   within = omega arith;
@@ -35,13 +35,13 @@ labels_start boundaries t labels l e = record {
   values = λ j h. absurd (omega arith);
 }
 
-module _ (boundaries t labels : List ℕ) (count f : ℕ) (s : LabelsAt boundaries t labels count f) (lt : f < length boundaries) where
+module _ (boundaries : List ℕ) (rows : List ShellRow) (labels : List ℕ) (count f : ℕ) (s : LabelsAt boundaries rows labels count f) (lt : f < length boundaries) where
   pub labels_few : count ≤ f
   labels_few = omega (arith, s.count_is, keep_below_le (is_lowest boundaries) f)
 
   -- f is the lowest face of its boundary
-  pub labels_own : (b home : ℕ) (after : List ℕ) → b ≡ label_of boundaries f → b ≡ f → home ≡ get_or t (4 * count + 3) 0 → after ≡ set labels f home
-      → LabelsAt boundaries t after (count + 1) (f + 1)
+  pub labels_own : (b home : ℕ) (after : List ℕ) → b ≡ label_of boundaries f → b ≡ f → home ≡ (row_at rows count).home → after ≡ set labels f home
+      → LabelsAt boundaries rows after (count + 1) (f + 1)
   labels_own b home after eb own eh ea =
       let label : label_of boundaries f ≡ f = sym eb ∙ own in
       let lowest = eq-eqb (label_of boundaries f) f label in
@@ -53,13 +53,13 @@ module _ (boundaries t labels : List ℕ) (count f : ℕ) (s : LabelsAt boundari
         within = omega arith;
         count_is = omega (arith, s.count_is, ap length (keep_below_yes (is_lowest boundaries) f lowest), length-append (keep (is_lowest boundaries) (below f)) (f ∷ []));
         values = λ j. rw ea
-            (set_each (λ k x. k < f + 1 → x ≡ lump_of_face boundaries t k) labels f home 0 (omega (arith, s.size)) (λ h. eh ∙ ap (λ k. get_or t (4 * k + 3) 0) place) j
+            (set_each (λ k x. k < f + 1 → x ≡ lump_of_face boundaries rows k) labels f home 0 (omega (arith, s.size)) (λ h. eh ∙ ap (λ k. (row_at rows k).home) place) j
             (λ ne h. s.values j (omega arith)));
       }
 
   -- another face of its boundary was labelled before
   pub labels_old : (b home : ℕ) (after : List ℕ) → b ≡ label_of boundaries f → (b ≡ f → ⊥) → home ≡ get_or labels b 0 → after ≡ set labels f home
-      → LabelsAt boundaries t after count (f + 1)
+      → LabelsAt boundaries rows after count (f + 1)
   labels_old b home after eb other eh ea =
       let low = s.lowest.low f lt in
       record {
@@ -68,28 +68,25 @@ module _ (boundaries t labels : List ℕ) (count f : ℕ) (s : LabelsAt boundari
         within = omega arith;
         count_is = s.count_is ∙ sym (ap length (keep_below_no (is_lowest boundaries) f (ne_eqb (label_of boundaries f) f (λ e. other (eb ∙ e)))));
         values = λ j. rw ea
-            (set_each (λ k x. k < f + 1 → x ≡ lump_of_face boundaries t k) labels f home 0 (omega (arith, s.size))
-            (λ h. eh ∙ s.values b (omega arith) ∙ ap (λ x. get_or t (4 * index_of x (lowest_members boundaries) + 3) 0) (ap (label_of boundaries) eb ∙ s.lowest.stands f lt)) j
+            (set_each (λ k x. k < f + 1 → x ≡ lump_of_face boundaries rows k) labels f home 0 (omega (arith, s.size))
+            (λ h. eh ∙ s.values b (omega arith) ∙ ap (λ x. (row_at rows (index_of x (lowest_members boundaries))).home) (ap (label_of boundaries) eb ∙ s.lowest.stands f lt)) j
             (λ ne h. s.values j (omega arith)));
       }
 
--- the homes of the nested shells stand in the table
-home_at : (boundaries members : List ℕ) (n : ℕ) (t : List ℕ) (k : ℕ) → k < n → get_or (map (λ x. x.home) (nested_in boundaries members n t)) k 0 ≡ get_or t (4 * k + 3) 0
-unfolding nested_in
-home_at boundaries members n t k h =
-    get_or_map (λ x. x.home) (map (nested_one boundaries members t) (below n)) k 0 (nested_one boundaries members t 0) (omega (arith, length_table (nested_one boundaries members t) n))
-    ∙ ap (λ x. x.home) (get_or_table (nested_one boundaries members t) n k (nested_one boundaries members t 0) h)
-
-pub labels_end : (boundaries t labels : List ℕ) (count f : ℕ) → LabelsAt boundaries t labels count f → length boundaries ≤ f
-    → (members : List ℕ) (n : ℕ) → Shelled boundaries members n t → labels ≡ lump_labels boundaries (nested_in boundaries members n t)
+pub labels_end : (boundaries : List ℕ) (rows : List ShellRow) (labels : List ℕ) (count f : ℕ) → LabelsAt boundaries rows labels count f → length boundaries ≤ f
+    → (members : List ℕ) → Shelled boundaries members rows → labels ≡ lump_labels boundaries (nested_in boundaries members rows)
 unfolding lump_labels
-labels_end boundaries t labels count f s le members n sh =
-    let ns = nested_in boundaries members n t in
+labels_end boundaries rows labels count f s le members sh =
+    let ns = nested_in boundaries members rows in
     let number : ℕ → ℕ = λ b. index_of b (lowest_members boundaries) in
     let label : ℕ → ℕ = λ b. get_or (map (λ x. x.home) ns) (number b) 0 in
-    let many : n ≡ length (lowest_members boundaries) = sym (length_table (boundary_in t) n) ∙ ap length sh.labels in
+    let many : length rows ≡ length (lowest_members boundaries) = sym (length-map rows (λ row. row.boundary)) ∙ ap length sh.labels in
     ext_get_or 0 labels (map label boundaries) (s.size ∙ sym (length-map boundaries label))
     (λ i h.
     let r : i < length boundaries = omega (arith, s.size) in
     let inside = (index_of_in (label_of boundaries i) (lowest_members boundaries) (label_in_lowest_members s.lowest i r)).0 in
-    s.values i (omega arith) ∙ sym (get_or_map label boundaries i 0 0 r ∙ home_at boundaries members n t (number (label_of boundaries i)) (omega (arith, many))))
+    s.values i (omega arith)
+    ∙ sym
+    (get_or_map label boundaries i 0 0 r
+    ∙ get_or_map (λ x. x.home) ns (number (label_of boundaries i)) 0 (nested_one boundaries members no_row) (omega (arith, many, length-map rows (nested_one boundaries members)))
+    ∙ ap (λ x. x.home) (get_or_map (nested_one boundaries members) rows (number (label_of boundaries i)) (nested_one boundaries members no_row) no_row (omega (arith, many)))))

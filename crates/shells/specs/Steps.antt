@@ -1,11 +1,11 @@
 -- What each function that makes shells or nests them answers.
-use Rattle.std.specs.Prelude.{ℕ, ◌+◌, ◌*◌, ◌<◌, ◌≡◌, List, [], ◌∷◌, map, Bool, true, cond, get_or, set, eqb, Option, None, Some}
-use Rattle.std.specs.Int.{from_bool}
-use Rattle.lists.specs.Lists.{below, keep}
+use Rattle.std.specs.Prelude.{ℕ, ◌<◌, ◌≡◌, List, [], ◌∷◌, map, Bool, true, cond, get_or, eqb, Option, None, Some}
+use Rattle.lists.specs.Lists.{keep}
 use Rattle.rules.specs.Outcome.{Outcome, Ok, ◌>>=◌}
 use Rattle.rules.specs.Job.{Answer}
 use Rattle.rules.specs.Questions.{ask_yes}
 use Rattle.rules.specs.Shells.{shell_faces, lowest_face, shell_inside, Taken, none, shell, innermost, enclosing_shell, or_refuse}
+use Rattle.shells.specs.declared.ShellRow.{ShellRow}
 
 -- the lowest merged face of each boundary, by the boundary's label
 abbrev pub LowFaces : List ℕ → List ℕ → List ℕ → Type 0
@@ -17,21 +17,9 @@ outer_by answers proven low =
     let put = ask_yes answers 12 (low ∷ []) in
     cond (eqb proven 1) (Ok true) put
 
--- shell k stored without the outer shell of its lump
-unfoldable pub stored : List ℕ → ℕ → ℕ → ℕ → Bool → List ℕ
-stored t k b low outer = set (set (set t (4 * k) b) (4 * k + 1) low) (4 * k + 2) (from_bool outer)
-
--- the lowest merged face of shell k
-abbrev pub low_in : List ℕ → ℕ → ℕ
-low_in t k = get_or t (4 * k + 1) 0
-
--- shell k is outer
-abbrev pub outer_in : List ℕ → ℕ → Bool
-outer_in t k = eqb (get_or t (4 * k + 2) 0) 1
-
--- the outer ones of the first n shells by their lowest faces
-unfoldable pub outers_in : List ℕ → ℕ → List ℕ
-outers_in t n = map (low_in t) (keep (outer_in t) (below n))
+-- the outer shells by their lowest faces
+unfoldable pub outers_in : List ShellRow → List ℕ
+outers_in rows = map (λ row. row.low) (keep (λ row. row.outer) rows)
 
 -- the outer shell taken for a void so far
 abbrev pub taken_of : Option ℕ → Taken
@@ -44,12 +32,6 @@ taken_after answers void o taken =
     shell_inside answers void o >>= λ contains.
     let nearer = innermost answers taken o in
     cond contains nearer (Ok taken)
-
--- the outer shell taken after a shell, which may be outer
-unfoldable pub taken_next : List Answer → ℕ → Bool → ℕ → Taken → Outcome Taken
-taken_next answers void outer o taken =
-    let after = taken_after answers void o taken in
-    cond outer after (Ok taken)
 
 -- the outer shell of a shell's lump
 unfoldable pub home_of : List Answer → List ℕ → ℕ → Bool → Outcome ℕ

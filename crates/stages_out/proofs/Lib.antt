@@ -1,1 +1,2 @@
 pub mod RowLaws
+pub mod ShellFaces

@@ -1,6 +1,6 @@
 -- Laws of the rows of each stage: one row as the code writes it, all rows, and how many fields they have.
 use Prim.Native.Nat.{ℕ, zero, suc, ◌+◌, ◌*◌, ◌-◌, ◌<◌, ◌≤◌}
-use Rattle.std.proofs.Common.{add-one, ◌∙◌, ⊎_elim, length-take, length-take-le, length-drop, get_or-take}
+use Rattle.std.proofs.Common.{add-one, ◌∙◌, ⊎_elim, length-take, length-drop}
 use native.Mathlib.Omega.{arith}
 use Rattle.std.specs.Prelude.{◌≡◌, Bool, true, false, cond, take, drop, map}
 use Rattle.std.specs.List.{filter}
@@ -11,21 +11,22 @@ use Rattle.std.proofs.Math.ListN.{length, get_or, length-append}
 use Rattle.lists.specs.Lists.{from, below, keep}
 use Rattle.lists.specs.Tests.{both_ways, not_is, is_not, cond_true, cond_false}
 use Rattle.lists.specs.Runs.{length_below}
-use Rattle.std.proofs.lemmas.List.{ext_get_or}
 use Rattle.lists.specs.Tables.{table_is}
 use Rattle.lists.specs.Rows.{flat_map_map, flat_map_keep, flat_map_places, flat_map_even, rows_more}
 use Rattle.rules.specs.declared.Use.{Use}
+use Rattle.rules.specs.declared.KeptVertexLoop.{KeptVertexLoop}
+use Rattle.fields.specs.declared.Span.{Span}
+use Rattle.fields.specs.Spans.{no_span, span_at}
+use Rattle.lists.specs.Stretches.{length_stretch}
 use Rattle.rules.specs.Sense.{sense_number}
 use Rattle.rules.specs.Fields.{bytes32, field_bytes}
-use Rattle.rules.specs.Read.{no_use, face_of_use}
+use Rattle.rules.specs.Read.{face_of_use}
 use Rattle.rules.specs.Merge.{is_removed, merged_face_of}
 use Rattle.rules.specs.Walk.{successor}
-use Rattle.rules.specs.Stage.{use_fields, kept_uses}
+use Rattle.rules.specs.Stage.{use_fields, kept_fields, kept_uses}
 use Rattle.fields.specs.Wrote.{Wrote}
 use Rattle.walk.specs.Walks.{loop_in, loops_in, Following}
-use Rattle.stages_out.specs.Rows.{walk_row, walk_rows, pair_row, pair_rows, kept_row, kept_rows, round_row, round_rows, end_of}
-use Rattle.stages_out.specs.Rows.{use_row}
-use Rattle.uses.specs.Table.{Records}
+use Rattle.stages_out.specs.Rows.{walk_row, walk_rows, pair_row, pair_rows, round_row, round_rows, end_of}
 use Rattle.stages_out.specs.Writing.{wrote_one, wrote_both, wrote_same, wrote_nothing}
 
 -- two numbers as fields
@@ -42,17 +43,8 @@ pub use_fields_lem : (u : Use) (before mid after : List ℕ) (at p q c : ℕ) �
 use_fields_lem u before mid after at p q c e v w =
     wrote_both (u.edge ∷ u.face ∷ []) (sense_number u.sense ∷ u.next ∷ []) before mid after at p q v (rw e at w)
 
-pub use_rows : (us : List Use) (n : ℕ) → n ≡ length us → flat_map (use_row us) (below n) ≡ flat_map use_fields us
-use_rows us n e = ap (λ k. flat_map (use_row us) (below k)) e ∙ sym (flat_map_places use_fields us no_use)
-
--- the first of an array of records are the uses
-pub first_records : (us rs : List Use) (n : ℕ) → n ≡ length us → n ≤ 2048 → Records us rs (length us) → take n rs ≡ us
-first_records us rs n e le k =
-    let size : length (take n rs) ≡ n = length-take-le n rs (omega (arith, k.size)) in
-    ext_get_or no_use (take n rs) us (size ∙ e) (λ h lt. get_or-take n rs h no_use (omega arith) ∙ k.same h (omega arith))
-
-pub use_rows_needed : (us : List Use) (n : ℕ) → n ≡ length us → 16 * n ≡ 4 * length (flat_map use_fields us)
-use_rows_needed us n e = omega (arith, flat_map_even use_fields 4 us (λ u. refl))
+pub use_rows_needed : (us : List Use) → 16 * length us ≡ 4 * length (flat_map use_fields us)
+use_rows_needed us = omega (arith, flat_map_even use_fields 4 us (λ u. refl))
 
 -- WALK
 
@@ -106,25 +98,10 @@ pub pair_rows_needed : (bs gs : List ℕ) → 8 * length bs ≡ 4 * length (pair
 unfolding pair_rows
 pair_rows_needed bs gs = omega (arith, flat_map_even (pair_row bs gs) 2 (below (length bs)) (λ f. refl), length_below (length bs))
 
-pub kept_rows_all : (t : List ℕ) (k n : ℕ) → n ≡ k → flat_map (kept_row t) (below n) ≡ kept_rows t k
-unfolding kept_rows
-kept_rows_all t k n e = ap (λ m. flat_map (kept_row t) (below m)) e
-
-pub kept_rows_needed : (t : List ℕ) (k : ℕ) → 8 * k ≡ 4 * length (kept_rows t k)
-unfolding kept_rows
-kept_rows_needed t k = omega (arith, flat_map_even (kept_row t) 2 (below k) (λ i. refl), length_below k)
+pub kept_rows_needed : (ks : List KeptVertexLoop) → 8 * length ks ≡ 4 * length (flat_map kept_fields ks)
+kept_rows_needed ks = omega (arith, flat_map_even kept_fields 2 ks (λ k. refl))
 
 -- LOOPS
-
--- the end of the last of k loops
-pub end_at : (t : List ℕ) (k : ℕ) → (k ≡ 0 → ⊥) → get_or t (2 * k - 1) 0 ≡ end_of t k
-unfolding end_of
-end_at t zero h = absurd (h refl)
-end_at t (suc k) h = let e : 2 * suc k - 1 ≡ 2 * k + 1 = omega arith in ap (λ i. get_or t i 0) e
-
-pub end_none : (t : List ℕ) (k : ℕ) → k ≡ 0 → 0 ≡ end_of t k
-unfolding end_of
-end_none t k e = sym (ap (end_of t) e)
 
 pub part_short : (l : List ℕ) (n a : ℕ) → length l ≤ 2048 → length (take n (drop a l)) ≤ 2048
 part_short l n a le = omega (arith, length-take n (drop a l), length-drop a l)
@@ -137,46 +114,44 @@ module _ (us : List Use) (numbers : List ℕ) where
       (ap {B = List ℕ} (λ x. x ∷ length part ∷ part) (en ∙ ap (λ g. get_or numbers g 0) eg ∙ ap (merged_face_of us numbers) ef))
       (wrote_both (number ∷ length part ∷ []) part before mid after at p q u w)
 
-  module _ (ways t : List ℕ) where
+  module _ (ways : List ℕ) (stretches : List Span) where
     -- the row of loop i
-    abbrev pub loop_row : ℕ → List ℕ
-    loop_row i = round_row us numbers (loop_in ways t i)
+    abbrev row : ℕ → List ℕ
+    row i = round_row us numbers (loop_in ways (span_at stretches i))
 
-    -- as the code cuts it out
-    pub loop_wrote : (before after : List ℕ) (at q i a e : ℕ) → a ≡ get_or t (2 * i) 0 → e ≡ get_or t (2 * i + 1) 0 → Wrote before at
-        (field_bytes (round_row us numbers (take (e - a) (drop a ways)))) after q
-        → Wrote before at (field_bytes (loop_row i)) after q
-    loop_wrote before after at q i a e ea ee w = wrote_same (round_row us numbers (take (e - a) (drop a ways))) (loop_row i) before after at q
-        (λ x. round_row us numbers (take (ee x - ea x) (drop (ea x) ways))) w
-
-    pub loop_rows_lem : (k n : ℕ) → n ≡ k → flat_map loop_row (below n) ≡ round_rows us numbers (loops_in k ways t)
+    pub loop_rows : (n : ℕ) → n ≡ length stretches → flat_map row (below n) ≡ round_rows us numbers (loops_in ways stretches)
     unfolding round_rows
-    loop_rows_lem k n e = ap (λ m. flat_map loop_row (below m)) e ∙ sym (flat_map_map (round_row us numbers) (loop_in ways t) (below k))
+    loop_rows n e =
+        ap (λ k. flat_map row (below k)) e
+        ∙ sym (flat_map_map (round_row us numbers) (loop_in ways) stretches ∙ flat_map_places (λ s. round_row us numbers (loop_in ways s)) stretches no_span)
 
-    module _ (k : ℕ) (F : Following k ways t) where
-      loop_length : (i : ℕ) → i < k → length (loop_in ways t i) ≡ get_or t (2 * i + 1) 0 - get_or t (2 * i) 0
-      loop_length i lt =
-          let a : ℕ = get_or t (2 * i) 0 in
-          let e : ℕ = get_or t (2 * i + 1) 0 in
-          length-take (e - a) (drop a ways) ∙ omega (arith, length-drop a ways, F.within i lt, F.rise i lt)
+    module _ (F : Following ways stretches) where
+      pub loop_length : (i : ℕ) → i < length stretches → length (row i) + (span_at stretches i).start ≡ 2 + (span_at stretches i).end
+      loop_length i lt = omega (arith, length_stretch ways (span_at stretches i).start (span_at stretches i).end (F.within i lt), F.rise i lt)
 
-      start_is : (i : ℕ) → i < k → get_or t (2 * i) 0 ≡ end_of t i
-      unfolding end_of
-      start_is zero lt = F.first lt
-      start_is (suc i) lt = ap (λ j. get_or t (2 * j) 0) (sym (add-one i)) ∙ F.follow i (omega arith)
+      more_row : (i : ℕ) → length (flat_map row (below (i + 1))) ≡ length (flat_map row (below i)) + length (row i)
+      more_row i = ap length (rows_more row i) ∙ length-append (flat_map row (below i)) (row i)
 
-      -- the fields of the first i loops
-      pub loop_rows_length : (i : ℕ) → i ≤ k → length (flat_map loop_row (below i)) ≡ 2 * i + end_of t i
-      unfolding flat_map from end_of
-      loop_rows_length zero le = refl
-      loop_rows_length (suc i) le =
-          let lt : i < k = omega arith in
-          let more : length (flat_map loop_row (below (i + 1))) ≡ length (flat_map loop_row (below i)) + length (loop_row i) = ap length (rows_more loop_row i) ∙ length-append
-          (flat_map loop_row (below i)) (loop_row i) in
-          omega (arith, ap (λ n. length (flat_map loop_row (below n))) (add-one i), more, loop_rows_length i (omega arith), loop_length i lt, start_is i lt, F.rise i lt)
+      -- the fields of the loops up to one
+      rows_length : (i : ℕ) → i < length stretches → length (flat_map row (below (i + 1))) ≡ 2 * (i + 1) + (span_at stretches i).end
+      unfolding flat_map from
+      rows_length zero lt = omega (arith, more_row 0, loop_length 0 lt, F.first lt)
+      rows_length (suc i) lt =
+          let e : i + 1 ≡ suc i = add-one i in
+          omega (
+            arith,
+            more_row (suc i),
+            loop_length (suc i) lt,
+            rows_length i (omega arith),
+            F.follow i (omega arith),
+            ap (λ k. length (flat_map row (below k))) e,
+            ap (λ k. (span_at stretches k).start) e,
+          )
 
-      pub loop_row_short : (i : ℕ) → i < k → length ways ≤ 2048 → length (loop_row i) ≤ 2050
-      loop_row_short i lt most = omega (arith, loop_length i lt, F.within i lt)
-
-      pub round_rows_needed : (e : ℕ) → e ≡ end_of t k → 8 * k + 4 * e ≡ 4 * length (round_rows us numbers (loops_in k ways t))
-      round_rows_needed e q = omega (arith, ap length (loop_rows_lem k k refl), loop_rows_length k (omega arith))
+  pub round_rows_needed : (ways : List ℕ) (stretches : List Span) → Following ways stretches
+      → 8 * length stretches + 4 * end_of stretches ≡ 4 * length (round_rows us numbers (loops_in ways stretches))
+  unfolding round_rows flat_map
+  round_rows_needed ways [] F = refl
+  round_rows_needed ways (s ∷ ss) F =
+      let n : length (s ∷ ss) - 1 ≡ length ss = omega arith in
+      omega (arith, rows_length ways (s ∷ ss) F (length ss) (omega arith), ap length (loop_rows ways (s ∷ ss) (length ss + 1) (omega arith)), ap (λ k. (span_at (s ∷ ss) k).end) n)

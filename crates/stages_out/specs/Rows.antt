@@ -1,19 +1,18 @@
 -- The fields of the single stages through the loops, over plain lists, and how a stage ends that has them.
-use Rattle.std.specs.Prelude.{ℕ, zero, suc, ◌+◌, ◌*◌, ◌≡◌, refl, Bool, length, get_or, leb}
-use Rattle.std.proofs.Common.{sym, ap}
-use mathlib.Core.List.{List, [], ◌∷◌, map, flat_map}
+use Rattle.std.specs.Prelude.{ℕ, ◌-◌, ◌≡◌, refl, Bool, length, get_or, leb}
+use Rattle.std.proofs.Common.{ap}
+use mathlib.Core.List.{List, [], ◌∷◌, flat_map}
 use Rattle.lists.specs.Lists.{below}
-use Rattle.lists.specs.Rows.{flat_map_map}
 use Rattle.rules.specs.declared.Fault.TheVariants.{NoRoom}
 use Rattle.rules.specs.declared.Use.{Use}
-use Rattle.rules.specs.declared.KeptVertexLoop.{KeptVertexLoop}
+use Rattle.fields.specs.declared.Span.{Span}
+use Rattle.fields.specs.Spans.{span_at}
 use Rattle.rules.specs.Outcome.{Outcome, Ok, need}
 use Rattle.rules.specs.Groups.{label_of}
 use Rattle.rules.specs.Merge.{Merged, merged_faces, merged_face_of}
 use Rattle.rules.specs.Walk.{successor}
 use Rattle.rules.specs.Sew.{Walked, Ends}
-use Rattle.rules.specs.Stage.{group_fields, kept_fields, kept_uses, walk_fields, loop_fields, stage_bytes, use_fields}
-use Rattle.rules.specs.Read.{use_at}
+use Rattle.rules.specs.Stage.{group_fields, kept_uses, walk_fields, loop_fields, stage_bytes}
 
 -- an output with so much room has room for the bytes needed
 abbrev pub fits : ℕ → ℕ → Outcome (Unit {0})
@@ -45,20 +44,6 @@ pub pair_rows_lem : (m : Merged) (faces : ℕ) → length m.boundaries ≡ faces
 unfolding pair_rows
 pair_rows_lem m faces e = ap (λ n. flat_map (group_fields m) (below n)) e
 
--- vertex-loops: merged face and point of each kept vertex loop, which a table has side by side
-abbrev pub kept_row : List ℕ → ℕ → List ℕ
-kept_row t i = get_or t (2 * i) 0 ∷ get_or t (2 * i + 1) 0 ∷ []
-
-unfoldable pub kept_rows : List ℕ → ℕ → List ℕ
-kept_rows t k = flat_map (kept_row t) (below k)
-
-abbrev pub kept_at : List ℕ → ℕ → KeptVertexLoop
-kept_at t i = record { face = get_or t (2 * i) 0; point = get_or t (2 * i + 1) 0 }
-
-pub kept_rows_lem : (t : List ℕ) (k : ℕ) → kept_rows t k ≡ flat_map kept_fields (map (kept_at t) (below k))
-unfolding kept_rows
-kept_rows_lem t k = sym (flat_map_map kept_fields (kept_at t) (below k))
-
 -- loops: merged face, number of uses and the uses of each loop
 abbrev pub round_row : List Use → List ℕ → List ℕ → List ℕ
 round_row us numbers hs = merged_face_of us numbers (get_or hs 0 0) ∷ length hs ∷ hs
@@ -70,10 +55,6 @@ pub round_rows_lem : (w : Walked) (ls : List (List ℕ)) → round_rows w.uses (
 unfolding round_rows
 round_rows_lem w ls = refl
 
--- the place where the uses of the first k loops end, from their stretches
-unfoldable pub end_of : List ℕ → ℕ → ℕ
-end_of stretches zero = 0
-end_of stretches (suc k) = get_or stretches (2 * k + 1) 0
-
-abbrev pub use_row : List Use → ℕ → List ℕ
-use_row us h = use_fields (use_at us h)
+-- the place where the uses of the loops end
+abbrev pub end_of : List Span → ℕ
+end_of stretches = (span_at stretches (length stretches - 1)).end

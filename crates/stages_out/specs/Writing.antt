@@ -1,20 +1,19 @@
 -- Laws of fields written row by row from the output's start on, and of the ending of a stage.
-use Rattle.std.specs.Prelude.{ℕ, ◌+◌, ◌*◌, ◌≤◌, ◌≡◌, refl, Bool, true, false, length, drop, leb}
+use Rattle.std.specs.Prelude.{ℕ, ◌+◌, ◌*◌, ◌≤◌, ◌≡◌, refl, Bool, true, false, length, get_or, drop, leb}
 use Rattle.std.proofs.Common.{mul-suc, add-one, sym, ap, subst, ◌∙◌}
 use native.Mathlib.Omega.{arith}
 use mathlib.Core.List.{List, [], ◌∷◌, ◌++◌, flat_map, append-nil}
 use Rattle.std.proofs.lemmas.List.Edits.{sets-eq}
-use Rattle.std.proofs.Math.Seq.{length-sets}
 use Rattle.std.proofs.lemmas.Bool.{leb-true}
 use Rattle.lists.specs.Lists.{from, below}
 use Rattle.lists.specs.Members.{flat_map_append}
-use Rattle.lists.specs.Rows.{rows_more}
+use Rattle.lists.specs.Rows.{rows_more, flat_map_places}
 use Rattle.rules.specs.declared.Refusal.{Refusal}
 use Rattle.rules.specs.Outcome.{Outcome, Ok, Err, ◌>>=◌, need}
 use Rattle.std.specs.Result.{IsErrAnd}
 use Rattle.rules.proofs.OutcomeLaws.{hands_on, need_ok}
 use Rattle.rules.specs.Fields.{bytes32, field_bytes}
-use Rattle.rules.specs.Stage.{stage_bytes}
+use Rattle.rules.specs.Sew.{fitting, Ends}
 use Rattle.fields.specs.Wrote.{Wrote, wrote_none, wrote_more}
 use Rattle.fields.specs.Tabled.{length_field_bytes}
 use Rattle.stages_out.specs.Rows.{Staged, fits}
@@ -45,54 +44,76 @@ place_after_lem xs before after at q w = w.1 ∙ ap (λ n. at + n) (length_field
 
 -- ROWS
 
--- the first i rows, each of at most so many fields
-pub record Rowed (f : ℕ → List ℕ) (most : ℕ) (before after : List ℕ) (p i : ℕ) : Type 0 where
-  pub size : length after ≡ length before
-  pub wrote : Wrote before 0 (field_bytes (flat_map f (below i))) after p
-  pub small : p ≤ 4 * (most * i)
+-- rows of rows
+pub flat_map_flat_map : {A B C : Type 0} (f : B → List C) (g : A → List B) (l : List A) → flat_map f (flat_map g l) ≡ flat_map (λ x. flat_map f (g x)) l
+unfolding flat_map
+flat_map_flat_map f g [] = refl
+flat_map_flat_map f g (x ∷ l) = flat_map_append f (g x) (flat_map g l) ∙ ap (λ r. flat_map f (g x) ++ r) (flat_map_flat_map f g l)
 
-module _ (f : ℕ → List ℕ) (most : ℕ) (before : List ℕ) where
-  pub rowed_start : Rowed f most before before 0 0
+-- the first i rows from a place on, each of at most so many bytes
+pub record Rowed (f : ℕ → List ℕ) (most : ℕ) (before : List ℕ) (at : ℕ) (after : List ℕ) (p i : ℕ) : Type 0 where
+  pub wrote : Wrote before at (flat_map f (below i)) after p
+  pub small : p ≤ at + most * i
+
+module _ {f : ℕ → List ℕ} {most : ℕ} {before : List ℕ} {at : ℕ} where
+  pub rowed_start : Rowed f most before at before at 0
   unfolding flat_map from
-  rowed_start = record { size = refl; wrote = wrote_none before 0; small = omega arith }
+  rowed_start = record { wrote = wrote_none before at; small = omega arith }
 
-  pub rowed_step : (mid after : List ℕ) (p i q : ℕ) → length (f i) ≤ most → Rowed f most before mid p i → Wrote mid p (field_bytes (f i)) after q → Rowed f most before after q (i + 1)
-  rowed_step mid after p i q few R w = record {
-    size = ap length w.0 ∙ length-sets mid p (field_bytes (f i)) ∙ R.size;
-    wrote = wrote_same (flat_map f (below i) ++ f i) (flat_map f (below (i + 1))) before after 0 q (sym (rows_more f i)) (wrote_both (flat_map f (below i)) (f i) before mid after 0 p q R.wrote w);
-    small = let e : most * (i + 1) ≡ most * i + most = ap (λ k. most * k) (add-one i) ∙ mul-suc most i in omega (arith, place_after_lem (f i) mid after p q w, R.small);
+  pub rowed_step : {mid after : List ℕ} {p i q : ℕ} → Rowed f most before at mid p i → Wrote mid p (f i) after q → q ≤ p + most → Rowed f most before at after q (i + 1)
+  rowed_step {mid = mid} {after = after} {p = p} {i = i} {q = q} R w few = record {
+    wrote = subst (λ bs. Wrote before at bs after q) (sym (rows_more f i)) (wrote_more before mid after (flat_map f (below i)) (f i) at p q R.wrote w);
+    small = let e : most * (i + 1) ≡ most * i + most = ap (λ k. most * k) (add-one i) ∙ mul-suc most i in omega (arith, R.small);
   }
 
--- all rows
-pub rowed_all : {f : ℕ → List ℕ} {most : ℕ} (fs before after : List ℕ) (p i : ℕ) → Rowed f most before after p i → flat_map f (below i) ≡ fs → Wrote before 0 (field_bytes fs) after p
-rowed_all fs before after p i R e = wrote_same _ fs before after 0 p e R.wrote
+  -- all rows, as what they are
+  pub rowed_as : {bytes after : List ℕ} {p i : ℕ} → Rowed f most before at after p i → flat_map f (below i) ≡ bytes → Wrote before at bytes after p
+  rowed_as {after = after} {p = p} R e = subst (λ bs. Wrote before at bs after p) e R.wrote
+
+module _ (f : ℕ → List ℕ) {most : ℕ} {before : List ℕ} {at : ℕ} where
+  -- one row of fields more
+  pub fields_step : {mid after : List ℕ} {p i q : ℕ} → Rowed (λ k. field_bytes (f k)) most before at mid p i → Wrote mid p (field_bytes (f i)) after q → 4 * length (f i) ≤ most
+      → Rowed (λ k. field_bytes (f k)) most before at after q (i + 1)
+  fields_step {i = i} R w few = rowed_step R w (omega (arith, w.1, length_field_bytes (f i)))
+
+  -- all rows of fields
+  pub fields_as : {fs after : List ℕ} {p i : ℕ} → Rowed (λ k. field_bytes (f k)) most before at after p i → flat_map f (below i) ≡ fs → Wrote before at (field_bytes fs) after p
+  fields_as {i = i} R e = rowed_as R (sym (flat_map_flat_map bytes32 f (below i)) ∙ ap field_bytes e)
+
+-- the rows of all members of a list
+module _ {A : Type 0} (f : A → List ℕ) (l : List A) (d : A) {most : ℕ} {before : List ℕ} {at : ℕ} where
+  pub rowed_members : {after : List ℕ} {p i : ℕ} → Rowed (λ k. f (get_or l k d)) most before at after p i → i ≡ length l → Wrote before at (flat_map f l) after p
+  rowed_members R e = rowed_as R (ap (λ n. flat_map (λ k. f (get_or l k d)) (below n)) e ∙ sym (flat_map_places f l d))
+
+  pub fields_members : {after : List ℕ} {p i : ℕ} → Rowed (λ k. field_bytes (f (get_or l k d))) most before at after p i → i ≡ length l
+      → Wrote before at (field_bytes (flat_map f l)) after p
+  fields_members R e = fields_as (λ k. f (get_or l k d)) R (ap (λ n. flat_map (λ k. f (get_or l k d)) (below n)) e ∙ sym (flat_map_places f l d))
 
 -- THE ENDING
 
-fits_then : {A : Type 0} (room needed : ℕ) (a : A) → need (leb needed room) NoRoom needed (Ok a) ≡ (fits room needed >>= λ _. Ok a)
-unfolding need
-fits_then room needed a = go (leb needed room)
-  where
-    go : (b : Bool) → need b NoRoom needed (Ok a) ≡ (need b NoRoom needed (Ok (tt {0})) >>= λ _. Ok a)
-    go true = refl
-    go false = refl
+-- where the bytes needed fit, they are written from the start on; else they are refused with how many they are
+module _ (bytes before : List ℕ) (needed : ℕ) {o : Outcome (Unit {0})} (room : o ≡ fits (length before) needed) (all : needed ≡ length bytes) where
+  ending : {r : Outcome (Unit {0})} → o ≡ r → fitting (length before) bytes ≡ (r >>= λ _. Ok bytes)
+  unfolding need
+  ending e = rw (← all) (fits_then (leb needed (length before)) ∙ ap (λ x. x >>= λ _. Ok bytes) (sym room ∙ e))
+    where
+      fits_then : (b : Bool) → need b NoRoom needed (Ok bytes) ≡ (need b NoRoom needed (Ok (tt {0})) >>= λ _. Ok bytes)
+      fits_then true = refl
+      fits_then false = refl
 
--- where the bytes needed fit, fields are written from the start on; else they are refused with the bytes needed
-module _ (fs before : List ℕ) (needed : ℕ) {o : Outcome (Unit {0})} (room : o ≡ fits (length before) needed) (four_each : needed ≡ 4 * length fs) where
-  size : length (field_bytes fs) ≡ needed
-  size = length_field_bytes fs ∙ sym four_each
-
-  ending : stage_bytes (length before) fs ≡ (o >>= λ _. Ok (field_bytes fs))
-  ending = rw size (fits_then (length before) needed (field_bytes fs) ∙ ap (λ x. x >>= λ _. Ok (field_bytes fs)) (sym room))
-
-  ended_as : {r : Outcome (Unit {0})} → o ≡ r → stage_bytes (length before) fs ≡ (r >>= λ _. Ok (field_bytes fs))
-  ended_as e = ending ∙ ap (λ x. x >>= λ _. Ok (field_bytes fs)) e
-
-  pub staged_written : {u : Unit {0}} (after : List ℕ) (p : ℕ) → o ≡ Ok u → Wrote before 0 (field_bytes fs) after p → Staged fs before after (Ok p)
-  staged_written after p e w =
+  pub ends_written : {u : Unit {0}} (after : List ℕ) (p : ℕ) → o ≡ Ok u → Wrote before 0 bytes after p → Ends (fitting (length before) bytes) before after (Ok p)
+  ends_written after p e w =
       let enough : needed ≤ length before = leb-true _ _ (need_ok _ _ _ _ _ (sym room ∙ e)).0 in
-      let z : 0 + length (field_bytes fs) ≡ length (field_bytes fs) = omega arith in
-      rw (ended_as e, w.1, w.0, z) (refl, sets-eq (field_bytes fs) before 0 (omega (arith, size)) ∙ ap (λ k. field_bytes fs ++ drop k before) z)
+      let z : 0 + length bytes ≡ length bytes = omega arith in
+      rw (ending e, w.1, w.0, z) (refl, sets-eq bytes before 0 (omega arith) ∙ ap (λ k. bytes ++ drop k before) z)
+
+  pub ends_short : {r : Refusal} (answer : Outcome ℕ) → o ≡ Err r → IsErrAnd answer (λ x. x ≡ r) → Ends (fitting (length before) bytes) before before answer
+  ends_short answer e h = rw (ending e) (hands_on answer h, refl)
+
+-- the same for fields
+module _ (fs before : List ℕ) (needed : ℕ) {o : Outcome (Unit {0})} (room : o ≡ fits (length before) needed) (four_each : needed ≡ 4 * length fs) where
+  pub staged_written : {u : Unit {0}} (after : List ℕ) (p : ℕ) → o ≡ Ok u → Wrote before 0 (field_bytes fs) after p → Staged fs before after (Ok p)
+  staged_written after p e w = ends_written (field_bytes fs) before needed room (four_each ∙ sym (length_field_bytes fs)) after p e w
 
   pub staged_short : {r : Refusal} (answer : Outcome ℕ) → o ≡ Err r → IsErrAnd answer (λ x. x ≡ r) → Staged fs before before answer
-  staged_short answer e h = rw (ended_as e) (hands_on answer h, refl)
+  staged_short answer e h = ends_short (field_bytes fs) before needed room (four_each ∙ sym (length_field_bytes fs)) answer e h

@@ -7,17 +7,16 @@ ghost use Rattle.std.specs.Prelude.{◌≡◌, ◌+◌, ◌*◌, ◌<◌, ◌≤
 ghost use mathlib.Core.List.{[], ◌∷◌, flat_map};
 ghost use Rattle.rules.specs.Fields.{field_bytes};
 ghost use Rattle.rules.specs.Merge.{is_removed};
-ghost use Rattle.rules.specs.Stage.{use_fields, kept_uses};
+ghost use Rattle.rules.specs.Shells.{shell_faces};
+ghost use Rattle.rules.specs.Stage.{use_fields, kept_uses, kept_fields};
 ghost use Rattle.fields.specs.Wrote.{Wrote};
-ghost use Rattle.uses.specs.Table.{uses_in};
 ghost use Rattle.walk.specs.Walks.{loops_in, Following};
-ghost use Rattle.stages_out.specs.Rows.{use_row};
-ghost use Rattle.stages_out.specs.Writing.{Rowed};
-ghost use Rattle.stages_out.specs.Rows.{Staged, walk_row, walk_rows, pair_rows, kept_rows, round_row, round_rows, end_of, fits};
+ghost use Rattle.stages_out.specs.Rows.{Staged, walk_row, walk_rows, pair_rows, round_row, round_rows, end_of, fits};
 
-use fields::{get, is_set, put_table, put_word};
-use rules::{Fault, Refusal, Use};
-use uses::{count, records_of, use_face};
+use fields::{Span, get, is_set, put_table, put_word};
+use merge_faces::Faces;
+use rules::{Fault, KeptVertexLoop, Refusal, Use};
+use uses::use_face;
 use walk::successor;
 
 // Two numbers as fields at a place; gives the place after them.
@@ -34,30 +33,20 @@ fn put_use(out: &mut [u8], at: usize, u: Use) -> usize
     requires { at < 2 ^ 58 }
     ensures { Wrote out.old at (field_bytes (use_fields u)) out.new result }
 {
-    let sense = u.sense;
     let p = put_two(out, at, u.edge as usize, u.face as usize);
-    put_two(out, p, usize::from(sense), u.next as usize)
+    put_two(out, p, usize::from(u.sense), u.next as usize)
 }
 
-// The fields of uses, which are lent as a slice of records; gives the place after them.
-fn put_records(records: &[Use], out: &mut [u8]) -> usize
-    requires { length records.now ≤ 2048 }
-    ensures { Wrote out.old 0 (field_bytes (flat_map use_fields records.now)) out.new result }
+// The fields of each use; gives the place after them.
+fn put_uses(uses: &[Use], out: &mut [u8]) -> usize
+    requires { length uses.now ≤ 2048 }
+    ensures { Wrote out.old 0 (field_bytes (flat_map use_fields uses.now)) out.new result }
 {
     let mut p = 0;
-    for u in records {
+    for u in uses {
         p = put_use(out, p, *u);
     }
     p
-}
-
-// The fields of each use of the job; gives the place after them.
-fn put_uses(uses: &[u32], out: &mut [u8]) -> usize
-    requires { length (uses_in uses.now) ≤ 2048 }
-    ensures { Wrote out.old 0 (field_bytes (flat_map use_fields (uses_in uses.now))) out.new result }
-{
-    let records = records_of(uses);
-    put_records(&records[..count(uses)], out)
 }
 
 // The output has room for the bytes needed.
@@ -66,20 +55,17 @@ pub fn fits(out: &[u8], needed: usize) -> Result<(), Refusal>
     ensures { result ≡ fits (length out.now) needed }
 {
     if out.len() < needed {
-        return Err(Refusal {
-            fault: Fault::NoRoom,
-            place: needed,
-        });
+        return Err(Fault::NoRoom.at(needed));
     }
     Ok(())
 }
 
 // The stage `read`: edge, selected face, sense and old successor of each use.
-pub fn write_read(uses: &[u32], out: &mut [u8]) -> Result<usize, Refusal>
-    requires { length (uses_in uses.now) ≤ 2048 }
-    ensures { Staged (flat_map use_fields (uses_in uses.now)) out.old out.new result }
+pub fn write_read(uses: &[Use], out: &mut [u8]) -> Result<usize, Refusal>
+    requires { length uses.now ≤ 2048 }
+    ensures { Staged (flat_map use_fields uses.now) out.old out.new result }
 {
-    fits(out, 16 * count(uses))?;
+    fits(out, 16 * uses.len())?;
     Ok(put_uses(uses, out))
 }
 
@@ -147,16 +133,15 @@ pub fn write_walk(
     Ok(put_walks(removed, succ, passed, out))
 }
 
-// The entries of two tables, side by side; gives the place after them.
+// The entries of two tables, side by side; gives the place after them. By number, and not over `zip`, since nothing says that
+// the second table is as long as the first.
 fn put_pairs(boundaries: &[u32], groups: &[u32], out: &mut [u8]) -> usize
     requires { length boundaries.now ≤ 2048 }
     ensures { Wrote out.old 0 (field_bytes (pair_rows boundaries.now groups.now)) out.new result }
 {
     let mut p = 0;
-    for f in 0..boundaries.len() {
-        let b = get(boundaries, f);
-        let g = get(groups, f);
-        p = put_two(out, p, b, g);
+    for (f, b) in boundaries.iter().enumerate() {
+        p = put_two(out, p, *b as usize, get(groups, f));
     }
     p
 }
@@ -170,86 +155,110 @@ pub fn write_pairs(boundaries: &[u32], groups: &[u32], out: &mut [u8]) -> Result
     Ok(put_pairs(boundaries, groups, out))
 }
 
-// The first k pairs of a table; gives the place after them.
-fn put_kept(kept: &[u32], k: usize, out: &mut [u8]) -> usize
-    requires { k ≤ 2048 }
-    ensures { Wrote out.old 0 (field_bytes (kept_rows kept.now k)) out.new result }
+// The merged face and the point of each kept vertex loop; gives the place after them.
+fn put_kept(kept: &[KeptVertexLoop], out: &mut [u8]) -> usize
+    requires { length kept.now ≤ 2048 }
+    ensures { Wrote out.old 0 (field_bytes (flat_map kept_fields kept.now)) out.new result }
 {
     let mut p = 0;
-    for i in 0..k {
-        let f = get(kept, 2 * i);
-        let v = get(kept, 2 * i + 1);
-        p = put_two(out, p, f, v);
+    for k in kept {
+        p = put_two(out, p, k.face as usize, k.point as usize);
     }
     p
 }
 
-// The stage `vertex-loops`: merged face and point of each of the k kept vertex loops.
-pub fn write_kept(kept: &[u32], k: usize, out: &mut [u8]) -> Result<usize, Refusal>
-    requires { k ≤ 2048 }
-    ensures { Staged (kept_rows kept.now k) out.old out.new result }
+// The stage `vertex-loops`: merged face and point of each kept vertex loop.
+pub fn write_kept(kept: &[KeptVertexLoop], out: &mut [u8]) -> Result<usize, Refusal>
+    requires { length kept.now ≤ 2048 }
+    ensures { Staged (flat_map kept_fields kept.now) out.old out.new result }
 {
-    fits(out, 8 * k)?;
-    Ok(put_kept(kept, k, out))
+    fits(out, 8 * kept.len())?;
+    Ok(put_kept(kept, out))
 }
 
-// The place where the uses of the first k loops end.
-fn end_of(stretches: &[u32], k: usize) -> usize
-    requires { k ≤ 2048 }
-    ensures { (result ≡ end_of stretches.now k) × (result < 4294967296) }
+// The place where the uses of the loops end.
+fn end_of(stretches: &[Span]) -> usize
+    ensures { (result ≡ end_of stretches.now) × (result < 4294967296) }
 {
-    if k == 0 {
-        return 0;
-    }
-    get(stretches, 2 * k - 1)
+    stretches.last().map_or(0, |last| last.end as usize)
 }
 
 // The fields of one loop at a place; gives the place after them.
-fn put_loop(uses: &[u32], numbers: &[u32], part: &[u32], out: &mut [u8], at: usize) -> usize
+fn put_loop(uses: &[Use], numbers: &[u32], part: &[u32], out: &mut [u8], at: usize) -> usize
     requires { (at < 2 ^ 58) × (length part.now < 2 ^ 50) }
-    ensures { Wrote out.old at (field_bytes (round_row (uses_in uses.now) numbers.now part.now)) out.new result }
+    ensures { Wrote out.old at (field_bytes (round_row uses.now numbers.now part.now)) out.new result }
 {
     let first = get(part, 0);
-    let face = use_face(uses, first);
-    let number = get(numbers, face);
+    let number = get(numbers, use_face(uses, first));
     let p = put_two(out, at, number, part.len());
     put_table(out, p, part)
 }
 
 // The fields of each loop; gives the place after them.
 fn put_loops(
-    uses: &[u32],
+    uses: &[Use],
     numbers: &[u32],
     ways: &[u32],
-    stretches: &[u32],
-    k: usize,
+    stretches: &[Span],
     out: &mut [u8],
 ) -> usize
-    requires { Following k ways.now stretches.now × (k ≤ 2048) × (length ways.now ≤ 2048) }
-    ensures { Wrote out.old 0 (field_bytes (round_rows (uses_in uses.now) numbers.now (loops_in k ways.now stretches.now))) out.new result }
+    requires { Following ways.now stretches.now × (length stretches.now ≤ 2048) × (length ways.now ≤ 2048) }
+    ensures { Wrote out.old 0 (field_bytes (round_rows uses.now numbers.now (loops_in ways.now stretches.now))) out.new result }
 {
     let mut p = 0;
-    for i in 0..k {
-        let a = get(stretches, 2 * i);
-        let e = get(stretches, 2 * i + 1);
-        p = put_loop(uses, numbers, &ways[a..e], out, p);
+    for s in stretches {
+        p = put_loop(
+            uses,
+            numbers,
+            &ways[s.start as usize..s.end as usize],
+            out,
+            p,
+        );
     }
     p
 }
 
-// The stage `loops`: merged face, number of uses and the uses of each of the k loops.
+// The stage `loops`: merged face, number of uses and the uses of each loop.
 pub fn write_loops(
-    uses: &[u32],
+    uses: &[Use],
     numbers: &[u32],
     ways: &[u32],
-    stretches: &[u32],
-    k: usize,
+    stretches: &[Span],
     out: &mut [u8],
 ) -> Result<usize, Refusal>
-    requires { Following k ways.now stretches.now × (k ≤ 2048) × (length ways.now ≤ 2048) }
-    ensures { Staged (round_rows (uses_in uses.now) numbers.now (loops_in k ways.now stretches.now)) out.old out.new result }
+    requires { Following ways.now stretches.now × (length stretches.now ≤ 2048) × (length ways.now ≤ 2048) }
+    ensures { Staged (round_rows uses.now numbers.now (loops_in ways.now stretches.now)) out.old out.new result }
 {
-    let end = end_of(stretches, k);
-    fits(out, 8 * k + 4 * end)?;
-    Ok(put_loops(uses, numbers, ways, stretches, k, out))
+    fits(out, 8 * stretches.len() + 4 * end_of(stretches))?;
+    Ok(put_loops(uses, numbers, ways, stretches, out))
+}
+
+// MERGED FACES OF A BOUNDARY, for the shells
+
+// Those of the boundary with label b at a place; gives the place after them.
+pub fn put_shell_faces(faces: &Faces, b: usize, out: &mut [u8], at: usize) -> usize
+    requires { at < 2 ^ 58 }
+    ensures { Wrote out.old at (field_bytes (shell_faces faces.now.boundaries faces.now.members b)) out.new result × (result ≤ at + 1024) }
+{
+    let boundaries = faces.boundaries();
+    let members = faces.members();
+    let mut p = at;
+    for (f, m) in members.iter().enumerate() {
+        if get(boundaries, *m as usize) == b {
+            p = put_word(out, p, f);
+        }
+    }
+    p
+}
+
+// How many they are.
+pub fn count_shell_faces(faces: &Faces, b: usize) -> usize
+    ensures { (result ≡ length (shell_faces faces.now.boundaries faces.now.members b)) × (result ≤ 256) }
+{
+    let boundaries = faces.boundaries();
+    let members = faces.members();
+    members
+        .iter()
+        .filter(|m| get(boundaries, **m as usize) == b)
+        .count()
 }

@@ -1,17 +1,18 @@
 -- Laws of the loops in tables: one more loop at the end, and what the tables give when all uses have been looked at.
-use Rattle.std.specs.Prelude.{ℕ, zero, suc, ◌+◌, ◌*◌, ◌-◌, ◌<◌, ◌≤◌, ◌≡◌, refl, ◌⊎◌, Bool, true, false, ◌||◌, take, drop, set, replicate, eqb}
-use Rattle.std.proofs.Math.Decide.{ℕ_discrete}
-use Rattle.std.proofs.Common.{add-one, sym, subst, ◌∙◌, inl, inr, ⊎_elim, length-set, length-append, take-append-drop, length-take-le, take_at, get_or-set_same, get_or-set_other}
+use Rattle.std.specs.Prelude.{ℕ, zero, suc, ◌+◌, ◌-◌, ◌<◌, ◌≤◌, ◌≡◌, refl, Bool, true, false, ◌||◌, take, drop, set, replicate, eqb}
+use Rattle.std.proofs.lemmas.List.{take_more_set}
+use Rattle.lists.specs.TableMore.{table_more}
+use Rattle.std.proofs.Common.{add-one, sym, subst, ◌∙◌, ⊎_elim, length-set, length-append, take-append-drop, length-take-le, take_at, get_or-set_same, get_or-set_other}
 use native.Mathlib.Omega.{arith}
 use Rattle.std.proofs.Math.Path.{ap}
 use mathlib.Core.List.Memᴰ
-use mathlib.Core.List.{List, [], ◌∷◌, ◌++◌, flat_map, foldl, append-nil, append_assoc}
+use mathlib.Core.List.{List, [], ◌∷◌, ◌++◌, map, map-map, flat_map, foldl, append-nil, append_assoc}
 use Rattle.std.proofs.Math.ListN.{length, get_or, length-replicate}
 use Rattle.std.proofs.lemmas.List.Edits.{sets-eq}
 use Rattle.std.proofs.Math.Seq.{length-sets}
 use Rattle.lists.specs.Lists.{from, below, ◌∈◌, has, some}
 use Rattle.lists.specs.Tests.{both_ways, or_second, none_or, or_assoc, or_comm, equal_or_not, cond_true, cond_false}
-use Rattle.lists.specs.Runs.{below_snoc, pigeon_below}
+use Rattle.lists.specs.Runs.{below_snoc, pigeon_below, length_table, get_or_table}
 use Rattle.lists.specs.Members.{flat_map_append, flat_map_in, foldl_append}
 use Rattle.lists.specs.Membership.{get_or_in}
 use Rattle.lists.specs.Orbits.{length_orbit}
@@ -22,7 +23,9 @@ use Rattle.rules.specs.Merge.{is_removed}
 use Rattle.rules.specs.Walk.{Circuit, closes, never_closes, successor, circuit, circuit_uses, visited, loop_step, circuits, loops_of}
 use Rattle.theorems.specs.Circuits.{Permuted, Closed}
 use Rattle.theorems.proofs.Circuits.{circuits_parting, closed_kept}
-use Rattle.walk.specs.Walks.{Closes, marked, unvisited, Round, loops_in, Following, started, Held, Walking}
+use Rattle.fields.specs.declared.Span.{Span}
+use Rattle.fields.specs.Spans.{no_span, span_at}
+use Rattle.walk.specs.Walks.{Closes, marked, unvisited, Round, loop_in, loops_in, Following, started, span_of, Held, Walking}
 
 -- MARKS
 
@@ -58,46 +61,28 @@ blank (suc n) (suc x) = blank n x
 
 -- ONE LOOP MORE
 
--- what a store of two numbers one after the other leaves
-two_at : (t : List ℕ) (c a e i : ℕ) → 2 * c + 2 ≤ length t → (get_or (set (set t (2 * c) a) (2 * c + 1) e) (2 * c) 0 ≡ a) × (get_or (set (set t (2 * c) a) (2 * c + 1) e) (2 * c + 1) 0 ≡ e)
-    × (i < c → (get_or (set (set t (2 * c) a) (2 * c + 1) e) (2 * i) 0 ≡ get_or t (2 * i) 0) × (get_or (set (set t (2 * c) a) (2 * c + 1) e) (2 * i + 1) 0 ≡ get_or t (2 * i + 1) 0))
-two_at t c a e i le = (
-  get_or-set_other (set t (2 * c) a) (2 * c + 1) (2 * c) e 0 (λ (q : 2 * c ≡ 2 * c + 1). omega arith) ∙ get_or-set_same t (2 * c) a 0 (omega arith),
-  get_or-set_same (set t (2 * c) a) (2 * c + 1) e 0 (subst (λ n. 2 * c + 1 < n) (sym (length-set t (2 * c) a)) (omega arith)),
-  λ lt. (
-    get_or-set_other (set t (2 * c) a) (2 * c + 1) (2 * i) e 0 (λ (q : 2 * i ≡ 2 * c + 1). omega arith) ∙ get_or-set_other t (2 * c) (2 * i) a 0 (λ (q : 2 * i ≡ 2 * c). omega arith),
-    get_or-set_other (set t (2 * c) a) (2 * c + 1) (2 * i + 1) e 0 (λ (q : 2 * i + 1 ≡ 2 * c + 1). omega arith) ∙ get_or-set_other t (2 * c) (2 * i + 1) a 0 (λ (q : 2 * i + 1 ≡ 2 * c). omega arith),
-  ),
-)
-
 -- the uses of one loop more
 uses_snoc : (cs : List Circuit) (c : Circuit) → flat_map circuit_uses (cs ++ (c ∷ [])) ≡ flat_map circuit_uses cs ++ circuit_uses c
 unfolding flat_map
 uses_snoc cs c = flat_map_append circuit_uses cs (c ∷ []) ∙ ap (λ l. flat_map circuit_uses cs ++ l) (append-nil (circuit_uses c))
 
-last_or_before : (i c : ℕ) → i < c + 1 → (i ≡ c) ⊎ (i < c)
-last_or_before i c lt = elim (ℕ_discrete i c) [ yes e ↦ inl e | no ne ↦ inr (omega arith) ]
-
-module _ (n : ℕ) (cs : List Circuit) (seen : List Bool) (ways stretches : List ℕ) (count at : ℕ) (H : Held n cs seen ways stretches count at) where
-  held_more : (c : Circuit) (seen' : List Bool) (ways' stretches' : List ℕ) (end : ℕ) → Round (circuit_uses c) seen ways at seen' ways' end
-      → stretches' ≡ set (set stretches (2 * count) at) (2 * count + 1) end → count < n → end ≤ n → ((x : ℕ) → x ∈ circuit_uses c → x < n)
-      → Held n (cs ++ (c ∷ [])) seen' ways' stretches' (count + 1) end
-  held_more c seen' ways' stretches' end R es few room within =
+module _ (n : ℕ) (cs : List Circuit) (seen : List Bool) (ways : List ℕ) (stretches : List Span) (count at : ℕ) (H : Held n cs seen ways stretches count at) where
+  held_more : (c : Circuit) (seen' : List Bool) (ways' : List ℕ) (end : ℕ) → Round (circuit_uses c) seen ways at seen' ways' end → count < n → end ≤ n → ((x : ℕ) → x ∈ circuit_uses c → x < n)
+      → Held n (cs ++ (c ∷ [])) seen' ways' (set stretches count (record { start = at; end = end })) (count + 1) end
+  held_more c seen' ways' end R few room within =
       let many : length (cs ++ (c ∷ [])) ≡ count + 1 = length_snoc cs c ∙ omega (arith, H.many) in
       let reach : end ≡ length (flat_map circuit_uses (cs ++ (c ∷ []))) =
       R.ends ∙ ap (λ a. a + length (circuit_uses c)) H.reach ∙ sym (length-append (flat_map circuit_uses cs) (circuit_uses c)) ∙ sym (ap length (uses_snoc cs c)) in
-      let wide : 2 * count + 2 ≤ length stretches = omega (arith, H.stretches_size) in
       let size : length (take at ways) ≡ at = length-take-le at ways (omega (arith, H.room, H.ways_size)) in
       let fits : at + length (circuit_uses c) ≤ length ways = omega (arith, R.ends, H.ways_size) in
-      let last : at ≡ start_at circuit_uses (cs ++ (c ∷ [])) count =
-      H.reach ∙ sym (start_end circuit_uses cs) ∙ sym (start_snoc circuit_uses cs c (length cs) (omega arith)) ∙ ap (start_at circuit_uses (cs ++ (c ∷ []))) (sym H.many) in
-      let ending : end ≡ start_at circuit_uses (cs ++ (c ∷ [])) (count + 1) = reach ∙ sym (start_end circuit_uses (cs ++ (c ∷ []))) ∙ ap (start_at circuit_uses (cs ++ (c ∷ []))) many in
-      let stored : List ℕ = set (set stretches (2 * count) at) (2 * count + 1) end in
+      let span : Span = record { start = at; end = end } in
       let starts_at : ℕ → ℕ = start_at circuit_uses (cs ++ (c ∷ [])) in
+      let last : starts_at count ≡ at = ap starts_at H.many ∙ start_snoc circuit_uses cs c (length cs) (omega arith) ∙ start_end circuit_uses cs ∙ sym H.reach in
+      let ending : starts_at (count + 1) ≡ end = ap starts_at (sym many) ∙ start_end circuit_uses (cs ++ (c ∷ [])) ∙ sym reach in
       record {
         seen_size = ap length R.marks ∙ length_marked seen (circuit_uses c) ∙ H.seen_size;
         ways_size = ap length R.writes ∙ length-sets ways at (circuit_uses c) ∙ H.ways_size;
-        stretches_size = ap length es ∙ length-set (set stretches (2 * count) at) (2 * count + 1) end ∙ length-set stretches (2 * count) at ∙ H.stretches_size;
+        stretches_size = length-set stretches count span ∙ H.stretches_size;
         room = room;
         many = sym many;
         reach = reach;
@@ -107,31 +92,34 @@ module _ (n : ℕ) (cs : List Circuit) (seen : List Bool) (ways stretches : List
             ∙ ap (λ l. l ++ circuit_uses c) H.front ∙ sym (uses_snoc cs c);
         marks = λ x. ap (λ v. get_or v x false) R.marks ∙ marked_is seen (circuit_uses c) (λ y m. let r = within y m in omega (arith, H.seen_size)) x
             ∙ ap (λ b. b || has x (circuit_uses c)) (H.marks x) ∙ sym (some_snoc (λ d. has x (circuit_uses d)) cs c);
-        starts = λ i lt. ap (λ l. get_or l (2 * i) 0) es
-            ∙ ⊎_elim (λ e. subst (λ k. get_or stored (2 * k) 0 ≡ starts_at k) (sym e) ((two_at stretches count at end count wide).0 ∙ last))
-            (λ q. ((two_at stretches count at end i wide).2 q).0 ∙ H.starts i q ∙ sym (start_snoc circuit_uses cs c i (omega (arith, H.many)))) (last_or_before i count lt);
-        stops = λ i lt. ap (λ l. get_or l (2 * i + 1) 0) es
-            ∙ ⊎_elim (λ e. subst (λ k. get_or stored (2 * k + 1) 0 ≡ starts_at (k + 1)) (sym e) ((two_at stretches count at end count wide).1 ∙ ending))
-            (λ q. ((two_at stretches count at end i wide).2 q).1 ∙ H.stops i q ∙ sym (start_snoc circuit_uses cs c (i + 1) (omega (arith, H.many)))) (last_or_before i count lt);
+        spans = take_more_set stretches count span (omega (arith, H.stretches_size)) ∙ ap (λ l. l ++ (span ∷ [])) H.spans
+            ∙ sym (table_more (span_of cs) (span_of (cs ++ (c ∷ []))) count span
+            (λ i lt t. record { start = start_snoc circuit_uses cs c i (omega (arith, H.many)) t; end = start_snoc circuit_uses cs c (i + 1) (omega (arith, H.many)) t })
+            (λ t. record { start = last t; end = ending t }));
       }
 
   -- the loops, cut out again
-  held_loops : loops_in count ways stretches ≡ loops_of cs
+  held_loops : loops_in ways (take count stretches) ≡ loops_of cs
   held_loops =
-      ap (λ k. loops_in k ways stretches) H.many
-      ∙ cuts circuit_uses cs ways (drop at ways) (λ i. get_or stretches (2 * i) 0) (λ i. get_or stretches (2 * i + 1) 0) (sym (take-append-drop at ways) ∙ ap (λ l. l ++ drop at ways) H.front)
-      (λ i lt. H.starts i (omega (arith, H.many))) (λ i lt. H.stops i (omega (arith, H.many)))
+      ap (loops_in ways) (H.spans ∙ ap (λ k. map (span_of cs) (below k)) H.many) ∙ map-map (loop_in ways) (span_of cs) (below (length cs))
+      ∙ cuts circuit_uses cs ways (drop at ways) (start_at circuit_uses cs) (λ i. start_at circuit_uses cs (i + 1)) (sym (take-append-drop at ways) ∙ ap (λ l. l ++ drop at ways) H.front)
+      (λ i lt. refl) (λ i lt. refl)
 
-  held_following : ((c : Circuit) → c ∈ cs → 0 < length (circuit_uses c)) → Following count ways stretches
-  held_following filled = record {
-    first = λ lt. H.starts 0 lt ∙ start_none circuit_uses cs;
-    follow = λ i lt. H.starts (i + 1) lt ∙ sym (H.stops i (omega arith));
-    rise = λ i lt.
-        let k : i < length cs = omega (arith, H.many) in
-        let more = filled (get_or cs i never_closes) (get_or_in cs i never_closes k) in
-        omega (arith, H.starts i lt, H.stops i lt, start_next circuit_uses cs i never_closes k, ap (start_at circuit_uses cs) (add-one i));
-    within = λ i lt. omega (arith, H.stops i lt, start_within circuit_uses cs (i + 1), H.reach, H.room, H.ways_size);
-  }
+  held_following : ((c : Circuit) → c ∈ cs → 0 < length (circuit_uses c)) → Following ways (take count stretches)
+  held_following filled =
+      let spans : List Span = map (span_of cs) (below count) in
+      let size : length spans ≡ count = length_table (span_of cs) count in
+      let at_is : (i : ℕ) → i < length spans → span_at spans i ≡ span_of cs i = λ i lt. get_or_table (span_of cs) count i no_span (omega arith) in
+      rw H.spans
+      (record {
+        first = λ lt. ap (λ s. s.start) (at_is 0 lt) ∙ start_none circuit_uses cs;
+        follow = λ i lt. ap (λ s. s.start) (at_is (i + 1) lt) ∙ sym (ap (λ s. s.end) (at_is i (omega arith)));
+        rise = λ i lt.
+            let k : i < length cs = omega (arith, H.many) in
+            let more = filled (get_or cs i never_closes) (get_or_in cs i never_closes k) in
+            rw (at_is i lt) (omega (arith, start_next circuit_uses cs i never_closes k, ap (start_at circuit_uses cs) (add-one i)));
+        within = λ i lt. rw (at_is i lt) (omega (arith, start_within circuit_uses cs (i + 1), H.reach, H.room, H.ways_size));
+      })
 
 -- THE LOOPS THAT START BELOW A USE
 
@@ -187,7 +175,7 @@ module _ (rm : List Bool) (ss : List ℕ) where
         (subst (λ cs. new ∈ cs) (sym (r.1 ∙ ap (λ cs. cs ++ r.0) (started_step h ∙ step_starts (started rm ss h) h e)))
         (Memᴰ.append_left r.0 (Memᴰ.append_right (started rm ss h) (Memᴰ.head refl))))
 
-    module _ (h : ℕ) (seen : List Bool) (ways stretches : List ℕ) (count at : ℕ) (lt : h < length ss) (W : Walking rm ss h seen ways stretches count at) where
+    module _ (h : ℕ) (seen : List Bool) (ways : List ℕ) (stretches : List Span) (count at : ℕ) (lt : h < length ss) (W : Walking rm ss h seen ways stretches count at) where
       -- a removed use starts none, nor does one that stands in a loop
       pub walking_skips : (is_removed rm h || get_or seen h false) ≡ true → Walking rm ss (h + 1) seen ways stretches count at
       walking_skips e =
@@ -214,18 +202,18 @@ module _ (rm : List Bool) (ss : List ℕ) where
               omega (arith, started_room (h + 1) (omega arith), ap length parts, length-append before (circuit_uses new), R.ends, W.1.reach)
 
           -- a kept use that is in none starts one
-          pub walking_starts : (mid stretches' : List ℕ) → mid ≡ set stretches (2 * count) at → stretches' ≡ set mid (2 * count + 1) end → Walking rm ss (h + 1) seen' ways' stretches' (count + 1) end
-          walking_starts mid stretches' em es =
+          pub walking_starts : (stretches' : List Span) → stretches' ≡ set stretches count (record { start = at; end = end }) → Walking rm ss (h + 1) seen' ways' stretches' (count + 1) end
+          walking_starts stretches' es =
               let C = starts_closed h lt starting in
               let new : Circuit = circuit ss (length ss) h h in
-              rw opened (
+              rw (opened, es) (
                 omega (arith, W.0),
-                held_more (length ss) (started rm ss h) seen ways stretches count at W.1 new seen' ways' stretches' end R
-                    (es ∙ ap (λ l. set l (2 * count + 1) end) em) (omega (arith, W.0)) walking_room (λ x m. (closed_kept S new x C m).0),
+                held_more (length ss) (started rm ss h) seen ways stretches count at W.1 new seen' ways' end R (omega (arith, W.0)) walking_room
+                    (λ x m. (closed_kept S new x C m).0),
               )
 
     -- no loop at first
-    pub walking_start : (seen : List Bool) (ways stretches : List ℕ) → seen ≡ unvisited (length ss) → length ways ≡ length ss → length stretches ≡ 2 * length ss
+    pub walking_start : (seen : List Bool) (ways : List ℕ) (stretches : List Span) → seen ≡ unvisited (length ss) → length ways ≡ length ss → length stretches ≡ length ss
         → Walking rm ss 0 seen ways stretches 0 0
     unfolding unvisited from some flat_map
     walking_start seen ways stretches es ew et = (
@@ -239,8 +227,7 @@ module _ (rm : List Bool) (ss : List ℕ) where
         reach = refl;
         front = refl;
         marks = λ x. ap (λ v. get_or v x false) es ∙ blank (length ss) x;
-        starts = λ i q. absurd (omega arith);
-        stops = λ i q. absurd (omega arith);
+        spans = refl;
       },
     )
 
@@ -249,8 +236,8 @@ module _ (rm : List Bool) (ss : List ℕ) where
     filled c m = let C = (circuits_parting S).closed c m in omega (arith, ap (λ d. length (circuit_uses d)) C.runs, length_orbit (successor ss) (suc C.more) C.start)
 
     -- all loops at the end
-    pub walking_end : (h : ℕ) (seen : List Bool) (ways stretches : List ℕ) (count at : ℕ) → length ss ≤ h → h ≤ length ss → Walking rm ss h seen ways stretches count at
-        → (loops_in count ways stretches ≡ loops_of (circuits rm ss)) × (count ≤ length ss) × Following count ways stretches
+    pub walking_end : (h : ℕ) (seen : List Bool) (ways : List ℕ) (stretches : List Span) (count at : ℕ) → length ss ≤ h → h ≤ length ss → Walking rm ss h seen ways stretches count at
+        → (loops_in ways (take count stretches) ≡ loops_of (circuits rm ss)) × (count ≤ length ss) × Following ways (take count stretches)
     walking_end h seen ways stretches count at le ge W =
         let e : h ≡ length ss = omega arith in (
           held_loops (length ss) (started rm ss h) seen ways stretches count at W.1 ∙ ap (λ k. loops_of (started rm ss k)) e,

@@ -2,15 +2,15 @@
 
 #![tactic(auto)]
 
-ghost use Rattle.std.specs.Prelude.{◌≡◌, ◌+◌, ◌*◌, ◌<◌, ◌≤◌, false, length};
+ghost use Rattle.std.specs.Prelude.{◌≡◌, ◌+◌, ◌*◌, ◌<◌, ◌≤◌, false, length, take};
 ghost use Rattle.lists.specs.Lists.{sum_of};
 ghost use Rattle.rules.specs.Walk.{pass as pass_of, successors as successors_of, passed_counts, successor as successor_at, circuit, circuit_uses, circuits, loops_of};
 ghost use Rattle.theorems.specs.Circuits.{Permuted};
-ghost use Rattle.uses.specs.Table.{uses_in};
 ghost use Rattle.walk.specs.Walks.{Met, Succeeds, Closes, Round, loops_in, Following, Walking, unvisited};
 
-use fields::{UNSET, get, is_set, put, put_flag};
-use uses::{count, use_next};
+use fields::{Span, UNSET, entry, get, is_set, put, put_entry, put_flag};
+use rules::Use;
+use uses::use_next;
 
 // The use that passing over meets, or the unset mark, and how many uses it passed over.
 // No `Option`: the mark goes into the tables as it is, so the new form is no plainer.
@@ -21,12 +21,12 @@ pub struct Passed {
 }
 
 // From a use on: while it is removed, on to the old successor of its twin, looking at most as often as there are uses.
-fn pass(uses: &[u32], twins: &[u32], removed: &[bool], from: usize) -> Passed
+fn pass(uses: &[Use], twins: &[u32], removed: &[bool], from: usize) -> Passed
     requires { from < 4294967296 }
-    ensures { Met (length (uses_in uses.now)) (pass_of (uses_in uses.now) twins.now removed.now (length (uses_in uses.now)) from 0) result.at result.passed }
+    ensures { Met (length uses.now) (pass_of uses.now twins.now removed.now (length uses.now) from 0) result.at result.passed }
 {
     let mut h = from;
-    for k in 0..count(uses) {
+    for k in 0..uses.len() {
         if !is_set(removed, h) {
             return Passed { at: h, passed: k };
         }
@@ -41,8 +41,8 @@ fn pass(uses: &[u32], twins: &[u32], removed: &[bool], from: usize) -> Passed
 
 // The successor and the passed count of a use; a removed use has none.
 #[tactic(auto, unfolding(rules::specs::Walk::successor_of, rules::specs::Walk::passed_of))]
-fn passing(uses: &[u32], twins: &[u32], removed: &[bool], h: usize) -> Passed
-    ensures { Succeeds (uses_in uses.now) twins.now removed.now h result.at result.passed }
+fn passing(uses: &[Use], twins: &[u32], removed: &[bool], h: usize) -> Passed
+    ensures { Succeeds uses.now twins.now removed.now h result.at result.passed }
 {
     if is_set(removed, h) {
         return Passed {
@@ -56,17 +56,17 @@ fn passing(uses: &[u32], twins: &[u32], removed: &[bool], h: usize) -> Passed
 
 // The successors and the passed counts of all uses. Gives the passed counts' sum.
 pub fn successors(
-    uses: &[u32],
+    uses: &[Use],
     twins: &[u32],
     removed: &[bool],
     succ: &mut [u32],
     passed: &mut [u32],
 ) -> usize
-    requires { (length (uses_in uses.now) ≤ 2048) × (length succ.old ≡ length (uses_in uses.now)) × (length passed.old ≡ length (uses_in uses.now)) }
-    ensures { (succ.new ≡ successors_of (uses_in uses.now) twins.now removed.now) × (passed.new ≡ passed_counts (uses_in uses.now) twins.now removed.now) × (result ≡ sum_of (λ k. k) passed.new) }
+    requires { (length uses.now ≤ 2048) × (length succ.old ≡ length uses.now) × (length passed.old ≡ length uses.now) }
+    ensures { (succ.new ≡ successors_of uses.now twins.now removed.now) × (passed.new ≡ passed_counts uses.now twins.now removed.now) × (result ≡ sum_of (λ k. k) passed.new) }
 {
     let mut total = 0;
-    for h in 0..count(uses) {
+    for h in 0..uses.len() {
         let p = passing(uses, twins, removed, h);
         put(succ, h, p.at);
         put(passed, h, p.passed);
@@ -79,10 +79,7 @@ pub fn successors(
 pub fn successor(succ: &[u32], h: usize) -> usize
     ensures { (result ≡ successor_at succ.now h) × (result < 4294967296) }
 {
-    if h < succ.len() {
-        return get(succ, h);
-    }
-    UNSET
+    entry(succ, h, UNSET as u32) as usize
 }
 
 // One loop: the uses from `start` on until the successor is the start, written to `ways` from `at` on and marked as visited.
@@ -117,7 +114,7 @@ fn walk_from(
     succ: &[u32],
     visited: &mut [bool],
     ways: &mut [u32],
-    stretches: &mut [u32],
+    stretches: &mut [Span],
     h: usize,
     so: Reached,
 ) -> Reached
@@ -128,8 +125,14 @@ fn walk_from(
         return so;
     }
     let end = walk_loop(succ, h, visited, ways, so.at);
-    put(stretches, 2 * so.count, so.at);
-    put(stretches, 2 * so.count + 1, end);
+    put_entry(
+        stretches,
+        so.count,
+        Span {
+            start: so.at as u32,
+            end: end as u32,
+        },
+    );
     Reached {
         count: so.count + 1,
         at: end,
@@ -142,11 +145,11 @@ fn walk_all(
     succ: &[u32],
     visited: &mut [bool],
     ways: &mut [u32],
-    stretches: &mut [u32],
+    stretches: &mut [Span],
 ) -> usize
     requires so_far { Permuted (length succ.now) removed.now succ.now × (length succ.now ≤ 2048) × (visited.old ≡ unvisited (length succ.now)) }
-    requires room { (length ways.old ≡ length succ.now) × (length stretches.old ≡ 2 * length succ.now) }
-    ensures { (loops_in result ways.new stretches.new ≡ loops_of (circuits removed.now succ.now)) × (result ≤ length succ.now) × Following result ways.new stretches.new }
+    requires room { (length ways.old ≡ length succ.now) × (length stretches.old ≡ length succ.now) }
+    ensures { (loops_in ways.new (take result stretches.new) ≡ loops_of (circuits removed.now succ.now)) × (result ≤ length succ.now) × Following ways.new (take result stretches.new) }
 {
     let mut so = Reached { count: 0, at: 0 };
     for h in 0..succ.len() {
@@ -155,10 +158,10 @@ fn walk_all(
     so.count
 }
 
-// The loops, their uses one after the other in `ways`; loop k from `stretches[2 k]` to `stretches[2 k + 1]`. Gives how many there are.
-pub fn loops(removed: &[bool], succ: &[u32], ways: &mut [u32], stretches: &mut [u32]) -> usize
-    requires { Permuted (length succ.now) removed.now succ.now × (length succ.now ≤ 2048) × (length ways.old ≡ length succ.now) × (length stretches.old ≡ 2 * length succ.now) }
-    ensures { (loops_in result ways.new stretches.new ≡ loops_of (circuits removed.now succ.now)) × (result ≤ length succ.now) × Following result ways.new stretches.new }
+// The loops, their uses one after the other in `ways`; loop k in stretch k. Gives how many there are.
+pub fn loops(removed: &[bool], succ: &[u32], ways: &mut [u32], stretches: &mut [Span]) -> usize
+    requires { Permuted (length succ.now) removed.now succ.now × (length succ.now ≤ 2048) × (length ways.old ≡ length succ.now) × (length stretches.old ≡ length succ.now) }
+    ensures { (loops_in ways.new (take result stretches.new) ≡ loops_of (circuits removed.now succ.now)) × (result ≤ length succ.now) × Following ways.new (take result stretches.new) }
 {
     let n = succ.len();
     let mut visited = [false; 2048];

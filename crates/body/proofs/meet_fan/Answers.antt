@@ -1,4 +1,4 @@
-use Rattle.std.proofs.Common.{arith}
+use Rattle.std.proofs.Common.{arith, sym, ◌∙◌}
 use Rattle.body.specs.Vertices.{fan_none, fan_old, fan_new}
 use Rattle.body.proofs.meet_fan.Goals as goal
 
@@ -6,10 +6,11 @@ pub returns-then-v-eq-UNSET : goal.returns-then-v-eq-UNSET
 returns-then-v-eq-UNSET c = (omega arith, λ before met ok' M. fan_none _ c.if-v-eq-UNSET.true M)
 
 pub returns-then-get-ne0 : goal.returns-then-get-ne0
-returns-then-get-ne0 c = (omega arith, λ before met ok' M. fan_old _ _ c.get.ensures.0 c.if-get-ne0.true M)
+returns-then-get-ne0 c = (omega arith, λ before met ok' M. fan_old _ (λ z. c.if-get-ne0.true (c.get.ensures.0 ∙ z)) M)
 
 pub returns : goal.returns
 returns c = (
   omega arith,
-  λ before met ok' M. fan_new _ _ _ _ _ _ c.if-v-eq-UNSET.false ok' c.get.ensures.0 c.if-get-ne0.false c.get-2.ensures.0 c.put.ensures c.put_record.ensures.0 M,
+  λ before met ok' M. rw c.put.ensures
+      (fan_new _ _ _ c.if-v-eq-UNSET.false ok' (sym c.get.ensures.0 ∙ c.if-get-ne0.false) (rw c.get-2.ensures.0 at c.put_record.ensures.0) M),
 )

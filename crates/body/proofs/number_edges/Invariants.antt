@@ -1,7 +1,6 @@
-use Rattle.edges.specs.Table.{rows_in}
 use Rattle.body.specs.Numbers.{Numbering}
 use Rattle.body.specs.Vertices.{active_below}
 use Rattle.body.proofs.number_edges.Given as goal
 
 abbrev pub invariant-loop-e : goal.invariant-loop-e
-invariant-loop-e l = Numbering (active_below (rows_in l.rows) l.e) l.numbers l.count
+invariant-loop-e l = Numbering (active_below l.rows l.e) l.numbers l.count

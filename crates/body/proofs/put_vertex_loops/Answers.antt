@@ -1,21 +1,24 @@
-use Rattle.std.proofs.Common.{arith}
-use Rattle.std.proofs.lemmas.Grind.{common_steps}
-use Rattle.body.specs.Rows.{vertex_loop_row, vertex_loop_rows}
-use Rattle.body.specs.Writing.{rowed_start, rowed_step, rowed_all}
-use Rattle.body.proofs.put_vertex_loops.Goals.{then-get-f, else-get-f}
+use Rattle.std.proofs.Common.{arith, eqb, eq-eqb, ne_eqb}
+use Rattle.rules.specs.declared.KeptVertexLoop.{KeptVertexLoop}
+use Rattle.rules.specs.Body.{vertex_loop_record}
+use Rattle.fields.specs.Wrote.{wrote_none}
+use Rattle.stages_out.specs.Writing.{rowed_start, rowed_step, rowed_members}
+use Rattle.body.specs.Writing.{records_kept, wrote_as}
+use Rattle.body.specs.FaceLaws.{point_row}
+use Rattle.body.proofs.put_vertex_loops.Goals.{then-k-f, else-k-f}
 use Rattle.body.proofs.put_vertex_loops.Goals as goal
 
-pub loop-i-init : goal.loop-i-init
-loop-i-init c = rowed_start
+pub loop-k-init : goal.loop-k-init
+loop-k-init c = rowed_start
 
-pub loop-i-preserved : goal.loop-i-preserved
-unfolding vertex_loop_row
-loop-i-preserved c =
-    elim c.if-get-f.branch [
-      | then-get-f w ↦ rw (w.out-is, w.p-is) (rowed_step c.loop-i.invariant (grind (arith, common_steps)) (omega arith))
-      | else-get-f w ↦ rw (w.out-is, w.p-is) (rowed_step c.loop-i.invariant (grind (arith, common_steps)) (omega arith))
+pub loop-k-preserved : goal.loop-k-preserved
+loop-k-preserved c =
+    elim c.if-k-f.branch [
+      | then-k-f w ↦ rw (w.out-is, w.p-is) (rowed_step c.loop-k.invariant (rw (eq-eqb _ _ w.if-k-f.true) w.put_record-p.ensures.0) (omega arith))
+      | else-k-f w ↦ rw (w.out-is, w.p-is) (rowed_step c.loop-k.invariant (rw (ne_eqb _ _ w.if-k-f.false) (wrote_none c.loop-k.out c.loop-k.p)) (omega arith))
     ]
 
 pub returns : goal.returns
-unfolding vertex_loop_rows
-returns c = (rowed_all _ c.loop-i.invariant (omega arith), omega arith)
+returns c =
+    let all = rowed_members (point_row c.args.f) c.args.kept.now (record { face = 0; point = 0 }) c.loop-k.invariant (omega arith) in
+    (wrote_as _ _ _ _ _ _ (records_kept vertex_loop_record (λ (k : KeptVertexLoop). k.point) (λ k. eqb k.face c.args.f) _) all, omega arith)

@@ -1,7 +1,6 @@
-use Prim.Native.Nat.{◌*◌, ◌≤◌}
-use Rattle.edges.specs.Table.{rows_in}
+use Rattle.std.proofs.Common.{◌*◌, ◌≤◌}
 use Rattle.body.specs.Vertices.{Meeting, met_below}
 use Rattle.body.proofs.put_vertices.Given as goal
 
-abbrev pub invariant-loop-e : goal.invariant-loop-e
-invariant-loop-e l = (l.count ≤ 2 * l.e) × Meeting l.starts l.initial.out l.at (met_below (rows_in l.rows) l.e) l.vertices l.out l.count
+abbrev pub invariant-loop-edge : goal.invariant-loop-edge
+invariant-loop-edge l = (l.count ≤ 2 * l.edge-index) × Meeting l.starts l.initial.out l.at (met_below l.rows l.edge-index) l.vertices l.out l.count

@@ -3,10 +3,9 @@ use Rattle.rules.specs.Contact.{edge_touches}
 use Rattle.contact.specs.Stamps.{Stale}
 use Rattle.contact.specs.ClearLaws.{NoneBelow}
 use mathlib.Core.Path.{◌≡◌}
-use Rattle.uses.specs.Table.{uses_in}
 use Rattle.contact.proofs.edges_clear.Given as goal
 
 abbrev pub invariant-loop-e : goal.invariant-loop-e
 invariant-loop-e l =
     (length l.stamps ≡ 256) × Stale l.stamps l.e × NoneBelow
-    (edge_touches (uses_in l.uses) l.twins l.labels) l.e
+    (edge_touches l.linked.uses l.twins l.labels) l.e

@@ -1,12 +1,13 @@
-use Rattle.contact.specs.BucketLaws.{chain_hit, chain_miss, chain_missed}
-use Rattle.std.proofs.Common.{rules}
+use Rattle.std.proofs.Common.{◌∙◌, get_or, rules, tests}
+use Rattle.std.proofs.lemmas.Iterator.Consumers.{YieldsList-from_first}
+use Rattle.std.proofs.lemmas.Iterator.Search.{any_from_yields_List}
+use Rattle.contact.specs.Buckets.{stands_with}
+use Rattle.contact.specs.BucketLaws.{some_is}
 use Rattle.contact.proofs.one_stands.Goals as goal
 
-pub returns-then-stands_with : goal.returns-then-stands_with
-returns-then-stands_with c = search (rules, chain_hit)
-
-pub loop-i-preserved : goal.loop-i-preserved
-loop-i-preserved c = chain_miss _ _ c.requires _ _ c.loop-i.invariant _ c.loop-i-test.true (search rules) c.get-i.ensures.0
-
 pub returns : goal.returns
-returns c = search (rules, chain_missed)
+returns c =
+    let a = c.args in
+    any_from_yields_List (λ k. stands_with a.uses.now a.starts.now a.labels.now a.p a.l (get_or a.names.now k 0)) _ _ _ c.any.ensures.ran
+    (YieldsList-from_first (λ h. h) (λ hs. hs) _ c.new.ensures) (λ x b q k. search (rules, tests))
+    ∙ some_is _ _

@@ -1,15 +1,16 @@
-use Rattle.contact.specs.StampLaws.{meeting_start, meeting_stop, meeting_stale, meeting_step, meeting_end}
+use Rattle.contact.specs.StampLaws.{meeting_start, meeting_stop, meeting_step, meeting_end}
 use Rattle.std.proofs.Common.{rules}
 use Rattle.contact.proofs.pairs_meet.Goals as goal
 
-pub loop-i-init : goal.loop-i-init
-loop-i-init c = search (rules, meeting_start)
+pub loop-h-init : goal.loop-h-init
+loop-h-init c = search (rules, meeting_start)
 
 pub returns-then-meet : goal.returns-then-meet
-returns-then-meet c = search (rules, meeting_stop, meeting_stale)
+returns-then-meet c =
+    meeting_stop _ _ _ _ _ _ c.loop-h.invariant.1 c.requires.0 c.in-Some.h c.next.new.self _ _ (search rules) c.meet.ensures.0 c.meet.ensures.1 c.if-meet.true
 
-pub loop-i-preserved : goal.loop-i-preserved
-loop-i-preserved c = search (rules, meeting_step)
+pub loop-h-preserved : goal.loop-h-preserved
+loop-h-preserved c = search (rules, meeting_step)
 
 pub returns : goal.returns
 returns c = search (rules, meeting_end)

@@ -1,6 +1,5 @@
 use lib.ListN.{length}
 use mathlib.Core.Path.{◌≡◌}
-use Rattle.uses.specs.Table.{uses_in}
 use Rattle.contact.specs.ContactLaws.{LowestAt}
 use Rattle.contact.specs.Buckets.{Bucketed}
 use Rattle.contact.proofs.points_chained.Given as goal
@@ -8,5 +7,5 @@ use Rattle.contact.proofs.points_chained.Given as goal
 abbrev pub invariant-loop-k : goal.invariant-loop-k
 invariant-loop-k l =
     (length l.heads ≡ length l.initial.heads) × (length l.nexts ≡ length l.initial.nexts) ×
-    Bucketed (length l.heads) l.starts l.names l.heads l.nexts l.k × LowestAt (uses_in l.uses) l.starts l.labels
+    Bucketed (length l.heads) l.starts l.names l.heads l.nexts l.k × LowestAt l.uses l.starts l.labels
     l.names l.k l.lowest

@@ -12,5 +12,5 @@ loop-h-preserved c = (
   linked_step _ _ _ _ _ _ _ _ c.loop-h.invariant.2 (omega arith) (omega arith) c.use_edge-e.ensures.0 c.get.ensures.0 c.put.ensures c.put-in-loop-h.ensures,
 )
 
-pub returns : goal.returns
-returns c = linked_all _ _ _ _ c.loop-h.invariant.2 (omega arith) (omega arith)
+pub invariant_of-result : goal.invariant_of-result
+invariant_of-result c = (linked_all _ _ _ _ c.loop-h.invariant.2 (omega arith) (omega arith), omega arith)

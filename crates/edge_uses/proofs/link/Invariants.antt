@@ -1,9 +1,8 @@
 use Rattle.std.proofs.Common.{◌≡◌, length, take}
 use Rattle.edge_uses.specs.Links.{Linked}
-use Rattle.uses.specs.Table.{uses_in}
 use Rattle.edge_uses.proofs.link.Given as goal
 
 abbrev pub invariant-loop-h : goal.invariant-loop-h
 invariant-loop-h l =
     (length l.firsts ≡ length l.initial.firsts) × (length l.nexts ≡ length l.initial.nexts)
-    × Linked (take l.h (uses_in l.uses)) l.firsts (take l.h l.nexts)
+    × Linked (take l.h l.uses) l.firsts (take l.h l.nexts)

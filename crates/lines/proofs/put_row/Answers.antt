@@ -1,25 +1,7 @@
-use lib.ListN.{drop}
-use mathlib.Core.Bool.{false}
-use Rattle.lines.specs.Writing.{decimal_short, fields_short}
 use Rattle.lines.specs.LineLaws.{row_wrote}
-use Prim.Native.Nat.{◌+◌, ◌-◌}
+use Prim.Native.Nat.{◌-◌}
 use native.Mathlib.Omega.{arith}
 use Rattle.lines.proofs.put_row.Goals as goal
-
-pub put_fields-q-requires : goal.put_fields-q-requires
-put_fields-q-requires c =
-    (omega (arith, c.put_number-p.ensures.1, decimal_short c.word.result), omega arith, omega arith)
-
-pub put_text-requires : goal.put_text-requires
-put_text-requires c =
-    omega (
-      arith,
-      c.put_number-p.ensures.1,
-      decimal_short c.word.result,
-      c.put_fields-q.ensures.1,
-      fields_short false
-          (c.args.n - 1) (drop (c.args.from + 4) c.args.bytes.now),
-    )
 
 pub returns : goal.returns
 returns c =

@@ -6,44 +6,16 @@ use Rattle.rules.specs.Rows.{row_text}
 use Rattle.lines.specs.Text.{row_at, row_size}
 use lib.ListN.{drop}
 use Prim.Native.Nat.{◌+◌, ◌*◌}
-use mathlib.Core.Path.{refl, ap, subst, ◌∙◌}
+use mathlib.Core.Path.{ap, subst}
 use native.Mathlib.Omega.{arith}
 use Rattle.lines.proofs.put_rows.Goals as goal
 
 pub loop-from-init : goal.loop-from-init
 loop-from-init c = (
-  refl,
   omega arith,
   going_start (row_at c.args.fixed c.args.counted) (row_size c.args.fixed c.args.counted) row_text
       c.args.page.now c.args.at c.args.bytes.now,
 )
-
-pub overflow_add-from : goal.overflow_add-from
-overflow_add-from c = omega arith
-
-pub word-requires : goal.word-requires
-word-requires c = omega arith
-
-pub overflow_mul-n : goal.overflow_mul-n
-overflow_mul-n c = omega (arith, counted_small c.args.counted c.word.result c.requires.4 c.word.ensures.1)
-
-pub overflow_add-n : goal.overflow_add-n
-overflow_add-n c = omega (arith, counted_small c.args.counted c.word.result c.requires.4 c.word.ensures.1)
-
-pub put_row-p-requires : goal.put_row-p-requires
-put_row-p-requires c =
-    let s = counted_small c.args.counted c.word.result c.requires.4 c.word.ensures.1 in
-    (omega (arith, c.loop-from.invariant.2.few), omega arith, omega arith, omega (arith, s))
-
-pub overflow_mul-from : goal.overflow_mul-from
-overflow_mul-from c = omega (arith, counted_small c.args.counted c.word.result c.requires.4 c.word.ensures.1)
-
-pub overflow_add-from-in-loop-from : goal.overflow_add-from-in-loop-from
-overflow_add-from-in-loop-from c =
-    omega (arith, counted_small c.args.counted c.word.result c.requires.4 c.word.ensures.1)
-
-pub loop-from-smaller : goal.loop-from-smaller
-loop-from-smaller c = omega arith
 
 pub loop-from-preserved : goal.loop-from-preserved
 loop-from-preserved c =
@@ -51,11 +23,10 @@ loop-from-preserved c =
     let l = c.loop-from in
     let v = c.word.result in
     let n = row_is a.bytes.now l.from a.fixed a.counted v c.word.ensures.0 in (
-      c.page-1.given ∙ l.invariant.0,
       omega (arith, counted_small a.counted v c.requires.4 c.word.ensures.1),
       going_step (row_at a.fixed a.counted) (row_size a.fixed a.counted) row_text a.page.now a.at a.bytes.now
           (row_some a.fixed a.counted c.requires.2) (row_short a.fixed a.counted c.requires.2) l.page
-          c.put_row-p.new.page l.p c.put_row-p.result l.from (l.from + 4 * (a.fixed + a.counted * v)) l.invariant.2
+          c.put_row-p.new.page l.p c.put_row-p.result l.from (l.from + 4 * (a.fixed + a.counted * v)) l.invariant.1
           c.loop-from-test.true (ap (λ k. l.from + 4 * k) n)
           (subst (λ k. Wrote l.page l.p (row_text (fields_in k (drop l.from a.bytes.now))) c.put_row-p.new.page
           c.put_row-p.result) n c.put_row-p.ensures),
@@ -66,6 +37,6 @@ returns c =
     let a = c.args in
     let l = c.loop-from in (
       going_end (row_at a.fixed a.counted) (row_size a.fixed a.counted) row_text a.page.now a.at a.bytes.now l.page l.p
-          l.from l.invariant.2 c.loop-from-test.false,
-      omega (arith, l.invariant.2.few),
+          l.from l.invariant.1 c.loop-from-test.false,
+      omega (arith, l.invariant.1.few),
     )

@@ -1,21 +1,16 @@
-use Rattle.std.proofs.Common.{sym, ap, ◌∙◌}
-use Rattle.rules.specs.Operation.{all_stages}
+use Rattle.std.proofs.Common.{rules, tests}
+use Rattle.std.proofs.lemmas.Iterator.{YieldsList-from_slice}
+use Rattle.std.proofs.lemmas.Iterator.Consumers.{YieldsList-from_copied}
+use Rattle.std.proofs.lemmas.Iterator.Search.{find_from_yields_List}
 use Rattle.lists.specs.Lists.{same}
-use Rattle.lines.specs.Text.{stage_named}
-use Rattle.lines.specs.LineLaws.{named_here, named_later, named_none}
+use Rattle.rules.specs.Operation.{all_stages}
+use Rattle.lines.specs.Text.{stage_name, stage_named}
+use Rattle.lines.specs.LineLaws.{pointwise_same}
 use Rattle.lines.proofs.stage_named.Goals as goal
-
-pub returns-then-is_same : goal.returns-then-is_same
-unfolding stage_named
-returns-then-is_same c =
-    let test = sym (c.is_same.ensures ∙ ap (same c.args.name.now) c.stage_name.ensures) ∙ c.if-is_same.true in
-    sym (c.loop-stage.invariant ∙ named_here all_stages c.loop-stage.stage-index c.args.name.now c.loop-stage-test.true test)
-
-pub loop-stage-preserved : goal.loop-stage-preserved
-loop-stage-preserved c =
-    let test = sym (c.is_same.ensures ∙ ap (same c.args.name.now) c.stage_name.ensures) ∙ c.if-is_same.false in
-    c.loop-stage.invariant ∙ named_later all_stages c.loop-stage.stage-index c.args.name.now c.loop-stage-test.true test
 
 pub returns : goal.returns
 unfolding stage_named
-returns c = sym (c.loop-stage.invariant ∙ named_none all_stages c.loop-stage.stage-index c.args.name.now c.loop-stage-test.false)
+returns c =
+    let found = find_from_yields_List (λ s. same c.args.name.now (stage_name s)) _ _ c.find.result c.find.ensures.ran
+    (YieldsList-from_copied (YieldsList-from_slice all_stages cc)) (λ x b q k. search (rules, tests, pointwise_same)) in
+    search rules

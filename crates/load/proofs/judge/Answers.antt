@@ -22,7 +22,7 @@ is_selected-requires c = (
   c.requires.0,
   c.requires.1,
   grind arith,
-  face_room c.args.kind c.args.c (c.args.size / 4) (sym c.limit_passed.ensures ∙ c.if-limit_passed.false),
+  face_room c.args.kind c.args.raw.now.counts (c.args.size / 4) (sym c.limit_passed.ensures ∙ c.if-limit_passed.false),
 )
 
 pub returns-then-not-fields_permitted : goal.returns-then-not-fields_permitted

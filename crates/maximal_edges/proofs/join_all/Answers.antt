@@ -1,101 +1,55 @@
-use Rattle.maximal_edges.specs.Hung.{hung_ringed, may_join_lem, hung_joined}
-use Rattle.maximal_edges.specs.ChangeLaws.{count_edges}
 use Rattle.maximal_edges.specs.RunLaws.{going_start, ring_inside, ring_less, going_ring, join_inside, join_less, going_join, ran_done, ran_refused}
-use Rattle.links.specs.Tables.{links_of}
-use Rattle.links.specs.Replace.{laid_base}
-use Rattle.job.specs.Lists.{answers_in}
 use Rattle.rules.specs.Outcome.{Ok}
-use mathlib.Core.Path.{sym, ap, ◌∙◌}
-use native.Mathlib.Omega.{arith}
+use Rattle.std.proofs.Common.{Some, arith, rules, ap, ◌∙◌}
 use Rattle.maximal_edges.proofs.join_all.Goals as goal
 
 pub sweeps-init : goal.sweeps-init
-sweeps-init c =
-    let a = c.args in
-    let pre = c.requires in record {
-      going = going_start (answers_in a.job.now a.index.now a.c) a.starts.now a.names.now c.default-from.result
-          c.default-from.ensures pre.room pre.count_few pre.laid pre.tabled pre.linked;
-      hung = pre.hung;
-    }
+sweeps-init g c =
+    let run = c.args.run.now in
+    let pre = c.requires in
+    going_start run.job.now.answers run.points.now c.default-from.result c.default-from.ensures pre.nodup pre.inside
+    pre.room pre.count_few pre.laid pre.hung pre.linked pre.own pre.tabled
 
 pub returns-in_err-change : goal.returns-in_err-change
-returns-in_err-change c =
-    ran_refused c.sweeps.invariant.going c.sweep.ensures c.args.items.now c.from_residual.result c.in_err-change.was
-    c.from_residual.ensures.1
+returns-in_err-change g c =
+    ran_refused c.sweeps.invariant c.sweep.ensures c.args.items.now c.args.stretches.now c.from_residual.result
+    c.in_err-change.was c.from_residual.ensures.1
 
 pub ring_at-requires : goal.ring_at-requires
-ring_at-requires c =
-    let g = c.sweeps.invariant.going in
-    let pre = c.requires in (
-      omega (arith, g.size),
-      omega (arith, g.few),
-      ring_inside g pre.nodup (λ x m. omega (arith, pre.fans x m, pre.tabled.size)) c.sweep.ensures
-          (c.in_ok-change.was ∙ ap Ok c.in-Some.is) c.in-Ring.is,
-    )
+ring_at-requires g c =
+    let found = c.in_ok-change.was ∙ ap Ok (c.in-Some.is ∙ ap Some c.in-Ring.is) in
+    (omega (arith, c.sweeps.invariant.size), ring_inside c.sweeps.invariant c.sweep.ensures found)
 
 pub sweeps-smaller-in-Ring : goal.sweeps-smaller-in-Ring
-sweeps-smaller-in-Ring c =
-    let pre = c.requires in
-    ring_less c.sweeps.invariant.going pre.nodup (λ x m. omega (arith, pre.fans x m, pre.tabled.size)) c.sweep.ensures
-    (c.in_ok-change.was ∙ ap Ok c.in-Some.is) c.in-Ring.is c.ring_at.new.rows c.ring_at.ensures.0
+sweeps-smaller-in-Ring g c =
+    let found = c.in_ok-change.was ∙ ap Ok (c.in-Some.is ∙ ap Some c.in-Ring.is) in
+    ring_less c.sweeps.invariant c.sweep.ensures found c.ring_at.new.rows c.ring_at.ensures.0
 
 pub sweeps-preserved-in-Ring : goal.sweeps-preserved-in-Ring
-sweeps-preserved-in-Ring c =
-    let l = c.sweeps in
-    let pre = c.requires in
+sweeps-preserved-in-Ring g c =
+    let found = c.in_ok-change.was ∙ ap Ok (c.in-Some.is ∙ ap Some c.in-Ring.is) in
     let ring = c.ring_at in
-    let found = c.in_ok-change.was ∙ ap Ok c.in-Some.is in record {
-      going = going_ring l.invariant.going pre.nodup (λ x m. omega (arith, pre.fans x m, pre.tabled.size)) c.sweep.ensures
-          found c.in-Ring.is ring.new.rows ring.ensures.0 ring.new.ends c.args.ranks.now c.after_ring-from.result
-          pre.ranked ring.auto.rows ring.ensures.1 c.after_ring-from.ensures;
-      hung = hung_ringed c.args.names.now l.invariant.hung (c.sweep.ensures.real _ found) c.in-Ring.is ring.ensures.0;
-    }
+    going_ring c.sweeps.invariant c.sweep.ensures found ring.new.rows ring.ensures.0 c.args.ranks.now c.requires.ranked ring.auto.rows ring.ensures.1
+    c.after_ring-from.ensures
 
 pub join_at-e-requires : goal.join_at-e-requires
-join_at-e-requires c =
-    let l = c.sweeps in
-    let pre = c.requires in
-    let found = c.in_ok-change.was ∙ ap Ok c.in-Some.is in
-    let w = join_inside l.invariant.going pre.nodup (λ x m. omega (arith, pre.fans x m, pre.tabled.size)) c.sweep.ensures
-    found c.in-Join.is in record {
-      room = w.3;
-      few = omega (arith, w.2);
-      lower = w.0;
-      inside = w.1;
-      joinable = may_join_lem c.args.names.now l.invariant.hung (c.sweep.ensures.real _ found) c.in-Join.is l.made.edges
-          (sym (count_edges l.rows l.made.edges (omega (arith, l.invariant.going.size)))) (omega (arith, w.2));
-    }
+join_at-e-requires g c =
+    let found = c.in_ok-change.was ∙ ap Ok (c.in-Some.is ∙ ap Some c.in-Join.is) in
+    let w = join_inside c.sweeps.invariant c.sweep.ensures found in
+    (search rules, (w.0, (omega (arith, w.1), (w.2, (w.3, w.4)))))
 
 pub sweeps-smaller : goal.sweeps-smaller
-sweeps-smaller c =
-    let l = c.sweeps in
-    let pre = c.requires in
-    join_less l.invariant.going pre.nodup (λ x m. omega (arith, pre.fans x m, pre.tabled.size)) c.sweep.ensures
-    (c.in_ok-change.was ∙ ap Ok c.in-Some.is) c.in-Join.is
-    (c.join_at-e.ensures.lists c.args.items.now (laid_base (links_of l.list l.nexts l.heads c.args.owners.now l.spots
-    l.stretches) c.args.items.now l.invariant.going.laid))
+sweeps-smaller g c =
+    let found = c.in_ok-change.was ∙ ap Ok (c.in-Some.is ∙ ap Some c.in-Join.is) in
+    join_less c.sweeps.invariant c.sweep.ensures found c.join_at-e.ensures
 
 pub sweeps-preserved : goal.sweeps-preserved
-sweeps-preserved c =
-    let l = c.sweeps in
-    let pre = c.requires in
-    let join = c.join_at-e in
-    let found = c.in_ok-change.was ∙ ap Ok c.in-Some.is in record {
-      going = going_join l.invariant.going pre.nodup (λ x m. omega (arith, pre.fans x m, pre.tabled.size)) c.sweep.ensures
-          found c.in-Join.is
-          (join.ensures.lists c.args.items.now (laid_base (links_of l.list l.nexts l.heads c.args.owners.now l.spots
-          l.stretches) c.args.items.now l.invariant.going.laid))
-          c.args.ranks.now c.after_join-from.result pre.ranked join.auto.rows join.auto.stretches c.after_join-from.ensures;
-      hung = hung_joined c.args.names.now l.invariant.hung (c.sweep.ensures.real _ found) c.in-Join.is join.ensures.links
-          join.ensures.edges;
-    }
-
-pub lay_loops-requires : goal.lay_loops-requires
-lay_loops-requires c =
-    let l = c.sweeps in
-    laid_base (links_of l.list l.nexts l.heads c.args.owners.now l.spots l.stretches) c.args.items.now
-    l.invariant.going.laid
+sweeps-preserved g c =
+    let found = c.in_ok-change.was ∙ ap Ok (c.in-Some.is ∙ ap Some c.in-Join.is) in
+    going_join c.sweeps.invariant c.sweep.ensures found c.join_at-e.ensures c.args.ranks.now c.requires.ranked c.join_at-e.auto.rows
+    c.after_join-from.ensures
 
 pub returns : goal.returns
-returns c =
-    ran_done c.sweeps.invariant.going c.sweep.ensures c.lay_loops.ensures (c.in_ok-change.was ∙ ap Ok c.in_default.is)
+returns g c =
+    ran_done c.sweeps.invariant c.sweep.ensures c.lay_loops.ensures (c.copy_from_slice.ensures.after ∙ c.stretches.ensures)
+    (c.in_ok-change.was ∙ ap Ok c.in_default.is)

@@ -1,13 +1,8 @@
-use Rattle.maximal_edges.specs.SweepLaws.{passed_none, passed_one, idle_corner, tried_still, swept_none, swept_changed, swept_refused}
+use Rattle.maximal_edges.specs.SweepLaws.{passed_one, idle_corner, tried_still, swept_none, swept_changed, swept_refused}
 use Rattle.maximal_edges.specs.ScanLaws.{scan_both, scan_on}
-use Rattle.edges.specs.Table.{rows_in}
-use Rattle.job.specs.Lists.{answers_in}
 use mathlib.Core.Bool.{not}
 use mathlib.Core.Path.{refl, sym, ap, ◌∙◌}
 use Rattle.maximal_edges.proofs.sweep.Goals as goal
-
-pub corners-init : goal.corners-init
-corners-init c = record { none = refl; passed = passed_none c.requires.known }
 
 pub edges-preserved : goal.edges-preserved
 edges-preserved c = scan_on c.edges.invariant refl c.ends_of-seen.ensures.0 c.if-seen-ne2.true
@@ -15,7 +10,7 @@ edges-preserved c = scan_on c.edges.invariant refl c.ends_of-seen.ensures.0 c.if
 pub corners-preserved-then-is_none : goal.corners-preserved-then-is_none
 corners-preserved-then-is_none c =
     let a = c.args in
-    let still = tried_still (answers_in a.job.now a.index.now a.c) a.starts.now (rows_in a.rows.now) c.get-v.result _ _
+    let still = tried_still a.run.now.job.now.answers a.run.now.points.now a.rows.now c.get-v.result _ _
     (scan_both c.edges.invariant refl c.ends_of-seen.ensures.0 c.if-seen-ne2.false) c.in_ok-change.change
     (c.is_none.ensures ∙ ap not c.if-is_none.true) (sym c.try_corner.ensures ∙ c.in_ok-change.was) in record {
       none = still.0;
@@ -27,8 +22,8 @@ corners-preserved c =
     let a = c.args in record {
       none = c.corners.invariant.none;
       passed = passed_one c.requires.known c.corners.invariant.passed c.get-v.ensures.0
-          (idle_corner (answers_in a.job.now a.index.now a.c) a.starts.now c.requires.tabled c.requires.fans
-          c.corners-test.true c.get-v.ensures.0 c.get.ensures.0 c.if-get-eq2.false)
+          (idle_corner a.run.now.job.now.answers a.run.now.points.now c.requires.tabled c.requires.inside
+          c.corners-test.true c.get-v.ensures.0 c.corner_at-corner.ensures c.if-corner-eq2.false)
           c.next_after-i.ensures;
     }
 

@@ -1,6 +1,6 @@
-use Rattle.merge_faces.specs.Removing.{Removing}
-use Rattle.uses.specs.Table.{uses_in}
+use Rattle.std.proofs.Common.{◌≡◌, ℕ, ◌<◌, false, get_or}
+use Rattle.rules.specs.Merge.{removes}
 use Rattle.merge_faces.proofs.remove.Given as goal
 
 abbrev pub invariant-loop-h : goal.invariant-loop-h
-invariant-loop-h l = Removing (uses_in l.uses) l.twins l.groups l.removed l.gone l.h
+invariant-loop-h l = (j : ℕ) → j < l.h → get_or l.removed j false ≡ removes l.uses l.twins l.groups j

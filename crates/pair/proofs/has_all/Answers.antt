@@ -1,12 +1,13 @@
-use Rattle.pair.specs.PairLaws.{each_on, each_stop, each_done}
+use Rattle.std.proofs.Common.{◌∙◌, rules, tests}
+use Rattle.std.proofs.lemmas.Iterator.Consumers.{YieldsList-from_first}
+use Rattle.std.proofs.lemmas.Iterator.Search.{all_from_yields_List}
+use Rattle.lists.specs.Lists.{has}
+use Rattle.lists.specs.ListEnds.{all_reverse}
+use Rattle.pair.specs.All.{all_is}
 use Rattle.pair.proofs.has_all.Goals as goal
 
-pub returns-then-not-has : goal.returns-then-not-has
-returns-then-not-has c = each_stop _ c.requires.2 _ _ _ c.loop-i.invariant _ c.loop-i-test.true c.has.ensures c.if-not-has.true
-
-pub loop-i-preserved : goal.loop-i-preserved
-loop-i-preserved c =
-    each_on _ c.requires.2 _ _ _ c.loop-i.invariant _ _ c.loop-i-test.true c.has.ensures c.if-not-has.false c.get-i-in-loop-i.ensures.0
-
 pub returns : goal.returns
-returns c = each_done _ c.requires.2 _ _ _ c.loop-i.invariant c.loop-i-test.false
+returns c =
+    let order = c.args.order.now in
+    all_from_yields_List (λ h. has h order) _ _ _ c.all.ensures.ran (YieldsList-from_first (λ h. h) (λ hs. hs) _ c.of.ensures.0) (λ x b q k. search (rules, tests))
+    ∙ all_is _ _ ∙ all_reverse _ _

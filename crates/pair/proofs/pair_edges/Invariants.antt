@@ -1,8 +1,10 @@
-use Rattle.pair.specs.AllLaws.{Pairing}
-use Rattle.job.specs.Lists.{answers_in}
-use Rattle.uses.specs.Table.{uses_in}
+use Rattle.std.proofs.Common.{◌≡◌, ◌-◌, length}
+use Rattle.lists.specs.Lists.{from}
+use Rattle.rules.specs.Outcome.{◌>>=◌, throughout}
+use Rattle.rules.specs.Pair.{pair_edge, complete, pair}
 use Rattle.pair.proofs.pair_edges.Given as goal
 
 abbrev pub invariant-loop-e : goal.invariant-loop-e
 invariant-loop-e l =
-    Pairing (answers_in l.job l.index l.c) (uses_in l.uses) l.c.edges l.e l.twins
+    let edges = length l.job.edges in
+    pair l.job.answers l.linked.uses edges ≡ (throughout (pair_edge l.job.answers l.linked.uses) (from l.e (edges - l.e)) l.twins >>= complete)

@@ -1,24 +1,18 @@
-use Rattle.read.specs.ReadLaws.{reading_none, reading_room, reading_more, reading_all}
-use Rattle.std.proofs.Common.{rules, arith}
+use Rattle.std.proofs.Common.{arith, ap}
+use Rattle.read.proofs.ReadLaws.{reading_room, reading_more, reading_all}
 use Rattle.read.proofs.read.Goals as goal
 
-pub loop-l-init : goal.loop-l-init
-loop-l-init c = search (rules, reading_none)
-
-pub read_loop-requires : goal.read_loop-requires
-read_loop-requires c =
-    let room = reading_room _ _ _ _ _ _ c.loop-l.invariant _ _ _ _ c.loop-l-test.true c.item_count-n.ensures c.loop_face-f.ensures.0 c.face_selected-s.ensures c.loop_start-at.ensures.0 in
-    (room, omega arith, omega arith, omega arith)
-
-pub overflow_add-h : goal.overflow_add-h
-overflow_add-h c =
+pub slice_bounds-read_loop-end : goal.slice_bounds-read_loop-end
+slice_bounds-read_loop-end c =
     omega (
       arith,
-      reading_room _ _ _ _ _ _ c.loop-l.invariant _ _ _ _ c.loop-l-test.true c.item_count-n.ensures c.loop_face-f.ensures.0 c.face_selected-s.ensures c.loop_start-at.ensures.0,
+      reading_room _ _ _ _ c.loop-l.invariant (omega arith) _ _ _ _ (omega arith) c.items-items.ensures c.len.ensures.0 c.loop_face-face.ensures.0 (ap (λ f. f.selected) c.face-selected.ensures),
     )
 
 pub loop-l-preserved : goal.loop-l-preserved
-loop-l-preserved c = search (rules, reading_more)
+loop-l-preserved c =
+    reading_more _ _ _ _ c.loop-l.invariant (omega arith) _ _ _ _ (omega arith) c.items-items.ensures c.len.ensures.0 c.loop_face-face.ensures.0 (ap (λ f. f.selected) c.face-selected.ensures) _
+    c.read_loop.ensures
 
 pub returns : goal.returns
-returns c = search (rules, reading_all)
+returns c = reading_all _ _ _ _ c.loop-l.invariant (omega arith) (omega arith)

@@ -1,8 +1,7 @@
 use Rattle.replay.specs.Counted.{Counted}
 use lib.ListN.{length}
-use Prim.Native.Nat.{◌-◌, ◌≤◌}
-use mathlib.Core.Path.{◌≡◌}
+use Prim.Native.Nat.{◌≤◌}
 use Rattle.replay.proofs.run_answers.Given as goal
 
 abbrev pub invariant-loop : goal.invariant-loop
-invariant-loop g l = (length l.out ≡ length l.initial.out) × Counted l.t × (l.t.at ≤ length l.bytes)
+invariant-loop g l = Counted l.t × (l.t.at ≤ length l.bytes)

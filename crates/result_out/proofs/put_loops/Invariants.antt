@@ -1,12 +1,8 @@
-use Rattle.result_out.specs.EdgeLaws.{face_loop_row}
-use Rattle.result_out.specs.Writing.{RowedFrom}
-use lib.ListN.{length}
-use Prim.Native.Nat.{◌-◌, ◌≤◌}
+use Rattle.rules.specs.Fields.{field_bytes}
+use Rattle.rules.specs.Stage.{face_loop_fields}
+use Rattle.stages_out.specs.Writing.{Rowed}
+use Rattle.result_out.proofs.RowLaws.{face_loop_in}
 use Rattle.result_out.proofs.put_loops.Given as goal
 
 abbrev pub invariant-loop-k : goal.invariant-loop-k
-invariant-loop-k l =
-    (l.k ≤ length l.faces) × RowedFrom (face_loop_row l.items l.stretches l.faces) 4098 l.initial.out l.at l.out l.p l.k
-
-abbrev pub decreases-loop-k : goal.decreases-loop-k
-decreases-loop-k l = length l.faces - l.k
+invariant-loop-k l = Rowed (λ k. field_bytes (face_loop_fields (face_loop_in l.items l.stretches l.faces k))) 16392 l.initial.out l.at l.out l.p l.k

@@ -1,24 +1,10 @@
-use Rattle.result_out.specs.ShellLaws.{shell_row_lem}
-use Rattle.stages_out.specs.Writing.{place_after_lem}
-use mathlib.Core.List.{[], ◌∷◌}
-use native.Mathlib.Omega.{arith}
+use Rattle.std.proofs.Common.{arith}
+use Rattle.fields.specs.Tabled.{length_field_bytes}
+use Rattle.result_out.proofs.RowLaws.{shell_wrote}
 use Rattle.result_out.proofs.put_shell.Goals as goal
 
-pub put_faces_of-requires : goal.put_faces_of-requires
-put_faces_of-requires c =
-    let a = c.args in (
-      c.requires.0,
-      omega (
-        arith,
-        c.requires.1,
-        place_after_lem (a.number ∷ c.count_faces_of-n.result ∷ []) a.out.now
-            c.put_two-p.new.out a.at c.put_two-p.result c.put_two-p.ensures,
-      ),
-    )
+pub put_shell_faces-requires : goal.put_shell_faces-requires
+put_shell_faces-requires c = omega (arith, length_field_bytes)
 
 pub returns : goal.returns
-returns c =
-    let a = c.args in
-    shell_row_lem a.boundaries.now a.members.now a.b a.number c.count_faces_of-n.result a.out.now c.put_two-p.new.out
-    c.put_faces_of.new.out a.at c.put_two-p.result c.put_faces_of.result c.count_faces_of-n.ensures
-    c.put_two-p.ensures c.put_faces_of.ensures
+returns c = (shell_wrote _ _ _ _ _ _ _ _ _ c.count_shell_faces-n.ensures.0 c.put_two-p.ensures c.put_shell_faces.ensures.0, omega (arith, length_field_bytes))

@@ -1,10 +1,8 @@
-use Rattle.result_out.specs.ShellLaws.{shell_at}
-use Rattle.result_out.specs.Writing.{RowedFrom}
-use Prim.Native.Nat.{◌-◌, ◌≤◌}
+use Rattle.rules.specs.Fields.{field_bytes}
+use Rattle.rules.specs.Stage.{shell_fields}
+use Rattle.shells.specs.Table.{row_at, shell_in}
+use Rattle.stages_out.specs.Writing.{Rowed}
 use Rattle.result_out.proofs.put_shells.Given as goal
 
-abbrev pub invariant-loop-k : goal.invariant-loop-k
-invariant-loop-k l = (l.k ≤ l.n) × RowedFrom (shell_at l.boundaries l.members l.table) 258 l.initial.out 0 l.out l.p l.k
-
-abbrev pub decreases-loop-k : goal.decreases-loop-k
-decreases-loop-k l = l.n - l.k
+abbrev pub invariant-loop-s : goal.invariant-loop-s
+invariant-loop-s l = Rowed (λ k. field_bytes (shell_fields (shell_in l.faces.boundaries l.faces.members (row_at l.shells k)))) 1032 l.initial.out 0 l.out l.p l.s-index

@@ -1,37 +1,25 @@
-use Rattle.result_out.specs.LumpLaws.{void_short, void_rows_all}
-use Rattle.result_out.specs.Writing.{rowed_start, rowed_step, rowed_end}
-use Rattle.result_out.specs.Rows.{void_or, void_rows}
-use native.Mathlib.Omega.{arith}
+use Rattle.std.proofs.Common.{arith, ℕ}
+use Rattle.stages_out.specs.Writing.{rowed_start, fields_as}
+use Rattle.result_out.proofs.RowLaws.{row_step, none_step, void_rows, is_void, row_of}
+use Rattle.std.proofs.lemmas.Grind.{common_steps}
+use Rattle.shells.specs.Table.{row_at}
+use Rattle.result_out.proofs.put_voids.Goals.{then-not-s+then-s-home, else-not-s, else-not-s-via-then-not-s+else-s-home, else-not-s-via-else-not-s}
 use Rattle.result_out.proofs.put_voids.Goals as goal
 
-pub loop-k-init : goal.loop-k-init
-loop-k-init c =
-    let a = c.args in
-    (omega arith, rowed_start (void_or a.boundaries.now a.members.now a.table.now a.home a.number) 258 a.out.now a.at)
+pub loop-s-init : goal.loop-s-init
+loop-s-init c = rowed_start
 
-pub put_void-p-requires : goal.put_void-p-requires
-put_void-p-requires c = (
-  c.requires.0,
-  omega (arith, c.requires.1, c.loop-k.invariant.0),
-  omega
-      (arith, c.requires.1, c.requires.2, c.loop-k.invariant.0, c.loop-k.invariant.1.small),
-)
-
-pub loop-k-preserved : goal.loop-k-preserved
-loop-k-preserved c =
-    let a = c.args in
-    let l = c.loop-k in (
-      omega arith,
-      rowed_step (void_or a.boundaries.now a.members.now a.table.now a.home a.number) 258 a.out.now a.at l.out
-          c.put_void-p.new.out l.p l.k c.put_void-p.result
-          (void_short a.boundaries.now a.members.now a.table.now a.home a.number l.k c.requires.0) l.invariant.1
-          c.put_void-p.ensures,
-    )
+pub loop-s-preserved : goal.loop-s-preserved
+loop-s-preserved c =
+    let void = λ (i : ℕ). is_void c.args.home (row_at c.args.shells.now i) in
+    let row = λ (i : ℕ). row_of c.args.faces.now.boundaries c.args.faces.now.members c.args.number (row_at c.args.shells.now i) in
+    elim c.if-not-s.branch [
+      | then-not-s+then-s-home w ↦ rw (w.out-is, w.p-is) (row_step void row c.loop-s.invariant (grind (arith, common_steps)) w.put_shell-p.ensures.0 w.put_shell-p.ensures.1)
+      | else-not-s w ↦ rw (w.out-is, w.p-is) (none_step void row c.loop-s.invariant (elim w.else-not-s.branch [
+        | else-not-s-via-then-not-s+else-s-home w' ↦ grind (arith, common_steps)
+        | else-not-s-via-else-not-s w' ↦ grind (arith, common_steps)
+      ]))
+    ]
 
 pub returns : goal.returns
-returns c =
-    let a = c.args in
-    let l = c.loop-k in
-    rowed_end (void_or a.boundaries.now a.members.now a.table.now a.home a.number) 258 a.out.now a.at
-    (void_rows a.boundaries.now a.members.now a.table.now a.n a.home a.number) l.out l.p l.k
-    (void_rows_all a.boundaries.now a.members.now a.table.now a.n l.k a.home a.number (omega arith)) l.invariant.1
+returns c = (fields_as _ c.loop-s.invariant (void_rows _ _ _ _ _ _ (omega arith)), omega (arith, c.loop-s.invariant.small))

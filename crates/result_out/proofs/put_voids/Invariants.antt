@@ -1,11 +1,7 @@
-use Rattle.result_out.specs.Writing.{RowedFrom}
-use Rattle.result_out.specs.Rows.{void_or}
-use Prim.Native.Nat.{◌-◌, ◌≤◌}
+use Rattle.rules.specs.Fields.{field_bytes}
+use Rattle.stages_out.specs.Writing.{Rowed}
+use Rattle.result_out.proofs.RowLaws.{void_or}
 use Rattle.result_out.proofs.put_voids.Given as goal
 
-abbrev pub invariant-loop-k : goal.invariant-loop-k
-invariant-loop-k l =
-    (l.k ≤ l.n) × RowedFrom (void_or l.boundaries l.members l.table l.home l.number) 258 l.initial.out l.at l.out l.p l.k
-
-abbrev pub decreases-loop-k : goal.decreases-loop-k
-decreases-loop-k l = l.n - l.k
+abbrev pub invariant-loop-s : goal.invariant-loop-s
+invariant-loop-s l = Rowed (λ k. field_bytes (void_or l.faces.boundaries l.faces.members l.shells l.home l.number k)) 1032 l.initial.out l.at l.out l.p l.s-index

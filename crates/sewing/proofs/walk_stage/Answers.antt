@@ -1,13 +1,8 @@
-use mathlib.Core.Path.{sym}
-use Rattle.progress.specs.Endings.{ends_as}
+use Rattle.std.proofs.Common.{arith}
+use Rattle.rules.specs.Rules.{full_table}
+use Rattle.theorems.proofs.Ground.{ground}
 use Rattle.progress.specs.StageLaws.{stage_walk}
-use Rattle.sewing.specs.StepLaws.{promised}
-use lib.ListN.{length}
 use Rattle.sewing.proofs.walk_stage.Goals as goal
 
 pub returns : goal.returns
-returns c = (
-  ends_as _ _ c.args.out.now c.run.new.out c.run.result (sym (stage_walk c.args.job.now (length c.args.out.now)))
-      c.run.ensures,
-  promised c.args.job.now,
-)
+returns c = (grind (arith, stage_walk), λ j w loads settled. (ground full_table c.args.job.now j w loads settled).walks)

@@ -1,13 +1,13 @@
-use Rattle.stages_out.proofs.RowLaws.{two_same, kept_rows_all}
-use Rattle.stages_out.specs.Writing.{rowed_start, rowed_step, rowed_all}
-use Rattle.std.proofs.Common.{rules}
+use Rattle.stages_out.specs.Writing.{rowed_start, fields_step, fields_members}
+use Rattle.rules.specs.Stage.{kept_fields}
+use Rattle.std.proofs.Common.{rules, arith}
 use Rattle.stages_out.proofs.put_kept.Goals as goal
 
-pub loop-i-init : goal.loop-i-init
-loop-i-init c = search (rules, rowed_start)
+pub loop-k-init : goal.loop-k-init
+loop-k-init c = rowed_start
 
-pub loop-i-preserved : goal.loop-i-preserved
-loop-i-preserved c = search (rules, rowed_step, two_same)
+pub loop-k-preserved : goal.loop-k-preserved
+loop-k-preserved c = fields_step _ c.loop-k.invariant c.put_two-p.ensures (search rules)
 
 pub returns : goal.returns
-returns c = search (rules, rowed_all, kept_rows_all)
+returns c = fields_members kept_fields _ (record { face = 0; point = 0 }) c.loop-k.invariant (omega arith)

@@ -1,6 +1,8 @@
-use Rattle.stages_out.specs.Rows.{kept_row}
+use Rattle.std.proofs.Common.{get_or}
+use Rattle.rules.specs.Fields.{field_bytes}
+use Rattle.rules.specs.Stage.{kept_fields}
 use Rattle.stages_out.specs.Writing.{Rowed}
 use Rattle.stages_out.proofs.put_kept.Given as goal
 
-abbrev pub invariant-loop-i : goal.invariant-loop-i
-invariant-loop-i l = Rowed (kept_row l.kept) 2 l.initial.out l.out l.p l.i
+abbrev pub invariant-loop-k : goal.invariant-loop-k
+invariant-loop-k l = Rowed (λ i. field_bytes (kept_fields (get_or l.kept i (record { face = 0; point = 0 })))) 8 l.initial.out 0 l.out l.p l.k-index

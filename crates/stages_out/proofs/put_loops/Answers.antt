@@ -1,13 +1,16 @@
-use Rattle.stages_out.proofs.RowLaws.{loop_wrote, loop_row_short, loop_rows_lem}
-use Rattle.stages_out.specs.Writing.{rowed_start, rowed_step, rowed_all}
-use Rattle.std.proofs.Common.{rules}
+use Rattle.stages_out.proofs.RowLaws.{loop_rows, loop_length}
+use Rattle.stages_out.specs.Writing.{rowed_start, fields_step, fields_as}
+use Rattle.std.proofs.Common.{arith}
 use Rattle.stages_out.proofs.put_loops.Goals as goal
 
-pub loop-i-init : goal.loop-i-init
-loop-i-init c = search (rules, rowed_start)
+pub loop-s-init : goal.loop-s-init
+loop-s-init c = rowed_start
 
-pub loop-i-preserved : goal.loop-i-preserved
-loop-i-preserved c = search (rules, rowed_step, loop_row_short, loop_wrote)
+pub loop-s-preserved : goal.loop-s-preserved
+loop-s-preserved c =
+    let F = c.requires.0 in
+    let k = c.loop-s.s-index in
+    fields_step _ c.loop-s.invariant c.put_loop-p.ensures (omega (arith, loop_length c.args.uses.now c.args.numbers.now _ _ F k (omega arith), F.within k (omega arith)))
 
 pub returns : goal.returns
-returns c = search (rules, rowed_all, loop_rows_lem)
+returns c = fields_as _ c.loop-s.invariant (loop_rows _ _ _ _ _ (omega arith))

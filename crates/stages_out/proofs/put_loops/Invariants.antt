@@ -1,8 +1,10 @@
-use Rattle.uses.specs.Table.{uses_in}
-use Rattle.stages_out.proofs.RowLaws.{loop_row}
+use Rattle.rules.specs.Fields.{field_bytes}
+use Rattle.fields.specs.Spans.{span_at}
+use Rattle.walk.specs.Walks.{loop_in}
+use Rattle.stages_out.specs.Rows.{round_row}
 use Rattle.stages_out.specs.Writing.{Rowed}
 use Rattle.stages_out.proofs.put_loops.Given as goal
 
-abbrev pub invariant-loop-i : goal.invariant-loop-i
-invariant-loop-i l =
-    Rowed (loop_row (uses_in l.uses) l.numbers l.ways l.stretches) 2050 l.initial.out l.out l.p l.i
+abbrev pub invariant-loop-s : goal.invariant-loop-s
+invariant-loop-s l =
+    Rowed (λ i. field_bytes (round_row l.uses l.numbers (loop_in l.ways (span_at l.stretches i)))) 8200 l.initial.out 0 l.out l.p l.s-index

@@ -1,9 +1,10 @@
 use Rattle.stages_out.proofs.RowLaws.{round_rows_needed}
 use Rattle.stages_out.specs.Writing.{staged_written, staged_short}
+use Rattle.std.proofs.Common.{arith}
 use Rattle.stages_out.proofs.write_loops.Goals as goal
 
 pub returns-in_err-fits : goal.returns-in_err-fits
-returns-in_err-fits c = staged_short _ _ _ c.fits.ensures (round_rows_needed _ _ _ _ _ c.requires.0 _ c.end_of-end.ensures.0) _ c.in_err-fits.was c.from_residual.ensures.1
+returns-in_err-fits c = staged_short _ _ _ c.fits.ensures (omega (arith, round_rows_needed c.args.uses.now c.args.numbers.now _ _ c.requires.0)) _ c.in_err-fits.was c.from_residual.ensures.1
 
 pub returns : goal.returns
-returns c = staged_written _ _ _ c.fits.ensures (round_rows_needed _ _ _ _ _ c.requires.0 _ c.end_of-end.ensures.0) _ _ c.in_ok-fits.was c.put_loops.ensures
+returns c = staged_written _ _ _ c.fits.ensures (omega (arith, round_rows_needed c.args.uses.now c.args.numbers.now _ _ c.requires.0)) _ _ c.in_ok-fits.was c.put_loops.ensures

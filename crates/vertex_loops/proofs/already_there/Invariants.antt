@@ -1,6 +1,7 @@
-use Rattle.vertex_loops.specs.KeptLaws.{LeftAt}
-use Rattle.job.specs.Lists.{answers_in}
+use Rattle.std.proofs.Common.{◌≡◌, drop}
+use Rattle.rules.specs.VertexLoops.{already_there}
 use Rattle.vertex_loops.proofs.already_there.Given as goal
 
 abbrev pub invariant-loop-k : goal.invariant-loop-k
-invariant-loop-k l = LeftAt (answers_in l.job l.index l.c) l.face l.point l.kept l.count l.k
+invariant-loop-k l =
+    already_there l.job.answers l.face l.point l.kept ≡ already_there l.job.answers l.face l.point (drop l.k-index l.kept)

@@ -1,10 +1,10 @@
-use Rattle.vertex_loops.specs.KeptLaws.{KeepingAt}
-use Rattle.job.specs.Lists.{answers_in, points_in}
-use lib.ListN.{length}
-use mathlib.Core.Path.{◌≡◌}
+use Rattle.std.proofs.Common.{◌≡◌, ◌≤◌, drop, take}
+use Rattle.rules.specs.Outcome.{throughout}
+use Rattle.rules.specs.VertexLoops.{vertex_loop_step, vertex_loops}
 use Rattle.vertex_loops.proofs.vertex_loops.Given as goal
 
 abbrev pub invariant-loop-l : goal.invariant-loop-l
 invariant-loop-l l =
-    (length l.kept ≡ length l.initial.kept) × KeepingAt (answers_in l.job l.index l.c) (points_in l.job l.c) l.numbers
-    l.job l.index l.c l.kept l.count l.l
+    let step = vertex_loop_step l.job.answers l.job.points l.numbers in
+    (l.count ≤ l.l)
+    × (vertex_loops l.job.answers l.job.points l.numbers l.job.loops ≡ throughout step (drop l.l l.job.loops) (take l.count l.kept))

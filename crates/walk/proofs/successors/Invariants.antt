@@ -1,6 +1,5 @@
-use Rattle.uses.specs.Table.{uses_in}
 use Rattle.walk.specs.PassLaws.{Filled}
 use Rattle.walk.proofs.successors.Given as goal
 
 abbrev pub invariant-loop-h : goal.invariant-loop-h
-invariant-loop-h l = Filled (uses_in l.uses) l.twins l.removed l.succ l.passed l.total l.h
+invariant-loop-h l = Filled l.uses l.twins l.removed l.succ l.passed l.total l.h

@@ -11,8 +11,8 @@ returns-then-is_set c =
 pub walk_loop-end-requires : goal.walk_loop-end-requires
 walk_loop-end-requires c = search (rules, walking_closes)
 
-pub put-requires-2 : goal.put-requires-2
-put-requires-2 c =
+pub overflow_cast-end : goal.overflow_cast-end
+overflow_cast-end c =
     omega (
       arith,
       walking_room _ _ c.requires.0 _ _ _ _ _ _ c.requires.2 c.requires.3 (sym c.is_set.ensures ∙ c.if-is_set.false)
@@ -22,4 +22,4 @@ put-requires-2 c =
 pub returns : goal.returns
 returns c =
     walking_starts _ _ c.requires.0 _ _ _ _ _ _ c.requires.2 c.requires.3 (sym c.is_set.ensures ∙ c.if-is_set.false)
-    (sym c.is_set-else-is_set.ensures ∙ c.if-is_set-2.false) _ _ _ c.walk_loop-end.ensures _ _ c.put.ensures c.put-2.ensures
+    (sym c.is_set-else-is_set.ensures ∙ c.if-is_set-2.false) _ _ _ c.walk_loop-end.ensures _ c.put_entry.ensures

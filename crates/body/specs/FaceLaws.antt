@@ -1,0 +1,138 @@
+-- Laws of the records of loops, members and merged faces.
+use Rattle.std.specs.Prelude.{◌≡◌, refl, ℕ, zero, suc, ◌+◌, ◌*◌, ◌/◌, ◌%◌, ◌<◌, ◌≤◌, Bool, cond, length, get_or, eqb}
+use Rattle.std.proofs.Common.{arith, sym, ap, ◌∙◌, eq-eqb, ne_eqb}
+use mathlib.Core.List.{List, [], ◌∷◌, map, flat_map}
+use Rattle.std.proofs.lemmas.List.{length-map}
+use Rattle.lists.specs.Lists.{below}
+use Rattle.lists.specs.Tables.{table_is}
+use Rattle.lists.specs.Rows.{flat_map_map, flat_map_even, flat_map_keep}
+use Rattle.rules.specs.declared.Face.{Face}
+use Rattle.rules.specs.declared.KeptVertexLoop.{KeptVertexLoop}
+use Rattle.rules.specs.Sense.{sense_of, sense_number}
+use Rattle.rules.specs.Fields.{bytes32, field_bytes}
+use Rattle.rules.specs.Frame.{framed, framed_all}
+use Rattle.rules.specs.Job.{face_at}
+use Rattle.rules.specs.Groups.{label_of, members_of}
+use Rattle.rules.specs.Edges.{FaceLoop}
+use Rattle.rules.specs.Body.{BodyFace, loops_in, points_in, member_at, member_fields, members_record, body_face, body_faces, item_fields, loop_record, vertex_loop_record, face_records}
+use Rattle.fields.specs.declared.Span.{Span}
+use Rattle.fields.specs.Spans.{span_at}
+use Rattle.fields.specs.Wrote.{Wrote}
+use Rattle.stages_out.specs.Writing.{Rowed, rowed_start, rowed_step, wrote_same, flat_map_flat_map}
+use Rattle.edges.specs.Table.{item_in, loop_at, face_loops_in}
+use Rattle.members.specs.Chain.{next_member, next_after_lem}
+use Rattle.members.specs.Group.{Chained, Leading, none_before, none_between}
+use Rattle.body.specs.Solids.{head_record}
+use Rattle.body.specs.Numbers.{Numbering, number_of, renumbered_by, items_by, loops_by, loops_are}
+use Rattle.body.specs.Writing.{records_first, records_more, records_kept, rowed_skip}
+
+-- LOOPS
+
+module _ (t : List ℕ) (count : ℕ) where
+  -- an item, as a number, by the number of its edge and its sense
+  pub item_wrote : (before after : List ℕ) (at q x e : ℕ) → e ≡ number_of t count (x / 2) → Wrote before at (field_bytes (e ∷ x % 2 ∷ [])) after q
+      → Wrote before at (field_bytes (item_fields (renumbered_by t count (item_in x)))) after q
+  item_wrote before after at q x e ee w = wrote_same (e ∷ x % 2 ∷ []) (item_fields (renumbered_by t count (item_in x))) before after at q (λ i. ee i ∷ sym (back (x % 2) (omega arith)) i ∷ []) w
+    where
+      back : (n : ℕ) → n < 2 → sense_number (sense_of n) ≡ n
+      back zero h = refl
+      back (suc zero) h = refl
+      back (suc (suc n)) h = absurd (omega arith)
+
+  pub items_are : (part : List ℕ) → flat_map (λ x. item_fields (renumbered_by t count (item_in x))) part ≡ flat_map item_fields (items_by t count part)
+  items_are part = sym (flat_map_map item_fields (renumbered_by t count) (map item_in part) ∙ flat_map_map (λ x. item_fields (renumbered_by t count x)) item_in part)
+
+  pub length_items : (part : List ℕ) → length (flat_map item_fields (items_by t count part)) ≡ 2 * length part
+  length_items part = ap length (sym (items_are part)) ∙ flat_map_even (λ x. item_fields (renumbered_by t count (item_in x))) 2 part (λ x. refl)
+
+  module _ (items : List ℕ) (stretches : List Span) (faces : List ℕ) (f : ℕ) where
+    -- loop k, where it is of merged face f
+    abbrev pub loop_row : ℕ → List ℕ
+    loop_row k = cond (eqb (get_or faces k 0) f) (framed (loop_record (items_by t count (loop_at items (span_at stretches k))))) []
+
+    pub loop_rows : (n : ℕ) → n ≡ length faces → flat_map loop_row (below n) ≡ framed_all (map loop_record (loops_by t count (face_loops_in items stretches faces) f))
+    unfolding face_loops_in
+    loop_rows n e =
+        let loop : ℕ → FaceLoop = λ k. record { face = get_or faces k 0; items = map item_in (loop_at items (span_at stretches k)) } in
+        let own : FaceLoop → Bool = λ l. eqb l.face f in
+        ap (λ k. flat_map loop_row (below k)) e ∙ sym (flat_map_map (λ l. cond (own l) (framed (loop_record (map (renumbered_by t count) l.items))) []) loop (below (length faces)))
+        ∙ records_kept loop_record (λ l. map (renumbered_by t count) l.items) own (map loop (below (length faces)))
+
+-- VERTEX LOOPS
+
+-- a vertex loop, where it is of merged face f
+abbrev pub point_row : ℕ → KeptVertexLoop → List ℕ
+point_row f k = cond (eqb k.face f) (framed (vertex_loop_record k.point)) []
+
+-- MEMBERS
+
+module _ (fs : List Face) (groups : List ℕ) (m : ℕ) where
+  -- body and source face of selected face i, where it is of the group
+  abbrev pub member_row : ℕ → List ℕ
+  member_row i = cond (eqb (label_of groups i) m) (field_bytes (member_fields (member_at fs i))) []
+
+  -- the row of another is empty
+  member_none : (i : ℕ) → (label_of groups i ≡ m → ⊥) → member_row i ≡ []
+  member_none i other = rw (ne_eqb (label_of groups i) m other) refl
+
+  pub member_rows : (n : ℕ) → n ≡ length groups → flat_map member_row (below n) ≡ field_bytes (flat_map member_fields (map (member_at fs) (members_of groups m)))
+  member_rows n e =
+      ap (λ k. flat_map member_row (below k)) e
+      ∙ sym (flat_map_keep (λ i. field_bytes (member_fields (member_at fs i))) (λ i. eqb (label_of groups i) m) (below (length groups)))
+      ∙ sym (ap field_bytes (flat_map_map member_fields (member_at fs) (members_of groups m)) ∙ flat_map_flat_map bytes32 (λ i. member_fields (member_at fs i)) (members_of groups m))
+
+  module _ (next : List ℕ) (C : Chained groups next) (L : Leading groups m) where
+    -- no number before the lowest is of the group
+    pub group_start : (before : List ℕ) (at : ℕ) → Rowed member_row 8 before at before at m
+    group_start before at = rowed_skip rowed_start (omega arith) (λ k low high. member_none k (none_before groups next m C L k high))
+
+    -- one member more, then on to the next
+    pub group_step : {before mid after : List ℕ} {at p i j q : ℕ} → label_of groups i ≡ m → j ≡ next_member groups i → Rowed member_row 8 before at mid p i
+        → Wrote mid p (field_bytes (member_fields (member_at fs i))) after q → q ≤ p + 8 → Rowed member_row 8 before at after q j
+    group_step {mid = mid} {after = after} {p = p} {i = i} {j = j} {q = q} o e R w few =
+        rowed_skip (rowed_step R (rw (eq-eqb (label_of groups i) m o) w) few) (omega (arith, e, next_after_lem groups i))
+        (λ k low high. member_none k (none_between groups next m C L i j k o e (omega (arith, low)) high))
+
+  -- two fields for each member
+  pub length_members : length (flat_map member_fields (map (member_at fs) (members_of groups m))) ≡ 2 * length (members_of groups m)
+  length_members = flat_map_even member_fields 2 (map (member_at fs) (members_of groups m)) (λ x. refl) ∙ ap (λ n. 2 * n) (length-map (members_of groups m) (member_at fs))
+
+-- MERGED FACES
+
+module _ (fs : List Face) (groups actives : List ℕ) (ls : List FaceLoop) (ks : List KeptVertexLoop) where
+  -- surface and stored sense, then the members, the loops by the table of numbers, and the vertex loops
+  pub face_wrote : (t : List ℕ) (count : ℕ) → Numbering actives t count → (before a b d after : List ℕ) (at p q r s f m : ℕ)
+      → Wrote before at (framed (head_record (face_at fs m))) a p → Wrote a p (framed (members_record (map (member_at fs) (members_of groups m)))) b q
+      → Wrote b q (framed_all (map loop_record (loops_by t count ls f))) d r → Wrote d r (framed_all (map vertex_loop_record (points_in ks f))) after s
+      → Wrote before at (framed_all (face_records (body_face fs groups actives ls ks f m))) after s
+  unfolding face_records body_face
+  face_wrote t count n before a b d after at p q r s f m u v w x =
+      let loops : Wrote b q (framed_all (map loop_record (loops_in actives ls f))) d r = rw (← loops_are actives t count n ls f) w in
+      records_first before a after at p s _ _ u (records_first a b after p q s _ _ v (records_more b d after q r s _ _ loops x))
+
+  -- the merged faces by their numbers
+  face_by_number : (f : ℕ) (members : List ℕ) (i : ℕ) (d : BodyFace) → i < length members
+      → get_or (body_faces fs groups actives ls ks f members) i d ≡ body_face fs groups actives ls ks (f + i) (get_or members i 0)
+  unfolding body_faces
+  face_by_number f [] i d h = absurd (omega arith)
+  face_by_number f (m ∷ more) zero d h = let e : f ≡ f + 0 = omega arith in ap (λ k. body_face fs groups actives ls ks k m) e
+  face_by_number f (m ∷ more) (suc i) d h =
+      let e : suc f + i ≡ f + suc i = omega arith in
+      face_by_number (suc f) more i d (omega arith) ∙ ap (λ k. body_face fs groups actives ls ks k (get_or more i 0)) e
+
+  length_faces : (f : ℕ) (members : List ℕ) → length (body_faces fs groups actives ls ks f members) ≡ length members
+  unfolding body_faces
+  length_faces f [] = refl
+  length_faces f (m ∷ more) = ap suc (length_faces (suc f) more)
+
+  pub face_rows : (members : List ℕ) (n : ℕ) → n ≡ length members
+      → flat_map (λ f. framed_all (face_records (body_face fs groups actives ls ks f (get_or members f 0)))) (below n)
+      ≡ framed_all (flat_map face_records (body_faces fs groups actives ls ks 0 members))
+  face_rows members n e =
+      let face : ℕ → BodyFace = λ f. body_face fs groups actives ls ks f (get_or members f 0) in
+      let by_number : body_faces fs groups actives ls ks 0 members ≡ map face (below (length members)) =
+      table_is face (body_faces fs groups actives ls ks 0 members) (length members) (face 0) (length_faces 0 members)
+      (λ i h. let z : 0 + i ≡ i = omega arith in face_by_number 0 members i (face 0) h ∙ ap (λ k. body_face fs groups actives ls ks k (get_or members i 0)) z) in
+      ap (λ k. flat_map (λ f. framed_all (face_records (face f))) (below k)) e
+      ∙ sym (ap (λ bs. framed_all (flat_map face_records bs)) by_number ∙ flat_map_flat_map framed face_records (map face (below (length members)))
+      ∙ flat_map_map (λ b. framed_all (face_records b)) face (below (length members)))

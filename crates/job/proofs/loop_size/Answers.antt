@@ -1,6 +1,0 @@
-use Rattle.rules.specs.Fields.{le32}
-use mathlib.Core.Path.{ap, ◌∙◌}
-use Rattle.job.proofs.loop_size.Goals as goal
-
-pub returns : goal.returns
-returns c = (c.word.ensures.0 ∙ ap (le32 c.args.job.now) c.get.ensures.0, c.word.ensures.1)

@@ -1,0 +1,3 @@
+pub mod OpenedLaws
+pub mod ItemLaws
+pub mod FoundLaws

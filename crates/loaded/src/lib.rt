@@ -1,0 +1,196 @@
+// The loaded job: its bytes, the index that loading filled, and how many things of each sort there are. Contracts see it as
+// the job that the bytes hold.
+
+#![tactic(auto)]
+
+ghost use Rattle.std.specs.Prelude.{◌≡◌, ◌≢◌, ◌<◌, ◌≤◌, length, eqb};
+ghost use Rattle.rules.specs.Job.{edge_at, face_at, ring, point_at};
+ghost use Rattle.rules.specs.Read.{content_items, uses_of, edge_of_use, use_start};
+ghost use Rattle.rules.specs.Kinds.{number_of};
+ghost use Rattle.rules.specs.Questions.{find, ask_radial};
+ghost use Rattle.answers.specs.Question.{key_of, Shaped};
+ghost use Rattle.job.specs.Lists.{job_in};
+ghost use Rattle.loaded.specs.Opened.{Opened, Loads};
+ghost use Rattle.loaded.specs.Told.{value_of, loop_at, vertex_of};
+
+mod radial;
+mod traversal;
+
+use answers::Question;
+use fields::word;
+use job::RawJob;
+pub use radial::Order;
+use rules::{Counts, Edge, Face, Fault, Kind, Refusal, Use};
+use std::marker::Model;
+pub use traversal::Items;
+
+#[derive(Drop)]
+pub struct Loaded<'a> {
+    raw: RawJob<'a>,
+}
+
+impl<'a> Model for Loaded<'a> {
+    ghost use Rattle.rules.specs.Job.{Job};
+    ghost use Rattle.job.specs.Lists.{job_in};
+    ghost use Rattle.loaded.specs.Opened.{Opened};
+
+    ghost Value = { Job };
+
+    ghost view = { λ l. job_in l.raw.bytes.now l.raw.index.now l.raw.counts };
+
+    ghost invariant = { λ l. Opened l.raw.bytes.now l.raw.index.now l.raw.counts };
+}
+
+impl<'a> Loaded<'a> {
+    // The job that the bytes hold, once loading filled the index.
+    pub fn new(bytes: &'a [u8], index: &'a [u32], counts: Counts) -> Loaded<'a>
+        requires { Opened bytes.now index.now counts }
+        ensures { result ≡ job_in bytes.now index.now counts }
+    {
+        let raw = RawJob {
+            bytes,
+            index,
+            counts,
+        };
+        Loaded { raw }
+    }
+
+    // HOW MANY THERE ARE
+
+    pub fn edges(&self) -> usize
+        ensures { (result ≡ length self.now.edges) × (result ≤ 1024) }
+    {
+        self.raw.counts.edges
+    }
+
+    pub fn faces(&self) -> usize
+        ensures { (result ≡ length self.now.faces) × (result ≤ 256) }
+    {
+        self.raw.counts.faces
+    }
+
+    pub fn loops(&self) -> usize
+        ensures { (result ≡ length self.now.loops) × (result ≤ 1024) }
+    {
+        self.raw.counts.loops
+    }
+
+    pub fn uses(&self) -> usize
+        ensures { (result ≡ length (uses_of self.now)) × (result ≤ 2048) }
+    {
+        self.raw.counts.uses
+    }
+
+    // THINGS BY THEIR NUMBERS
+
+    // Head's field: the shells are known to be outer.
+    #[tactic(auto, unfolding(job::specs::Lists::job_in))]
+    pub fn is_proven(&self) -> bool
+        ensures { result ≡ eqb self.now.proven 1 }
+    {
+        word(self.raw.bytes, 6) == 1
+    }
+
+    // The point of a vertex.
+    #[tactic(auto, using(crate::proofs::OpenedLaws::points_are))]
+    #[inline(always)]
+    pub fn point(&self, v: usize) -> usize
+        ensures { (result ≡ point_at self.now.points v) × (result < 4294967296) }
+    {
+        self.raw.point(v)
+    }
+
+    #[tactic(auto, using(crate::proofs::OpenedLaws::edges_are))]
+    #[inline(always)]
+    pub fn edge(&self, e: usize) -> Edge
+        ensures { result ≡ edge_at self.now.edges e }
+    {
+        self.raw.edge(e)
+    }
+
+    #[tactic(auto, using(crate::proofs::OpenedLaws::faces_are))]
+    #[inline(always)]
+    pub fn face(&self, f: usize) -> Face
+        ensures { result ≡ face_at self.now.faces f }
+    {
+        self.raw.face(f)
+    }
+
+    // The use's edge has no vertices.
+    #[inline(always)]
+    pub fn is_ring(&self, u: Use) -> bool
+        ensures { result ≡ ring (edge_of_use self.now.edges u) }
+    {
+        self.edge(u.edge as usize).is_ring()
+    }
+
+    // The point of the vertex where a use starts.
+    #[inline(always)]
+    pub fn start_point(&self, u: Use) -> usize
+        ensures { (result ≡ point_at self.now.points (use_start self.now.edges u)) × (result < 4294967296) }
+    {
+        let v = self.edge(u.edge as usize).start_by(u.sense);
+        self.point(v as usize)
+    }
+
+    // LOOPS
+
+    // The selected face of loop l.
+    pub fn loop_face(&self, l: usize) -> usize
+        requires { l < length self.now.loops }
+        ensures { (result ≡ (loop_at self.now.loops l).face) × (result < 4294967296) }
+    {
+        self.raw.loop_face(l)
+    }
+
+    // Its items; a vertex loop has none.
+    #[tactic(auto, using(crate::proofs::OpenedLaws::loop_is, crate::proofs::OpenedLaws::content_is))]
+    pub fn items(&self, l: usize) -> Items<'a>
+        requires { l < length self.now.loops }
+        ensures { result ≡ content_items (loop_at self.now.loops l).content }
+    {
+        let from = self.raw.loop_start(l);
+        let count = self.raw.item_count(l);
+        Items::new(self.raw.bytes, from, count)
+    }
+
+    // The vertex of a vertex loop.
+    pub fn loop_vertex(&self, l: usize) -> Option<usize>
+        requires { l < length self.now.loops }
+        ensures { result ≡ vertex_of (loop_at self.now.loops l).content }
+    {
+        if self.raw.loop_kind(l) == Kind::LoopRecord {
+            return None;
+        }
+        Some(word(self.raw.bytes, self.raw.loop_start(l)))
+    }
+
+    // ANSWERS
+
+    // The number on record for a question of any kind but Radial.
+    #[tactic(auto, using(crate::proofs::FoundLaws::value))]
+    pub fn answer_to(&self, q: Question) -> Option<usize>
+        requires { Shaped q × (q.kind ≢ Kind.Radial) }
+        ensures { result ≡ value_of (find self.now.answers (number_of q.kind) (key_of q)) }
+    {
+        let p = answers::find(&self.raw, q)?;
+        Some(word(self.raw.bytes, p + 6 + 4 * q.words))
+    }
+
+    // The uses of an edge in order round it, where none means undecided.
+    #[tactic(auto, using(crate::proofs::FoundLaws::radial), unfolding(rules::specs::Kinds::number_of))]
+    pub fn radial(&self, e: usize) -> Result<Order<'a>, Refusal>
+        requires { e < 4294967296 }
+        ensures { result ≡ ask_radial self.now.answers e }
+    {
+        let kind = Kind::Radial;
+        let Some(p) = answers::find(&self.raw, answers::about_one(kind, e)) else {
+            return Err(Fault::Unanswered.at(kind.number()));
+        };
+        let n = word(self.raw.bytes, p) / 4;
+        if n <= 1 {
+            return Err(Fault::AnswerUndecided.at(kind.number()));
+        }
+        Ok(Order::new(self.raw.bytes, p + 10, n - 1))
+    }
+}

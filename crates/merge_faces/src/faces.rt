@@ -1,0 +1,109 @@
+// The selected faces, merged: by table what the stages after merging read of them.
+
+ghost use Rattle.std.specs.Prelude.{◌≡◌, ◌≤◌, length, IfOk};
+ghost use Rattle.rules.specs.Outcome.{◌>>=◌ as ◌and_then◌};
+ghost use Rattle.rules.specs.Rules.{full_table};
+ghost use Rattle.rules.specs.Merge.{merged_groups};
+ghost use Rattle.merge_faces.specs.FaceTables.{TablesOf};
+
+use loaded::Loaded;
+use rules::{Refusal, Use};
+use std::marker::Model;
+
+// The first `count` entries of three tables are those of the selected faces, and the first `merged` of `members` those of the
+// merged faces.
+#[derive(Drop)]
+pub struct Faces {
+    count: usize,
+    merged: usize,
+    joins: usize,
+    boundaries: [u32; 256],
+    groups: [u32; 256],
+    numbers: [u32; 256],
+    members: [u32; 256],
+}
+
+impl Model for Faces {
+    ghost use Rattle.std.specs.Prelude.{◌≤◌, take};
+    ghost use Rattle.merge_faces.specs.FaceTables.{FaceTables};
+
+    ghost Value = { FaceTables };
+
+    ghost view = { λ f. record {
+      boundaries = take f.count f.boundaries;
+      groups = take f.count f.groups;
+      numbers = take f.count f.numbers;
+      members = take f.merged f.members;
+      joins = f.joins;
+    } };
+
+    ghost invariant = { λ f. (f.count ≤ 256) × (f.merged ≤ 256) };
+}
+
+impl Faces {
+    // Each selected face's boundary, by its lowest face.
+    pub fn boundaries(&self) -> &[u32]
+        ensures { (result.now ≡ self.now.boundaries) × (length result.now ≤ 256) }
+    {
+        &self.boundaries[..self.count]
+    }
+
+    // Each selected face's merged group, by its lowest face.
+    pub fn groups(&self) -> &[u32]
+        ensures { (result.now ≡ self.now.groups) × (length result.now ≤ 256) }
+    {
+        &self.groups[..self.count]
+    }
+
+    // The number of each selected face's merged face.
+    pub fn numbers(&self) -> &[u32]
+        ensures { (result.now ≡ self.now.numbers) × (length result.now ≤ 256) }
+    {
+        &self.numbers[..self.count]
+    }
+
+    // The lowest face of each merged face.
+    pub fn members(&self) -> &[u32]
+        ensures { (result.now ≡ self.now.members) × (length result.now ≤ 256) }
+    {
+        &self.members[..self.merged]
+    }
+
+    // How many joins of separate groups made the merged faces.
+    pub fn joins(&self) -> usize
+        ensures { result ≡ self.now.joins }
+    {
+        self.joins
+    }
+}
+
+// The faces merged by the answers to the surface questions, with the boundaries, numbers and lowest members that belong to
+// their groups.
+pub fn merge_faces(job: &Loaded<'_>, uses: &[Use], twins: &[u32]) -> Result<Faces, Refusal>
+    requires { length uses.now ≤ 2048 }
+    ensures merges { (result and_then λ m. Ok (record { groups = m.groups; joins = m.joins }))
+        ≡ merged_groups full_table job.now.answers job.now.faces uses.now twins.now }
+    ensures tables { IfOk result (TablesOf uses.now twins.now (length job.now.faces)) }
+{
+    let count = job.faces();
+    let mut groups = [0u32; 256];
+    let joins = crate::merge_groups(job, uses, twins, &mut groups[..count])?;
+    let mut boundaries = [0u32; 256];
+    let mut numbers = [0u32; 256];
+    let mut members = [0u32; 256];
+    crate::boundaries(uses, twins, &mut boundaries[..count]);
+    let merged = crate::number(
+        &groups[..count],
+        &mut members[..count],
+        &mut numbers[..count],
+    );
+    Ok(Faces {
+        count,
+        merged,
+        joins,
+        boundaries,
+        groups,
+        numbers,
+        members,
+    })
+}

@@ -1,0 +1,32 @@
+// The walks of a job.
+
+use loaded::Loaded;
+use merge_faces::Faces;
+use rules::{KeptVertexLoop, Use};
+use std::marker::Model;
+
+// A job through its walks: the uses and the twin of each, the merged faces, the vertex loops kept, which uses are removed
+// and how many, the successor of each use, and how many uses were passed over in total. Contracts see the walks of the
+// definitions.
+#[derive(Drop)]
+pub struct Walks<'a> {
+    pub job: &'a Loaded<'a>,
+    pub uses: &'a [Use],
+    pub twins: &'a [u32],
+    pub faces: &'a Faces,
+    pub kept: &'a [KeptVertexLoop],
+    pub removed: &'a [bool],
+    pub succ: &'a [u32],
+    pub gone: usize,
+    pub passed: usize,
+}
+
+impl<'a> Model for Walks<'a> {
+    ghost use Rattle.progress.specs.Known.{Walking, Settled, walked_in};
+
+    ghost Value = { Walking };
+
+    ghost view = { λ w. record { job = w.job.now; walked = walked_in w.uses.now w.twins.now w.faces.now w.removed.now w.kept.now } };
+
+    ghost invariant = { λ w. Settled w.job.now w.uses.now w.twins.now w.faces.now w.kept.now w.removed.now w.succ.now w.gone w.passed };
+}

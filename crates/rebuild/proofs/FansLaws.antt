@@ -1,0 +1,96 @@
+-- A job with its fans, and the tables that hold it.
+use Rattle.std.specs.Prelude.{ℕ, ◌<◌, ◌≤◌, ◌≡◌, refl, List, Bool, length}
+use Rattle.std.proofs.Math.Decide.{dec_lt}
+use Rattle.std.proofs.Common.{arith, sym, ap, subst, ◌∙◌}
+use Rattle.std.proofs.Math.ListN.{get_or-eq_default}
+use Rattle.lists.specs.Lists.{◌∈◌, Nodup}
+use Rattle.lists.specs.Runs.{pigeon_below}
+use Rattle.rules.specs.declared.Use.{Use}
+use Rattle.rules.specs.declared.KeptVertexLoop.{KeptVertexLoop}
+use Rattle.rules.specs.Job.{Job}
+use Rattle.rules.specs.Groups.{Lowest}
+use Rattle.rules.proofs.GroupLaws.{label_below}
+use Rattle.rules.specs.Sew.{fans_of, Fanned}
+use Rattle.theorems.specs.Fanning.{FansHold, fan_list}
+use Rattle.theorems.proofs.Fanning.{fans_hold}
+use Rattle.contact.specs.Clear.{LowLabels}
+use Rattle.merge_faces.specs.FaceTables.{FaceTables}
+use Rattle.progress.specs.Known.{Settled, Walking, walked_in}
+use Rattle.progress.specs.KnownLaws.{Seen, seen, settled_permuted}
+use Rattle.rules.specs.Join.{Joining}
+use Rattle.rebuild.specs.Fanning.{Fanning, Drawing}
+
+-- labels that are lowest members of at most 256 are below 256
+pub low_labels : {labels : List ℕ} → Lowest labels → length labels ≤ 256 → LowLabels labels
+low_labels {labels} L few f =
+    elim (dec_lt f (length labels)) [
+      | yes h ↦ omega (arith, label_below L f h)
+      | no h ↦ omega (arith, get_or-eq_default labels 0 {n = f} (omega arith))
+    ]
+
+-- the walks of a job with fans
+abbrev pub walking : Fanning → Walking
+walking v = record { job = v.job; walked = v.fan.walk }
+
+-- what the tables have of the fans of the definitions
+pub record FansSeen (v : Fanning) (j : Job) (us : List Use) (ts : List ℕ) (m : FaceTables) (ks : List KeptVertexLoop) (rm : List Bool) (ss : List ℕ) (count total : ℕ)
+    (fs ns ps : List ℕ) : Type 0 where
+  pub walks : Seen (walking v) j us ts m ks rm ss count total
+  pub fans : fs ≡ v.fan.fans
+  pub names : ns ≡ v.fan.names
+  pub starts : ps ≡ v.fan.starts
+  pub fan : v.fan ≡ fans_of v.job v.fan.walk
+  pub size : length ss ≡ length v.fan.walk.uses
+
+pub fans_seen : {w : Walking} {j : Job} {us : List Use} {ts : List ℕ} {m : FaceTables} {kept : List KeptVertexLoop} {rm : List Bool} {ss : List ℕ} {gone total : ℕ}
+    {fans names starts : List ℕ} {v : Fanning}
+    → Settled j us ts m kept rm ss gone total → record { job = j; walked = walked_in us ts m rm kept } ≡ w
+    → record { walk = w.walked; fans = fans; names = names; starts = starts } ≡ fans_of w.job w.walked
+    → record { job = w.job; fan = record { walk = w.walked; fans = fans; names = names; starts = starts } } ≡ v
+    → FansSeen v j us ts m kept rm ss gone total fans names starts
+fans_seen {w} {j} {us} {ts} {m} {kept} {rm} {ss} {gone} {total} {fans} {names} {starts} S walks is e =
+    subst (λ x. FansSeen x j us ts m kept rm ss gone total fans names starts) e (record {
+      walks = seen S walks;
+      fans = refl;
+      names = refl;
+      starts = refl;
+      fan = is;
+      size = (settled_permuted S).size ∙ ap length (seen S walks).uses;
+    })
+
+module _ {v : Fanning} {j : Job} {us : List Use} {ts : List ℕ} {m : FaceTables} {kept : List KeptVertexLoop} {rm : List Bool} {ss : List ℕ} {gone total : ℕ} {fans names starts : List ℕ}
+    (F : FansSeen v j us ts m kept rm ss gone total fans names starts) where
+  pub fanned_names : v.fan.names ≡ fan_list v.job v.fan.walk
+  unfolding fans_of
+  fanned_names = ap (λ (f : Fanned). f.names) F.fan
+
+  pub fanned_hold : FansHold v.job v.fan.walk
+  fanned_hold = fans_hold v.job v.fan.walk F.walks.ground
+
+  pub names_once : Nodup names
+  names_once = subst Nodup (sym (F.names ∙ fanned_names)) fanned_hold.nodup
+
+  pub names_below : (n : ℕ) → n ∈ names → n < length us
+  names_below n i = omega (arith, (fanned_hold.ended n (subst (λ l. n ∈ l) (F.names ∙ fanned_names) i)).0, ap length F.walks.uses)
+
+  pub names_low : (n : ℕ) → n ∈ names → n < 2048
+  names_low n i = omega (arith, names_below n i, ap length F.walks.uses, F.walks.ground.few)
+
+  pub names_few : length names ≤ 2048
+  names_few = pigeon_below 2048 names names_once names_low
+
+-- A JOB WITH THE EDGES AND LOOPS OVER ITS FANS
+
+-- the fans of a job with edges and loops
+abbrev pub fanning : Drawing → Fanning
+fanning v = record { job = v.job; fan = v.joined.fan }
+
+pub drawn_seen : {w : Walking} {j : Job} {us : List Use} {ts : List ℕ} {m : FaceTables} {kept : List KeptVertexLoop} {rm : List Bool} {ss : List ℕ} {gone total : ℕ}
+    {fans names starts : List ℕ} {f : Fanning} {s : Joining} {v : Drawing}
+    → Settled j us ts m kept rm ss gone total → record { job = j; walked = walked_in us ts m rm kept } ≡ w
+    → record { walk = w.walked; fans = fans; names = names; starts = starts } ≡ fans_of w.job w.walked
+    → record { job = w.job; fan = record { walk = w.walked; fans = fans; names = names; starts = starts } } ≡ f
+    → record { job = f.job; joined = record { fan = f.fan; joining = s } } ≡ v
+    → FansSeen (fanning v) j us ts m kept rm ss gone total fans names starts
+drawn_seen {j = j} {us} {ts} {m} {kept} {rm} {ss} {gone} {total} {fans} {names} {starts} S walks is f e =
+    subst (λ x. FansSeen (fanning x) j us ts m kept rm ss gone total fans names starts) e (fans_seen S walks is f)

@@ -1,0 +1,4 @@
+pub mod FansLaws
+pub mod LinedLaws
+pub mod ShellLaws
+pub mod SolidLaws

@@ -1,0 +1,43 @@
+use Rattle.std.proofs.Common.{arith, subst}
+use Rattle.std.specs.Prelude.{OnOk}
+use Rattle.shells.specs.Table.{Shelled}
+use Rattle.rebuild.specs.Tables.{boundaries_of, members_of}
+use Rattle.rebuild.proofs.FansLaws.{drawn_seen}
+use Rattle.rebuild.proofs.ShellLaws.{nested_homes}
+use Rattle.rebuild.proofs.SolidLaws.{shells_few}
+use Rattle.progress.specs.Chain.{after_shells}
+use Rattle.rebuild.proofs.drawn.on_shelled.Goals as goal
+
+pub write_shells-requires : goal.write_shells-requires
+write_shells-requires g c =
+    let F = drawn_seen c.w.invariant c.w.view_is c.f.invariant c.f.view_is c.d.view_is in
+    shells_few c.args.d.now F c.args.table.now c.requires.1
+
+pub on_nested-requires : goal.on_nested-requires
+on_nested-requires g c =
+    let F = drawn_seen c.w.invariant c.w.view_is c.f.invariant c.f.view_is c.d.view_is in
+    let told = c.nest.ensures (boundaries_of c.args.d.now) (members_of c.args.d.now) c.requires.1 in (
+      c.requires.0,
+      subst (λ r. OnOk r (Shelled (boundaries_of c.args.d.now) (members_of c.args.d.now) c.nest.new.table)) c.in_ok-nest.was told.1,
+      nested_homes _ _ _ _ _ F.walks.few_members told.0 c.in_ok-nest.was,
+    )
+
+pub returns-then-is_asked : goal.returns-then-is_asked
+unfolding after_shells
+returns-then-is_asked g c =
+    let F = drawn_seen c.w.invariant c.w.view_is c.f.invariant c.f.view_is c.d.view_is in
+    grind arith
+
+pub returns-in_err-nest : goal.returns-in_err-nest
+unfolding after_shells
+returns-in_err-nest g c =
+    let F = drawn_seen c.w.invariant c.w.view_is c.f.invariant c.f.view_is c.d.view_is in
+    let told = c.nest.ensures (boundaries_of c.args.d.now) (members_of c.args.d.now) c.requires.1 in
+    grind arith
+
+pub returns : goal.returns
+unfolding after_shells
+returns g c =
+    let F = drawn_seen c.w.invariant c.w.view_is c.f.invariant c.f.view_is c.d.view_is in
+    let told = c.nest.ensures (boundaries_of c.args.d.now) (members_of c.args.d.now) c.requires.1 in
+    grind arith

@@ -1,0 +1,62 @@
+use Rattle.std.proofs.Common.{arith, sym, ap, ◌∙◌, ◌≤◌, length, length-take-le}
+use Rattle.progress.specs.Parts.{cut_back, back_long}
+use Rattle.progress.specs.KnownLaws.{paired_twins, settled_permuted}
+use Rattle.rebuild.proofs.FansLaws.{fans_seen}
+use Rattle.rebuild.proofs.LinedLaws.{settled_walks, faces_told, made_told, lined}
+use Rattle.rebuild.proofs.fanned.make_edges.Goals as goal
+
+pub loops-loops-requires : goal.loops-loops-requires
+loops-loops-requires c =
+    let F = fans_seen c.w.invariant c.w.view_is c.f.invariant c.f.view_is in (
+      settled_walks c.w.invariant F,
+      omega (arith, F.size, F.walks.ground.few),
+      omega (arith, c.requires.items_size, F.size),
+      omega (arith, c.requires.stretches_size, F.size),
+    )
+
+pub slice_bounds-loop_faces-end : goal.slice_bounds-loop_faces-end
+slice_bounds-loop_faces-end c =
+    let F = fans_seen c.w.invariant c.w.view_is c.f.invariant c.f.view_is in
+    omega (arith, c.loops-loops.ensures.1, c.loops-loops.auto.stretches, c.requires.stretches_size, F.size)
+
+pub slice_bounds-loop_faces-end-2 : goal.slice_bounds-loop_faces-end-2
+slice_bounds-loop_faces-end-2 c =
+    let F = fans_seen c.w.invariant c.w.view_is c.f.invariant c.f.view_is in
+    sym (length-take-le _ _
+    (omega (arith, c.loops-loops.ensures.1, c.loops-loops.auto.stretches, c.requires.stretches_size, F.size)))
+
+pub slice_bounds-loop_faces-end-3 : goal.slice_bounds-loop_faces-end-3
+slice_bounds-loop_faces-end-3 c =
+    let F = fans_seen c.w.invariant c.w.view_is c.f.invariant c.f.view_is in
+    omega (arith, c.loops-loops.ensures.1, c.requires.faces_size, F.size)
+
+pub slice_bounds-loop_faces-end-4 : goal.slice_bounds-loop_faces-end-4
+slice_bounds-loop_faces-end-4 c =
+    let F = fans_seen c.w.invariant c.w.view_is c.f.invariant c.f.view_is in
+    sym (length-take-le _ _ (omega (arith, c.loops-loops.ensures.1, c.requires.faces_size, F.size)))
+
+pub edges-edges-requires : goal.edges-edges-requires
+edges-edges-requires c =
+    let F = fans_seen c.w.invariant c.w.view_is c.f.invariant c.f.view_is in
+    let uses = ap length F.walks.uses in
+    let twins = (paired_twins c.w.invariant.keeps.grouped.paired).size in (
+      omega (arith, twins, uses, F.walks.ground.few),
+      omega (arith, (settled_permuted c.w.invariant).size, twins),
+      omega (arith, c.requires.owns_size, twins, uses),
+      omega (arith, c.requires.rows_size, twins, uses),
+    )
+
+pub returns : goal.returns
+returns c =
+    let F = fans_seen c.w.invariant c.w.view_is c.f.invariant c.f.view_is in
+    let few : c.loops-loops.result ≤ length c.args.faces.now = omega (arith, c.loops-loops.ensures.1, c.requires.faces_size, F.size) in (
+      lined c.w.invariant F c.args.rows.now c.args.owns.now c.args.items.now c.args.stretches.now c.args.faces.now c.requires
+          c.loops-loops.new.ways c.loops-loops.new.stretches _ c.edges-edges.new.rows c.edges-edges.new.owns c.items.new.ways c.loops-loops.result c.edges-edges.result
+          c.loops-loops.ensures.0 c.loops-loops.ensures.1 c.loops-loops.ensures.2
+          (cut_back _ c.args.faces.now c.loop_faces.new.faces few c.loop_faces.auto.faces
+          ∙ faces_told c.w.inside.uses.now c.loops-loops.new.ways _ c.loop_faces.ensures c.numbers.ensures.0 (sym (length-take-le _ _ few)))
+          (made_told c.edges-edges.ensures c.numbers-2.ensures.0) c.items.ensures
+          c.edges-edges.auto.rows c.loops-loops.auto.ways c.loops-loops.auto.stretches
+          (back_long _ c.args.faces.now c.loop_faces.new.faces few c.loop_faces.auto.faces),
+      omega (arith, c.loops-loops.ensures.1, F.size),
+    )

@@ -1,0 +1,176 @@
+// From the fans on: the stage `fans`, the edges and loops of the result, the stage `edges`, joining.
+
+ghost use Rattle.std.specs.Prelude.{◌≡◌, ◌*◌, ◌≤◌, length, take};
+ghost use Rattle.rules.specs.Sew.{unjoined, Ends};
+ghost use Rattle.edges.specs.Table.{Laid};
+ghost use Rattle.maximal_edges.specs.Joined.{state_in};
+ghost use Rattle.maximal_edges.specs.Hung.{SoundIn};
+ghost use Rattle.progress.specs.Chain.{after_fans, after_edges};
+ghost use Rattle.rebuild.specs.Lined.{Roomy, Lined};
+ghost use Rattle.rebuild.specs.Tables.{Tables};
+
+use crate::drawn::{Drawn, on_joined};
+use contact::points_clear;
+use edges::{NO_EDGE, Sides};
+use fields::Span;
+use maximal_edges::maximal_edges;
+use progress::Walks;
+use result_out::{write_fans, write_joining};
+use rules::{EdgeData, Fault, Refusal, Stage};
+use std::marker::Model;
+
+// The walks with the fan of each use, the fans by name, and the point where each use starts. Contracts see the fans of the
+// definitions.
+#[derive(Drop)]
+pub struct Fans<'a> {
+    pub walks: &'a Walks<'a>,
+    pub fans: &'a [u32],
+    pub names: &'a [u32],
+    pub starts: &'a [u32],
+}
+
+impl<'a> Model for Fans<'a> {
+    ghost use Rattle.std.specs.Prelude.{◌≡◌};
+    ghost use Rattle.rules.specs.Sew.{fans_of};
+    ghost use Rattle.rebuild.specs.Fanning.{Fanning};
+
+    ghost Value = { Fanning };
+
+    ghost view = { λ f. record { job = f.walks.now.job; fan = record { walk = f.walks.now.walked; fans = f.fans.now; names = f.names.now; starts = f.starts.now } } };
+
+    ghost invariant = { λ f. record { walk = f.walks.now.walked; fans = f.fans.now; names = f.names.now; starts = f.starts.now } ≡ fans_of f.walks.now.job f.walks.now.walked };
+}
+
+const NO_SPAN: Span = Span { start: 0, end: 0 };
+
+// The stage `fans`, then 31.
+#[tactic(auto, unfolding(progress::specs::Chain::after_fans, rules::specs::Sew::walks_of))]
+pub fn on_fanned<const USES: usize>(
+    stage: Option<Stage>,
+    f: &Fans<'_>,
+    out: &mut [u8],
+) -> Result<usize, Refusal>
+    requires { (length f.now.fan.walk.uses ≤ USES) × (USES ≤ 2048) }
+    ensures { Ends (after_fans stage f.now.job (length out.old) f.now.fan) out.old out.new result }
+{
+    let w = f.walks;
+    if Stage::Fans.is_asked(stage) {
+        return write_fans(w.job, w.uses, w.removed, f.fans, f.starts, out);
+    }
+    points_clear(
+        Fault::FansInBoundary,
+        w.uses,
+        f.starts,
+        w.faces.boundaries(),
+        f.names,
+    )?;
+    draw_in_tables::<USES>(stage, f, out)
+}
+
+// How many edges and loops there are.
+#[derive(Clone, Copy)]
+struct Lengths {
+    edges: usize,
+    loops: usize,
+}
+
+// The loops of the walks as items of edges: the edges, the items of all loops, the stretch and the merged face of each loop.
+fn make_edges(
+    f: &Fans<'_>,
+    rows: &mut [EdgeData],
+    owns: &mut [u32],
+    items: &mut [u32],
+    stretches: &mut [Span],
+    faces: &mut [u32],
+) -> Lengths
+    requires { Roomy (length f.now.fan.walk.uses) rows.old owns.old items.old stretches.old faces.old }
+    ensures { Lined f.now rows.new result.edges items.new (take result.loops stretches.new) (take result.loops faces.new) × (result.loops ≤ length f.now.fan.walk.uses) }
+{
+    let w = f.walks;
+    let loops = walk::loops(w.removed, w.succ, items, stretches);
+    edges::loop_faces(
+        w.uses,
+        w.faces.numbers(),
+        items,
+        &stretches[..loops],
+        &mut faces[..loops],
+    );
+    let sides = Sides {
+        uses: w.uses,
+        twins: w.twins,
+        removed: w.removed,
+        numbers: w.faces.numbers(),
+        succ: w.succ,
+        fans: f.fans,
+    };
+    let edges = edges::edges(w.job, &sides, rows, owns);
+    edges::items(w.uses, owns, items);
+    Lengths { edges, loops }
+}
+
+// The edges and loops in tables for so many uses, then what is built on them.
+#[tactic(auto, unfolding(rules::specs::Sew::walks_of))]
+fn draw_in_tables<const USES: usize>(
+    stage: Option<Stage>,
+    f: &Fans<'_>,
+    out: &mut [u8],
+) -> Result<usize, Refusal>
+    requires { (length f.now.fan.walk.uses ≤ USES) × (USES ≤ 2048) }
+    ensures { Ends (after_edges stage f.now.job (length out.old) (record { fan = f.now.fan; joining = unjoined f.now.job f.now.fan })) out.old out.new result }
+{
+    let w = f.walks;
+    let n = w.uses.len();
+    let mut edges = [NO_EDGE; USES];
+    let mut owners = [0u32; USES];
+    let mut codes = [0u32; USES];
+    let mut spans = [NO_SPAN; USES];
+    let mut sides = [0u32; USES];
+    let rows = &mut edges[..n];
+    let owns = &mut owners[..n];
+    let items = &mut codes[..n];
+    let stretches = &mut spans[..n];
+    let faces = &mut sides[..n];
+    let made = make_edges(f, rows, owns, items, stretches, faces);
+    on_edged::<USES>(
+        stage,
+        f,
+        rows,
+        made.edges,
+        items,
+        &mut stretches[..made.loops],
+        &faces[..made.loops],
+        out,
+    )
+}
+
+// The stage `edges`, of `count` edges, then joining, which takes the tables one by one.
+#[tactic(auto, unfolding(progress::specs::Chain::after_edges, maximal_edges::specs::Joined::state_in))]
+fn on_edged<'a, const USES: usize>(
+    stage: Option<Stage>,
+    f: &'a Fans<'a>,
+    rows: &'a mut [EdgeData],
+    count: usize,
+    items: &'a mut [u32],
+    stretches: &'a mut [Span],
+    faces: &'a [u32],
+    out: &mut [u8],
+) -> Result<usize, Refusal>
+    requires { Lined f.now rows.old count items.old stretches.old faces.now × (length rows.old ≤ USES) × (length f.now.fan.walk.uses ≤ USES) × (USES ≤ 2048) }
+    ensures { Ends (after_edges stage f.now.job (length out.old) (record { fan = f.now.fan; joining = state_in rows.old count items.old stretches.old faces.now 0 0 })) out.old out.new result }
+{
+    if Stage::Edges.is_asked(stage) {
+        return write_joining(0, 0, &rows[..count], items, stretches, faces, out);
+    }
+    let w = f.walks;
+    let k = maximal_edges(w.job, f.starts, f.names, rows, count, items, stretches)?;
+    let drawn = Drawn {
+        fans: f,
+        rows: &rows[..k.edges],
+        items,
+        stretches,
+        faces,
+        joins: k.joins,
+        rings: k.rings,
+    };
+    on_joined::<USES>(stage, &drawn, out)
+}

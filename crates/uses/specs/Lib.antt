@@ -1,2 +1,0 @@
-pub mod Table
-pub mod TableLaws
