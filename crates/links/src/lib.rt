@@ -4,7 +4,7 @@
 
 #![tactic(auto)]
 
-ghost use Rattle.std.specs.Prelude.{◌≡◌, ◌+◌, ◌-◌, ◌≤◌, ◌<◌, ◌++◌, drop, length, get_or};
+ghost use Rattle.std.specs.Prelude.{◌≡◌, ◌+◌, ◌-◌, ◌≤◌, ◌<◌, ◌++◌, [], drop, length, get_or};
 ghost use Rattle.edges.specs.Table.{Laid};
 ghost use Rattle.fields.specs.Spans.{span_at};
 ghost use Rattle.links.specs.Tables.{IsLoop, own_end, follow, codes_at, Turned, fused_at, Fusable};
@@ -125,7 +125,9 @@ fn lay_loop(list: &[u32], nexts: &[u32], head: usize, part: &mut [u32])
 impl<const SLOTS: usize, const CODES: usize> Links<SLOTS, CODES> {
     // Tables without a loop. They are made where they stay, since they are large, and linked there.
     #[inline(always)]
-    pub fn new() -> Links<SLOTS, CODES> {
+    pub fn new() -> Links<SLOTS, CODES>
+        ensures { result.stretches ≡ [] }
+    {
         Links {
             list: [0; SLOTS],
             nexts: [0; SLOTS],
