@@ -12,7 +12,8 @@ use Rattle.rules.specs.Fields.{le16, le32, fields_in}
 use Rattle.rules.specs.Kinds.{kind_of, number_of, is_answer, right_length, question_length, question_of}
 use Rattle.rules.specs.Questions.{unordered}
 use Rattle.job.specs.Lists.{fields_at}
-use Rattle.job.specs.FieldLaws.{take_fields, field_in, fields_first}
+use Rattle.rules.proofs.FieldLaws.{field_in, fields_first}
+use Rattle.job.specs.FieldLaws.{take_fields}
 use Rattle.answers.specs.Question.{key_of, Padded, about_one, about_two, about_either, about_four, question_by, question_in, RightAnswer}
 use Rattle.answers.specs.QuestionLaws.{padded_none, padded_one, padded_two, padded_four, padded_either, either_kind, either_words, either_key}
 

@@ -118,7 +118,7 @@ pub fn find(raw: &RawJob<'_>, q: Question) -> Option<usize>
     requires { Shaped q × Chained raw.now.index.now }
     ensures { (result ≡ place_for raw.now.bytes.now raw.now.index.now q) × Place32 result }
 {
-    // a `while`: only an entry of the chain tells the next
+    // a `while`: `Chain` needs the entries as a slice of the index, and nothing asked here says that it is long enough (tried)
     let mut i = get(raw.index, bucket(q));
     while 0 < i {
         let k = i - 1;
@@ -140,7 +140,8 @@ pub fn answered_before(raw: &RawJob<'_>, at: usize) -> bool
     find(raw, question_at(raw.bytes, at)).is_some()
 }
 
-// The answer with number k, whose record stands at a byte, is entered in front of its chain.
+// The answer with number k, whose record stands at a byte, is entered in front of its chain. The parts are lent, as
+// `load::keep` has them: there is no struct of a job that is being read.
 #[tactic(auto, unfolding(crate::specs::Index::entered))]
 pub fn enter(job: &[u8], index: &mut [u32], k: usize, at: usize)
     requires { (k < 2048) × (at < 4294967296) }

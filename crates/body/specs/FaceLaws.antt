@@ -1,30 +1,27 @@
 -- Laws of the records of loops, members and merged faces.
-use Rattle.std.specs.Prelude.{◌≡◌, refl, ℕ, zero, suc, ◌+◌, ◌*◌, ◌/◌, ◌%◌, ◌<◌, ◌≤◌, Bool, cond, length, get_or, eqb}
-use Rattle.std.proofs.Common.{arith, sym, ap, ◌∙◌, eq-eqb, ne_eqb}
-use mathlib.Core.List.{List, [], ◌∷◌, map, flat_map}
-use Rattle.std.proofs.lemmas.List.{length-map}
+use Rattle.std.specs.Prelude.{◌≡◌, refl, ℕ, zero, suc, ◌+◌, ◌*◌, ◌/◌, ◌%◌, ◌<◌, ◌≤◌, cond, length, get_or, eqb}
+use Rattle.std.proofs.Common.{arith, sym, ap, ◌∙◌, append-nil, append_assoc, length-append}
+use mathlib.Core.List.{List, [], ◌∷◌, map, flat_map, ◌++◌}
+use Rattle.std.proofs.lemmas.List.{length-map, map_push}
+use Rattle.lists.specs.Members.{flat_map_append}
 use Rattle.lists.specs.Lists.{below}
 use Rattle.lists.specs.Tables.{table_is}
-use Rattle.lists.specs.Rows.{flat_map_map, flat_map_even, flat_map_keep}
+use Rattle.lists.specs.Rows.{flat_map_map, flat_map_even}
 use Rattle.rules.specs.declared.Face.{Face}
 use Rattle.rules.specs.declared.KeptVertexLoop.{KeptVertexLoop}
 use Rattle.rules.specs.Sense.{sense_of, sense_number}
-use Rattle.rules.specs.Fields.{bytes32, field_bytes}
+use Rattle.rules.specs.Fields.{field_bytes}
 use Rattle.rules.specs.Frame.{framed, framed_all}
 use Rattle.rules.specs.Job.{face_at}
-use Rattle.rules.specs.Groups.{label_of, members_of}
+use Rattle.rules.specs.Groups.{members_of}
 use Rattle.rules.specs.Edges.{FaceLoop}
 use Rattle.rules.specs.Body.{BodyFace, loops_in, points_in, member_at, member_fields, members_record, body_face, body_faces, item_fields, loop_record, vertex_loop_record, face_records}
-use Rattle.fields.specs.declared.Span.{Span}
-use Rattle.fields.specs.Spans.{span_at}
 use Rattle.fields.specs.Wrote.{Wrote}
-use Rattle.stages_out.specs.Writing.{Rowed, rowed_start, rowed_step, wrote_same, flat_map_flat_map}
-use Rattle.edges.specs.Table.{item_in, loop_at, face_loops_in}
-use Rattle.members.specs.Chain.{next_member, next_after_lem}
-use Rattle.members.specs.Group.{Chained, Leading, none_before, none_between}
+use Rattle.stages_out.specs.Writing.{wrote_same, flat_map_flat_map, wrote_both, wrote_nothing, place_after_lem}
+use Rattle.edges.specs.Table.{item_in}
 use Rattle.body.specs.Solids.{head_record}
 use Rattle.body.specs.Numbers.{Numbering, number_of, renumbered_by, items_by, loops_by, loops_are}
-use Rattle.body.specs.Writing.{records_first, records_more, records_kept, rowed_skip}
+use Rattle.body.specs.Writing.{records_first, records_more}
 
 -- LOOPS
 
@@ -45,18 +42,9 @@ module _ (t : List ℕ) (count : ℕ) where
   pub length_items : (part : List ℕ) → length (flat_map item_fields (items_by t count part)) ≡ 2 * length part
   length_items part = ap length (sym (items_are part)) ∙ flat_map_even (λ x. item_fields (renumbered_by t count (item_in x))) 2 part (λ x. refl)
 
-  module _ (items : List ℕ) (stretches : List Span) (faces : List ℕ) (f : ℕ) where
-    -- loop k, where it is of merged face f
-    abbrev pub loop_row : ℕ → List ℕ
-    loop_row k = cond (eqb (get_or faces k 0) f) (framed (loop_record (items_by t count (loop_at items (span_at stretches k))))) []
-
-    pub loop_rows : (n : ℕ) → n ≡ length faces → flat_map loop_row (below n) ≡ framed_all (map loop_record (loops_by t count (face_loops_in items stretches faces) f))
-    unfolding face_loops_in
-    loop_rows n e =
-        let loop : ℕ → FaceLoop = λ k. record { face = get_or faces k 0; items = map item_in (loop_at items (span_at stretches k)) } in
-        let own : FaceLoop → Bool = λ l. eqb l.face f in
-        ap (λ k. flat_map loop_row (below k)) e ∙ sym (flat_map_map (λ l. cond (own l) (framed (loop_record (map (renumbered_by t count) l.items))) []) loop (below (length faces)))
-        ∙ records_kept loop_record (λ l. map (renumbered_by t count) l.items) own (map loop (below (length faces)))
+  -- a loop, where it is of merged face f
+  abbrev pub loop_row : ℕ → FaceLoop → List ℕ
+  loop_row f l = cond (eqb l.face f) (framed (loop_record (map (renumbered_by t count) l.items))) []
 
 -- VERTEX LOOPS
 
@@ -66,36 +54,37 @@ point_row f k = cond (eqb k.face f) (framed (vertex_loop_record k.point)) []
 
 -- MEMBERS
 
-module _ (fs : List Face) (groups : List ℕ) (m : ℕ) where
-  -- body and source face of selected face i, where it is of the group
-  abbrev pub member_row : ℕ → List ℕ
-  member_row i = cond (eqb (label_of groups i) m) (field_bytes (member_fields (member_at fs i))) []
-
-  -- the row of another is empty
-  member_none : (i : ℕ) → (label_of groups i ≡ m → ⊥) → member_row i ≡ []
-  member_none i other = rw (ne_eqb (label_of groups i) m other) refl
-
-  pub member_rows : (n : ℕ) → n ≡ length groups → flat_map member_row (below n) ≡ field_bytes (flat_map member_fields (map (member_at fs) (members_of groups m)))
-  member_rows n e =
-      ap (λ k. flat_map member_row (below k)) e
-      ∙ sym (flat_map_keep (λ i. field_bytes (member_fields (member_at fs i))) (λ i. eqb (label_of groups i) m) (below (length groups)))
-      ∙ sym (ap field_bytes (flat_map_map member_fields (member_at fs) (members_of groups m)) ∙ flat_map_flat_map bytes32 (λ i. member_fields (member_at fs i)) (members_of groups m))
-
-  module _ (next : List ℕ) (C : Chained groups next) (L : Leading groups m) where
-    -- no number before the lowest is of the group
-    pub group_start : (before : List ℕ) (at : ℕ) → Rowed member_row 8 before at before at m
-    group_start before at = rowed_skip rowed_start (omega arith) (λ k low high. member_none k (none_before groups next m C L k high))
-
-    -- one member more, then on to the next
-    pub group_step : {before mid after : List ℕ} {at p i j q : ℕ} → label_of groups i ≡ m → j ≡ next_member groups i → Rowed member_row 8 before at mid p i
-        → Wrote mid p (field_bytes (member_fields (member_at fs i))) after q → q ≤ p + 8 → Rowed member_row 8 before at after q j
-    group_step {mid = mid} {after = after} {p = p} {i = i} {j = j} {q = q} o e R w few =
-        rowed_skip (rowed_step R (rw (eq-eqb (label_of groups i) m o) w) few) (omega (arith, e, next_after_lem groups i))
-        (λ k low high. member_none k (none_between groups next m C L i j k o e (omega (arith, low)) high))
-
+module _ (fs : List Face) where
   -- two fields for each member
-  pub length_members : length (flat_map member_fields (map (member_at fs) (members_of groups m))) ≡ 2 * length (members_of groups m)
-  length_members = flat_map_even member_fields 2 (map (member_at fs) (members_of groups m)) (λ x. refl) ∙ ap (λ n. 2 * n) (length-map (members_of groups m) (member_at fs))
+  pub length_members : (is : List ℕ) → length (flat_map member_fields (map (member_at fs) is)) ≡ 2 * length is
+  length_members is = flat_map_even member_fields 2 (map (member_at fs) is) (λ x. refl) ∙ ap (λ n. 2 * n) (length-map is (member_at fs))
+
+  -- the members so far are written at a place, the others are left
+  pub record Membered (all : List ℕ) (before : List ℕ) (at : ℕ) (done left after : List ℕ) (p : ℕ) : Type 0 where
+    pub whole : all ≡ done ++ left
+    pub wrote : Wrote before at (field_bytes (flat_map member_fields (map (member_at fs) done))) after p
+
+  module _ {all before : List ℕ} {at : ℕ} where
+    pub member_start : (left : List ℕ) → all ≡ left → Membered all before at [] left before at
+    unfolding flat_map
+    member_start left e = record { whole = e; wrote = wrote_nothing before at }
+
+    pub member_step : {done left rest mid after : List ℕ} {p q : ℕ} (i : ℕ) → Membered all before at done left mid p → left ≡ i ∷ rest
+        → Wrote mid p (field_bytes (member_fields (member_at fs i))) after q → Membered all before at (done ++ (i ∷ [])) rest after q
+    unfolding flat_map
+    member_step {done = done} {rest = rest} i M e w =
+        let more = ap (flat_map member_fields) (map_push (member_at fs) done i) ∙ flat_map_append member_fields (map (member_at fs) done) (member_at fs i ∷ []) in
+        record {
+          whole = M.whole ∙ ap (λ l. done ++ l) e ∙ sym (append_assoc done (i ∷ []) rest);
+          wrote = wrote_same _ _ _ _ _ _ (sym more) (wrote_both _ _ _ _ _ _ _ _ M.wrote w);
+        }
+
+    -- how far they reach
+    pub member_place : {done left after : List ℕ} {p : ℕ} → Membered all before at done left after p → length all ≤ 256 → p ≤ at + 2048
+    member_place {done = done} {left = left} M few = omega (arith, place_after_lem _ _ _ _ _ M.wrote, length_members done, ap length M.whole, length-append done left, few)
+
+    pub member_all : {done left after : List ℕ} {p : ℕ} → Membered all before at done left after p → left ≡ [] → Wrote before at (field_bytes (flat_map member_fields (map (member_at fs) all))) after p
+    member_all {done = done} M e = wrote_same _ _ _ _ _ _ (ap (λ l. flat_map member_fields (map (member_at fs) l)) (sym (M.whole ∙ ap (λ l. done ++ l) e ∙ append-nil done))) M.wrote
 
 -- MERGED FACES
 

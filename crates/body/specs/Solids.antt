@@ -5,11 +5,9 @@ use Rattle.rules.specs.Sense.{sense_number}
 use Rattle.rules.specs.Frame.{Record}
 use Rattle.rules.specs.Read.{stored_sense}
 use Rattle.rules.specs.Groups.{lowest_members, Lowest}
-use Rattle.rules.specs.Edges.{FaceLoop}
 use Rattle.rules.specs.Join.{active_edges}
 use Rattle.rules.specs.Shells.{Nested, lumps}
 use Rattle.rules.specs.Body.{Totals as RulesTotals, BodyFace, Body, rec, body_faces, solid_body, empty_body}
-use Rattle.edges.specs.Table.{face_loops_in, Laid}
 use Rattle.merge_faces.specs.FaceTables.{FaceTables}
 use Rattle.shells.specs.declared.ShellRow.{ShellRow}
 use Rattle.shells.specs.Table.{nested_in}
@@ -39,29 +37,22 @@ totals_in (Some t) = record { solid = true; uses = t.uses; removed = t.removed; 
 abbrev pub head_record : Face → Record
 head_record face = rec 24 (face.surface ∷ sense_number (stored_sense face) ∷ [])
 
--- the loops by their faces and items
-abbrev pub face_loops : Solid → List FaceLoop
-face_loops s = face_loops_in s.items.now s.stretches.now s.loop_faces.now
-
 -- the merged faces
 abbrev pub merged_faces : Solid → List BodyFace
-merged_faces s = body_faces s.job.now.faces s.faces.now.groups (active_edges s.rows.now) (face_loops s) s.kept.now 0 s.faces.now.members
+merged_faces s = body_faces s.job.now.faces s.faces.now.groups (active_edges s.joining.now.edges) s.joining.now.loops s.kept.now 0 s.faces.now.members
 
 -- the shells with the outer shells of their lumps
 abbrev pub nested_by : FaceTables → List ShellRow → List Nested
 nested_by m rows = nested_in m.boundaries m.members rows
 
 abbrev pub body_in : Solid → Body
-body_in s = solid_body (totals_in (Some s.totals)) s.job.now.faces s.faces.now.groups s.starts.now s.rows.now (face_loops s) s.faces.now.members s.kept.now (lumps (nested_by s.faces.now s.shells.now))
+body_in s =
+    solid_body (totals_in (Some s.totals)) s.job.now.faces s.faces.now.groups s.starts.now s.joining.now.edges s.joining.now.loops s.faces.now.members s.kept.now
+    (lumps (nested_by s.faces.now s.shells.now))
 
--- the merged faces are those of the groups, the loops lie one after the other, and nothing is more than a job can have
+-- the merged faces are those of the groups, and there are no more vertex loops and shells than a job can have
 pub record Sized (s : Solid) : Type 0 where
   pub lowest : Lowest s.faces.now.groups
   pub own : s.faces.now.members ≡ lowest_members s.faces.now.groups
-  pub laid : Laid s.stretches.now s.items.now
-  pub room : length s.loop_faces.now ≤ length s.stretches.now
-  pub few_loops : length s.loop_faces.now ≤ 2048
-  pub few_items : length s.items.now ≤ 2048
-  pub few_edges : length s.rows.now ≤ 2048
   pub few_kept : length s.kept.now ≤ 1024
   pub few_shells : length s.shells.now ≤ 256

@@ -1,18 +1,16 @@
 -- Laws of records written one after the other.
-use Rattle.std.specs.Prelude.{ℕ, zero, suc, ◌+◌, ◌-◌, ◌*◌, ◌<◌, ◌≤◌, ◌≡◌, Bool, cond, length}
-use Rattle.std.proofs.Common.{append-nil, sym, ap, subst, ◌∙◌, length-append}
+use Rattle.std.specs.Prelude.{ℕ, ◌+◌, ◌*◌, ◌≡◌, Bool, cond, length}
+use Rattle.std.proofs.Common.{sym, ap, subst, ◌∙◌, length-append}
 use native.Mathlib.Omega.{arith}
 use mathlib.Core.List.{List, [], ◌∷◌, ◌++◌, map, flat_map}
-use Rattle.std.proofs.Math.Nat.{mul-add}
-use Rattle.lists.specs.Lists.{below, keep}
+use Rattle.lists.specs.Lists.{keep}
 use Rattle.lists.specs.Members.{flat_map_append}
-use Rattle.lists.specs.Rows.{rows_more, flat_map_map, flat_map_keep}
+use Rattle.lists.specs.Rows.{flat_map_map, flat_map_keep}
 use Rattle.rules.specs.Fields.{bytes16, bytes32, field_bytes}
 use Rattle.rules.specs.Frame.{Record, framed, framed_all}
 use Rattle.rules.specs.Body.{rec}
 use Rattle.fields.specs.Wrote.{Wrote, wrote_more}
 use Rattle.fields.specs.Tabled.{length_bytes32, length_field_bytes}
-use Rattle.stages_out.specs.Writing.{Rowed}
 
 -- the same bytes by another name
 pub wrote_as : (xs ys before after : List ℕ) (at q : ℕ) → xs ≡ ys → Wrote before at xs after q → Wrote before at ys after q
@@ -53,26 +51,3 @@ records_more before mid after at p q rs ss u w = rw flat_map_append (wrote_more 
 -- a record for each member that passes a test
 pub records_kept : {A B : Type 0} (r : B → Record) (g : A → B) (p : A → Bool) (l : List A) → flat_map (λ x. cond (p x) (framed (r (g x))) []) l ≡ framed_all (map r (map g (keep p l)))
 records_kept r g p l = sym (flat_map_map framed r (map g (keep p l)) ∙ flat_map_map (λ y. framed (r y)) g (keep p l) ∙ flat_map_keep (λ x. framed (r (g x))) p l)
-
--- ROWS
-
--- rows without bytes add none
-rows_none : (f : ℕ → List ℕ) (i d : ℕ) → ((k : ℕ) → i ≤ k → k < i + d → f k ≡ []) → flat_map f (below (i + d)) ≡ flat_map f (below i)
-rows_none f i zero none = let z : i + zero ≡ i = omega arith in ap (λ n. flat_map f (below n)) z
-rows_none f i (suc d) none =
-    let z : i + suc d ≡ (i + d) + 1 = omega arith in
-    ap (λ n. flat_map f (below n)) z ∙ rows_more f (i + d)
-    ∙ ap (λ r. flat_map f (below (i + d)) ++ r) (none (i + d) (omega arith) (omega arith)) ∙ append-nil (flat_map f (below (i + d)))
-    ∙ rows_none f i d (λ k low high. none k low (omega (arith, high)))
-
--- and are written at once
-pub rowed_skip : {f : ℕ → List ℕ} {most : ℕ} {before : List ℕ} {at : ℕ} {after : List ℕ} {p i j : ℕ} → Rowed f most before at after p i → i ≤ j
-    → ((k : ℕ) → i ≤ k → k < j → f k ≡ []) → Rowed f most before at after p j
-rowed_skip {f = f} {most = most} {i = i} {j = j} R le none =
-    let z : i + (j - i) ≡ j = omega (arith, le) in
-    let same : flat_map f (below i) ≡ flat_map f (below j) =
-    sym (rows_none f i (j - i) (λ k low high. none k low (omega (arith, high, z)))) ∙ ap (λ n. flat_map f (below n)) z in
-    record {
-      wrote = wrote_as (flat_map f (below i)) (flat_map f (below j)) _ _ _ _ same R.wrote;
-      small = let e : most * j ≡ most * i + most * (j - i) = ap (λ n. most * n) (sym z) ∙ mul-add most i (j - i) in omega (arith, R.small, e);
-    }

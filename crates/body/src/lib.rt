@@ -11,22 +11,24 @@ ghost use Rattle.rules.specs.Join.{active_edges};
 ghost use Rattle.rules.specs.Job.{face_at};
 ghost use Rattle.rules.specs.Shells.{shell_faces, voids_of, lump_of, lumps};
 ghost use Rattle.rules.specs.Groups.{members_of, Lowest};
-ghost use Rattle.rules.specs.Body.{rec, still_active, meet, met_fans, points_in, member_at, member_fields, members_record, item_fields, loop_record, vertex_loop_record, edge_record, face_records, lump_records, totals_record, body_records, empty_body};
+ghost use Rattle.rules.specs.Body.{rec, still_active, meet, met_fans, points_in, member_at, member_fields, members_record, item_fields, loop_record};
+ghost use Rattle.rules.specs.Body.{vertex_loop_record, edge_record, face_records, lump_records, totals_record, body_records, empty_body};
 ghost use Rattle.rules.specs.Sew.{fitting, Ends};
 ghost use Rattle.fields.specs.Wrote.{Wrote};
-ghost use Rattle.members.specs.Group.{Chained, Leading};
+ghost use Rattle.members.specs.Group.{Leading};
 ghost use Rattle.shells.specs.Table.{nested_one};
 ghost use Rattle.body.specs.Numbers.{Numbering, number_of, vertex_in, placed, items_by, loops_by};
 ghost use Rattle.body.specs.Vertices.{EndOk, EdgeOk, EndsOk, Meeting};
-ghost use Rattle.body.specs.Solids.{record_number, totals_in, head_record, face_loops, merged_faces, nested_by, body_in, Sized};
+ghost use Rattle.body.specs.Solids.{record_number, totals_in, head_record, merged_faces, nested_by, body_in, Sized};
 
-use fields::{Span, UNSET, get, put, put_head, put_word, span_at};
+use edges::Joining;
+use fields::{UNSET, get, put, put_head, put_word};
 use loaded::Loaded;
-use members::{chain, group_size};
+use members::Members;
 use merge_faces::Faces;
 use rules::{EdgeData, KeptVertexLoop, Refusal};
 use shells::ShellRow;
-use stages_out::{count_shell_faces, fits, put_shell_faces, put_two};
+use stages_out::{count_shell_faces, put_shell_faces, put_two, write_fitting};
 
 // The kinds of a body's records.
 #[derive(Clone, Copy)]
@@ -68,10 +70,7 @@ pub struct Solid<'a> {
     pub job: &'a Loaded<'a>,
     pub faces: &'a Faces,
     pub starts: &'a [u32],
-    pub rows: &'a [EdgeData],
-    pub items: &'a [u32],
-    pub stretches: &'a [Span],
-    pub loop_faces: &'a [u32],
+    pub joining: &'a Joining<'a>,
     pub kept: &'a [KeptVertexLoop],
     pub shells: &'a [ShellRow],
 }
@@ -273,24 +272,23 @@ fn put_loop(part: &[u32], numbers: &[u32], count: usize, out: &mut [u8], at: usi
     put_items(part, numbers, count, out, p)
 }
 
-// The loops of merged face f. By number, and not over `zip`, where the facts of a loop are of the pairs so far.
+// The loops of merged face f.
 fn put_loops(
-    s: &Solid<'_>,
+    j: &Joining<'_>,
     numbers: &[u32],
     count: usize,
     f: usize,
     out: &mut [u8],
     at: usize,
 ) -> usize
-    requires { (at < 2 ^ 55) × Sized s.now }
-    ensures { Wrote out.old at (framed_all (map loop_record (loops_by numbers.now count (face_loops s.now) f))) out.new result × (result ≤ at + 33566720) }
+    requires { at < 2 ^ 55 }
+    ensures { Wrote out.old at (framed_all (map loop_record (loops_by numbers.now count j.now.loops f))) out.new result × (result ≤ at + 33566720) }
 {
+    let faces = j.loop_faces();
     let mut p = at;
-    for (k, face) in s.loop_faces.iter().enumerate() {
+    for (k, face) in faces.iter().enumerate() {
         if *face as usize == f {
-            let span = span_at(s.stretches, k);
-            let part = &s.items[span.start as usize..span.end as usize];
-            p = put_loop(part, numbers, count, out, p);
+            p = put_loop(j.loop_items(k), numbers, count, out, p);
         }
     }
     p
@@ -321,7 +319,6 @@ fn put_face(job: &Loaded<'_>, r: usize, out: &mut [u8], at: usize) -> usize
 }
 
 // Body and source face of selected face i.
-#[tactic(auto, using(fields::specs::Tabled::length_field_bytes))]
 fn put_member(job: &Loaded<'_>, i: usize, out: &mut [u8], at: usize) -> usize
     requires { at < 2 ^ 58 }
     ensures { Wrote out.old at (field_bytes (member_fields (member_at job.now.faces i))) out.new result × (result ≤ at + 8) }
@@ -330,62 +327,42 @@ fn put_member(job: &Loaded<'_>, i: usize, out: &mut [u8], at: usize) -> usize
     put_two(out, at, face.body as usize, face.source as usize)
 }
 
-// Body and source face of each selected face of the merged group with label m, ascending: from the lowest, which is
-// the label, along the chain.
-fn put_group(
+// Body and source face of each member of the merged group with label m, ascending.
+fn put_members(
     job: &Loaded<'_>,
-    groups: &[u32],
-    next: &[u32],
+    members: &Members<'_>,
     m: usize,
     out: &mut [u8],
     at: usize,
 ) -> usize
-    requires { (at < 2 ^ 57) × Chained groups.now next.now × Leading groups.now m }
-    ensures { Wrote out.old at (field_bytes (flat_map member_fields (map (member_at job.now.faces) (members_of groups.now m)))) out.new result × (result ≤ at + 2048) }
+    requires { (at < 2 ^ 56) × Leading members.now m }
+    ensures { Wrote out.old at (framed (members_record (map (member_at job.now.faces) (members_of members.now m)))) out.new result × (result ≤ at + 2054) }
 {
-    let mut p = at;
-    let mut i = m;
-    while i < groups.len() {
+    let size = members.count(m);
+    let mut p = put_head(out, at, BodyRecord::Members.number(), 2 * size);
+    for i in members.of(m) {
         p = put_member(job, i, out, p);
-        i = get(next, i);
     }
     p
 }
 
-// The members of the merged group with label m, two fields for each.
-fn put_members(
-    job: &Loaded<'_>,
-    groups: &[u32],
-    next: &[u32],
-    m: usize,
-    out: &mut [u8],
-    at: usize,
-) -> usize
-    requires { (at < 2 ^ 56) × Chained groups.now next.now × Leading groups.now m }
-    ensures { Wrote out.old at (framed (members_record (map (member_at job.now.faces) (members_of groups.now m)))) out.new result × (result ≤ at + 2054) }
-{
-    let size = group_size(groups, next, m);
-    let p = put_head(out, at, BodyRecord::Members.number(), 2 * size);
-    put_group(job, groups, next, m, out, p)
-}
-
 // The merged faces, each with its members and its loops after it, vertex loops last.
 fn put_faces(s: &Solid<'_>, numbers: &mut [u32], out: &mut [u8], at: usize) -> usize
-    requires { (at < 2 ^ 53) × Sized s.now × (length s.now.rows.now ≤ length numbers.old) }
+    requires { (at < 2 ^ 53) × Sized s.now × (length s.now.joining.now.edges ≤ length numbers.old) }
     ensures { Wrote out.old at (framed_all (flat_map face_records (merged_faces s.now))) out.new result × (result ≤ at + 8596231168) }
 {
-    let count = number_edges(s.rows, numbers);
+    let j = s.joining;
+    let count = number_edges(j.edges, numbers);
     let groups = s.faces.groups();
-    let members = s.faces.members();
     let mut room = [0u32; 256];
-    let next = &mut room[..groups.len()];
-    chain(groups, next);
+    let members = Members::new(groups, &mut room[..groups.len()]);
+    let lowest = s.faces.members();
     let mut p = at;
-    for (f, m) in members.iter().enumerate() {
+    for (f, m) in lowest.iter().enumerate() {
         let m = *m as usize;
         let q = put_face(s.job, m, out, p);
-        let r = put_members(s.job, groups, next, m, out, q);
-        let t = put_loops(s, numbers, count, f, out, r);
+        let r = put_members(s.job, &members, m, out, q);
+        let t = put_loops(j, numbers, count, f, out, r);
         p = put_vertex_loops(s.kept, f, out, t);
     }
     p
@@ -446,22 +423,23 @@ fn put_lumps(faces: &Faces, shells: &[ShellRow], out: &mut [u8], at: usize) -> u
 
 // All records of a body; `numbers` and `vertices` are spare tables.
 fn put_records(s: &Solid<'_>, numbers: &mut [u32], vertices: &mut [u32], out: &mut [u8]) -> usize
-    requires { Sized s.now × (length s.now.rows.now ≤ length numbers.old) × EndsOk (length vertices.old) s.now.rows.now }
+    requires { Sized s.now × (length s.now.joining.now.edges ≤ length numbers.old) × EndsOk (length vertices.old) s.now.joining.now.edges }
     ensures { Wrote out.old 0 (framed_all (body_records (body_in s.now))) out.new result }
 {
     put_totals(out, Some(s.totals));
-    let count = put_vertices(s.rows, s.starts, vertices, out, 34);
-    let p = put_edges(s.rows, vertices, count, out, 34 + 10 * count);
+    let j = s.joining;
+    let count = put_vertices(j.edges, s.starts, vertices, out, 34);
+    let p = put_edges(j.edges, vertices, count, out, 34 + 10 * count);
     let q = put_faces(s, numbers, out, p);
     put_lumps(s.faces, s.shells, out, q)
 }
 
 // The body of a job without selected faces: one record, or refusal 40 with the bytes needed.
+#[tactic(auto, using(crate::specs::BodyLaws::empty_is))]
 pub fn put_empty(out: &mut [u8]) -> Result<usize, Refusal>
     ensures { Ends (fitting (length out.old) (framed_all (body_records empty_body))) out.old out.new result }
 {
-    fits(out, 34)?;
-    Ok(put_totals(out, None))
+    write_fitting(out, |out| put_totals(out, None))
 }
 
 // The body of a job with faces: all records, or refusal 40 with the bytes needed. `numbers` and `vertices` are spare
@@ -472,10 +450,8 @@ pub fn put_body(
     vertices: &mut [u32],
     out: &mut [u8],
 ) -> Result<usize, Refusal>
-    requires { Sized s.now × (length s.now.rows.now ≤ length numbers.old) × EndsOk (length vertices.old) s.now.rows.now }
+    requires { Sized s.now × (length s.now.joining.now.edges ≤ length numbers.old) × EndsOk (length vertices.old) s.now.joining.now.edges }
     ensures { Ends (fitting (length out.old) (framed_all (body_records (body_in s.now)))) out.old out.new result }
 {
-    let needed = put_records(s, numbers, vertices, &mut []);
-    fits(out, needed)?;
-    Ok(put_records(s, numbers, vertices, out))
+    write_fitting(out, |out| put_records(s, numbers, vertices, out))
 }

@@ -2,8 +2,7 @@
 use Prim.Native.Nat.{ℕ, zero, ◌+◌, ◌%◌, ◌≤◌, ◌<◌}
 use Rattle.std.proofs.Common.{mod-lt, add-one, ◌∙◌, subst, ⊎_elim, get_or-set_same, get_or-set_other, get_or-take, length-take-le}
 use native.Mathlib.Omega.{arith}
-use Rattle.std.specs.Prelude.{◌≡◌, refl, ◌≢◌, Bool, true, false, ◌&&◌, ◌||◌, List, [], ◌∷◌, length, set, take, replicate, eqb, ltb}
-use Rattle.std.specs.List.{list_any}
+use Rattle.std.specs.Prelude.{◌≡◌, refl, ◌≢◌, Bool, true, false, ◌&&◌, List, ◌∷◌, length, set, take, replicate, eqb, ltb}
 use Rattle.std.proofs.Math.Path.{sym, ap}
 use mathlib.Core.List.Memᴰ
 use Rattle.std.proofs.Math.ListN.{get_or}
@@ -21,12 +20,6 @@ use Rattle.rules.specs.Fans.{fan_point}
 use Rattle.rules.specs.Contact.{use_label, touches}
 use Rattle.fields.specs.Chains.{chain, next_in, Falling, chain_on, chain_below, chain_same}
 use Rattle.contact.specs.Buckets.{stands_with, point_at, Bucketed, touches_earlier}
-
--- a test of some member, as std's iterators have it
-pub some_is : (test : ℕ → Bool) (l : List ℕ) → list_any test l ≡ some test l
-unfolding some
-some_is test [] = refl
-some_is test (x ∷ l) = ap (λ b. test x || b) (some_is test l)
 
 -- ALL EARLIER FANS
 

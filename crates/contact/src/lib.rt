@@ -6,7 +6,7 @@
 ghost use Rattle.std.specs.Prelude.{◌≡◌, ◌+◌, ◌≤◌, ◌<◌, length, get_or, replicate};
 ghost use Rattle.lists.specs.Lists.{repeats, some};
 ghost use Rattle.rules.specs.Pair.{uses_of_edge};
-ghost use Rattle.rules.specs.Contact.{pair_labels, edge_touches, edges_clear, points_clear};
+ghost use Rattle.rules.specs.Contact.{is_lower_use, pair_labels, edge_touches, edges_clear, points_clear};
 ghost use Rattle.fields.specs.Chains.{chain, next_in, Falling};
 ghost use Rattle.contact.specs.Clear.{LowLabels};
 ghost use Rattle.contact.specs.Stamps.{Stale, meets, stamped_by};
@@ -19,42 +19,46 @@ use uses::use_face;
 
 // EDGES
 
+// Pairs of uses by edge: the uses on the chains of their edges, the twin of each use, and a label for each face.
+#[derive(Drop)]
+pub struct LabelledPairs<'a> {
+    pub linked: &'a EdgeUses<'a>,
+    pub twins: &'a [u32],
+    pub labels: &'a [u32],
+}
+
+// Use h is the lower of its pair.
+fn is_lower_use(twins: &[u32], h: usize) -> bool
+    ensures { result ≡ is_lower_use twins.now h }
+{
+    h < get(twins, h)
+}
+
 // Use h is the lower of its pair, and its label was met before at edge e. `stamps` has e + 1 at each label met.
 #[tactic(auto, unfolding(crate::specs::Stamps::meets, crate::specs::Stamps::stamped_by))]
-fn meet(
-    linked: &EdgeUses<'_>,
-    twins: &[u32],
-    labels: &[u32],
-    stamps: &mut [u32],
-    e: usize,
-    h: usize,
-) -> bool
+fn meet(pairs: &LabelledPairs<'_>, stamps: &mut [u32], e: usize, h: usize) -> bool
     requires { e < 1024 }
-    ensures { (result ≡ meets linked.now.uses twins.now labels.now stamps.old e h) × (stamps.new ≡ stamped_by linked.now.uses twins.now labels.now stamps.old e h) }
+    ensures { (result ≡ meets pairs.now.linked.now.uses pairs.now.twins.now pairs.now.labels.now stamps.old e h)
+        × (stamps.new ≡ stamped_by pairs.now.linked.now.uses pairs.now.twins.now pairs.now.labels.now stamps.old e h) }
 {
-    let t = get(twins, h);
-    if t <= h {
+    if !is_lower_use(pairs.twins, h) {
         return false;
     }
-    let l = get(labels, use_face(linked.uses(), h));
+    let l = get(pairs.labels, use_face(pairs.linked.uses(), h));
     let stamp = get(stamps, l);
     put(stamps, l, e + 1);
     stamp == e + 1
 }
 
 // Two pairs of edge e have one label.
-fn pairs_meet(
-    linked: &EdgeUses<'_>,
-    twins: &[u32],
-    labels: &[u32],
-    stamps: &mut [u32],
-    e: usize,
-) -> bool
-    requires { LowLabels labels.now × (e < linked.now.edges) × (e < 1024) × (length stamps.old ≡ 256) × Stale stamps.old e }
-    ensures { (result ≡ repeats (pair_labels linked.now.uses twins.now labels.now (uses_of_edge linked.now.uses e))) × Stale stamps.new (e + 1) }
+fn pairs_meet(pairs: &LabelledPairs<'_>, stamps: &mut [u32], e: usize) -> bool
+    requires { LowLabels pairs.now.labels.now × (e < pairs.now.linked.now.edges) × (e < 1024) × (length stamps.old ≡ 256) × Stale stamps.old e }
+    ensures { (result ≡ repeats (pair_labels pairs.now.linked.now.uses pairs.now.twins.now pairs.now.labels.now (uses_of_edge pairs.now.linked.now.uses e)))
+        × Stale stamps.new (e + 1) }
 {
-    for h in linked.of(e) {
-        if meet(linked, twins, labels, stamps, e, h) {
+    // no `any`: the stamps would have to be written from its closure
+    for h in pairs.linked.of(e) {
+        if meet(pairs, stamps, e, h) {
             return true;
         }
     }
@@ -63,37 +67,27 @@ fn pairs_meet(
 
 // Edge e has more than two uses, and two of its pairs have one label.
 #[tactic(auto, using(crate::specs::StampLaws::stale_on), unfolding(rules::specs::Contact::edge_touches))]
-fn edge_touches(
-    linked: &EdgeUses<'_>,
-    twins: &[u32],
-    labels: &[u32],
-    stamps: &mut [u32],
-    e: usize,
-) -> bool
-    requires { LowLabels labels.now × (e < linked.now.edges) × (e < 1024) × (length stamps.old ≡ 256) × Stale stamps.old e }
-    ensures { (result ≡ edge_touches linked.now.uses twins.now labels.now e) × Stale stamps.new (e + 1) }
+fn edge_touches(pairs: &LabelledPairs<'_>, stamps: &mut [u32], e: usize) -> bool
+    requires { LowLabels pairs.now.labels.now × (e < pairs.now.linked.now.edges) × (e < 1024) × (length stamps.old ≡ 256) × Stale stamps.old e }
+    ensures { (result ≡ edge_touches pairs.now.linked.now.uses pairs.now.twins.now pairs.now.labels.now e) × Stale stamps.new (e + 1) }
 {
-    let n = linked.count(e);
+    let n = pairs.linked.count(e);
     if n <= 2 {
         return false;
     }
-    pairs_meet(linked, twins, labels, stamps, e)
+    pairs_meet(pairs, stamps, e)
 }
 
 // Pairs: the lowest edge with more than two uses of which two pairs have one label.
 #[tactic(auto, using(crate::specs::ClearLaws::none_done))]
-pub fn edges_clear(
-    fault: Fault,
-    linked: &EdgeUses<'_>,
-    twins: &[u32],
-    labels: &[u32],
-) -> Result<(), Refusal>
-    requires { LowLabels labels.now × (linked.now.edges ≤ 1024) }
-    ensures { result ≡ edges_clear fault linked.now.uses twins.now labels.now linked.now.edges }
+pub fn edges_clear(fault: Fault, pairs: &LabelledPairs<'_>) -> Result<(), Refusal>
+    requires { LowLabels pairs.now.labels.now × (pairs.now.linked.now.edges ≤ 1024) }
+    ensures { result ≡ edges_clear fault pairs.now.linked.now.uses pairs.now.twins.now pairs.now.labels.now pairs.now.linked.now.edges }
 {
     let mut stamps = [0u32; 256];
-    for e in 0..linked.edges() {
-        if edge_touches(linked, twins, labels, &mut stamps, e) {
+    // by number: of an edge only its number is looked at, and a `find` would have to write the stamps from its closure
+    for e in 0..pairs.linked.edges() {
+        if edge_touches(pairs, &mut stamps, e) {
             return Err(Refusal { fault, place: e });
         }
     }
@@ -102,29 +96,29 @@ pub fn edges_clear(
 
 // POINTS
 
+// Fans, each named by one of its uses, with the uses, the point where each use starts, and a label for each face.
+#[derive(Clone, Copy)]
+pub struct LabelledFans<'a> {
+    pub uses: &'a [Use],
+    pub starts: &'a [u32],
+    pub labels: &'a [u32],
+    pub names: &'a [u32],
+}
+
 // Fan g stands at point p and has label l.
 #[tactic(auto, unfolding(crate::specs::Buckets::stands_with))]
-fn stands_with(uses: &[Use], starts: &[u32], labels: &[u32], p: usize, l: usize, g: usize) -> bool
-    ensures { result ≡ stands_with uses.now starts.now labels.now p l g }
+fn stands_with(fans: &LabelledFans<'_>, p: usize, l: usize, g: usize) -> bool
+    ensures { result ≡ stands_with fans.now.uses.now fans.now.starts.now fans.now.labels.now p l g }
 {
-    p == get(starts, g) && l == get(labels, use_face(uses, g))
+    p == get(fans.starts, g) && l == get(fans.labels, use_face(fans.uses, g))
 }
 
 // One of the fans on a chain stands at point p and has label l. A chain's entries are places in `names` plus one.
-fn one_stands(
-    uses: &[Use],
-    starts: &[u32],
-    labels: &[u32],
-    names: &[u32],
-    nexts: &[u32],
-    entry: usize,
-    p: usize,
-    l: usize,
-) -> bool
+fn one_stands(fans: &LabelledFans<'_>, nexts: &[u32], entry: usize, p: usize, l: usize) -> bool
     requires { Falling (next_in nexts.now) }
-    ensures { result ≡ some (λ k. stands_with uses.now starts.now labels.now p l (get_or names.now k 0)) (chain (next_in nexts.now) entry) }
+    ensures { result ≡ some (λ k. stands_with fans.now.uses.now fans.now.starts.now fans.now.labels.now p l (get_or fans.now.names.now k 0)) (chain (next_in nexts.now) entry) }
 {
-    Chain::new(nexts, entry).any(|k| stands_with(uses, starts, labels, p, l, get(names, k)))
+    Chain::new(nexts, entry).any(|k| stands_with(fans, p, l, get(fans.names, k)))
 }
 
 // Point p is lower than the lowest point so far.
@@ -136,37 +130,34 @@ fn is_lower(p: usize, lowest: Option<usize>) -> bool
 
 // The lowest point so far, or the point of the fan at place k where that is lower and the fan touches an earlier one.
 fn lower(
-    uses: &[Use],
-    starts: &[u32],
-    labels: &[u32],
-    names: &[u32],
+    fans: &LabelledFans<'_>,
     heads: &[u32],
     nexts: &[u32],
     k: usize,
     lowest: Option<usize>,
 ) -> Option<usize>
-    requires { (k < length names.now) × (0 < length heads.now) × Bucketed (length heads.now) starts.now names.now heads.now nexts.now k }
-    ensures { result ≡ lowered uses.now starts.now labels.now names.now k lowest }
+    requires { (k < length fans.now.names.now) × (0 < length heads.now) × Bucketed (length heads.now) fans.now.starts.now fans.now.names.now heads.now nexts.now k }
+    ensures { result ≡ lowered fans.now.uses.now fans.now.starts.now fans.now.labels.now fans.now.names.now k lowest }
 {
-    let f = get(names, k);
-    let p = get(starts, f);
+    let f = get(fans.names, k);
+    let p = get(fans.starts, f);
     if !is_lower(p, lowest) {
         return lowest;
     }
     let entry = get(heads, p % heads.len());
-    let l = get(labels, use_face(uses, f));
-    if one_stands(uses, starts, labels, names, nexts, entry, p, l) {
+    let l = get(fans.labels, use_face(fans.uses, f));
+    if one_stands(fans, nexts, entry, p, l) {
         return Some(p);
     }
     lowest
 }
 
 // The fan at place k on the chain of its point.
-fn enter(starts: &[u32], names: &[u32], heads: &mut [u32], nexts: &mut [u32], k: usize)
-    requires { (k < length nexts.old) × (k < 2048) × (0 < length heads.old) × Bucketed (length heads.old) starts.now names.now heads.old nexts.old k }
-    ensures { Bucketed (length heads.old) starts.now names.now heads.new nexts.new (k + 1) }
+fn enter(fans: &LabelledFans<'_>, heads: &mut [u32], nexts: &mut [u32], k: usize)
+    requires { (k < length nexts.old) × (k < 2048) × (0 < length heads.old) × Bucketed (length heads.old) fans.now.starts.now fans.now.names.now heads.old nexts.old k }
+    ensures { Bucketed (length heads.old) fans.now.starts.now fans.now.names.now heads.new nexts.new (k + 1) }
 {
-    let p = get(starts, get(names, k));
+    let p = get(fans.starts, get(fans.names, k));
     let b = p % heads.len();
     let entry = get(heads, b);
     put(nexts, k, entry);
@@ -177,21 +168,21 @@ fn enter(starts: &[u32], names: &[u32], heads: &mut [u32], nexts: &mut [u32], k:
 #[tactic(auto, using(crate::specs::ContactLaws::lowest_more, crate::specs::ContactLaws::lowest_found, crate::specs::ContactLaws::lowest_nowhere))]
 fn points_chained(
     fault: Fault,
-    uses: &[Use],
-    starts: &[u32],
-    labels: &[u32],
-    names: &[u32],
+    fans: &LabelledFans<'_>,
     heads: &mut [u32],
     nexts: &mut [u32],
 ) -> Result<(), Refusal>
-    requires room { (0 < length heads.old) × (length names.now ≤ length nexts.old) × (length nexts.old ≤ 2048) }
+    requires room { (0 < length heads.old) × (length fans.now.names.now ≤ length nexts.old) × (length nexts.old ≤ 2048) }
     requires blank { (heads.old ≡ replicate (length heads.old) 0) × (nexts.old ≡ replicate (length nexts.old) 0) }
-    ensures { result ≡ points_clear fault uses.now starts.now labels.now names.now }
+    ensures { result ≡ points_clear fault fans.now.uses.now fans.now.starts.now fans.now.labels.now fans.now.names.now }
 {
+    // a copy of its own: what is stored in the chains cannot be a part of it, so that it is not read anew for each fan
+    let own = *fans;
     let mut lowest = None;
-    for k in 0..names.len() {
-        lowest = lower(uses, starts, labels, names, heads, nexts, k, lowest);
-        enter(starts, names, heads, nexts, k);
+    // by number: the chains have places in `names`, and a turn looks at earlier ones
+    for k in 0..own.names.len() {
+        lowest = lower(&own, heads, nexts, k, lowest);
+        enter(&own, heads, nexts, k);
     }
     if let Some(place) = lowest {
         return Err(Refusal { fault, place });
@@ -202,34 +193,25 @@ fn points_chained(
 // In tables of `HEADS` chains for up to `FANS` fans.
 fn points_in<const HEADS: usize, const FANS: usize>(
     fault: Fault,
-    uses: &[Use],
-    starts: &[u32],
-    labels: &[u32],
-    names: &[u32],
+    fans: &LabelledFans<'_>,
 ) -> Result<(), Refusal>
-    requires { (0 < HEADS) × (HEADS ≤ FANS) × (length names.now ≤ FANS) × (FANS ≤ 2048) }
-    ensures { result ≡ points_clear fault uses.now starts.now labels.now names.now }
+    requires { (0 < HEADS) × (HEADS ≤ FANS) × (length fans.now.names.now ≤ FANS) × (FANS ≤ 2048) }
+    ensures { result ≡ points_clear fault fans.now.uses.now fans.now.starts.now fans.now.labels.now fans.now.names.now }
 {
     let mut heads = [0u32; HEADS];
     let mut nexts = [0u32; FANS];
-    points_chained(fault, uses, starts, labels, names, &mut heads, &mut nexts)
+    points_chained(fault, fans, &mut heads, &mut nexts)
 }
 
 // In the tables that the fans need: clearing those for 2,048 fans costs more than all else of a small part. These fans
 // stand at up to 1,024 points, on 512 chains, so that two points share one: a head for every point would make sewing's
 // stack deeper.
-pub fn points_clear(
-    fault: Fault,
-    uses: &[Use],
-    starts: &[u32],
-    labels: &[u32],
-    names: &[u32],
-) -> Result<(), Refusal>
-    requires { length names.now ≤ 2048 }
-    ensures { result ≡ points_clear fault uses.now starts.now labels.now names.now }
+pub fn points_clear(fault: Fault, fans: &LabelledFans<'_>) -> Result<(), Refusal>
+    requires { length fans.now.names.now ≤ 2048 }
+    ensures { result ≡ points_clear fault fans.now.uses.now fans.now.starts.now fans.now.labels.now fans.now.names.now }
 {
-    if names.len() <= 64 {
-        return points_in::<64, 64>(fault, uses, starts, labels, names);
+    if fans.names.len() <= 64 {
+        return points_in::<64, 64>(fault, fans);
     }
-    points_in::<512, 2048>(fault, uses, starts, labels, names)
+    points_in::<512, 2048>(fault, fans)
 }

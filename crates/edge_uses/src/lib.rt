@@ -35,9 +35,9 @@ pub fn link<'a>(uses: &'a [Use], firsts: &'a mut [u32], nexts: &'a mut [u32]) ->
     requires { (firsts.old ≡ replicate (length firsts.old) 0) × (length nexts.old ≡ length uses.now) × (length nexts.old ≤ 2048) }
     ensures { (result.uses ≡ uses.now) × (result.edges ≡ length firsts.old) }
 {
-    for h in 0..nexts.len() {
+    for (h, next) in nexts.iter_mut().enumerate() {
         let e = use_edge(uses, h);
-        put(nexts, h, get(firsts, e));
+        *next = get(firsts, e) as u32;
         put(firsts, e, h + 1);
     }
     EdgeUses {

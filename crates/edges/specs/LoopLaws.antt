@@ -1,13 +1,15 @@
 -- The loops as items: what the tables of items, stretches and faces stand for.
-use Rattle.std.specs.Prelude.{ℕ, ◌+◌, ◌*◌, ◌/◌, ◌%◌, ◌<◌, ◌≤◌, min, ◌≡◌, List, map, Bool, length, get_or, take}
-use Rattle.std.proofs.Common.{arith, sym, ap, subst, ◌∙◌, length-take, get_or-take}
+use Rattle.std.specs.Prelude.{ℕ, ◌+◌, ◌*◌, ◌/◌, ◌%◌, ◌<◌, min, ◌≡◌, refl, List, [], map, Bool, length, get_or}
+use Rattle.std.proofs.Common.{arith, sym, ap, subst, ◌∙◌}
+use Rattle.std.proofs.lemmas.List.{length-map}
 use Rattle.std.proofs.lemmas.Simd.{map-map}
 use Rattle.fields.specs.declared.Span.{Span}
-use Rattle.fields.specs.Spans.{no_span, span_at}
+use Rattle.fields.specs.Spans.{span_at}
 use Rattle.lists.specs.Lists.{below, ◌∈◌, index_of}
 use Rattle.lists.specs.Runs.{below_in, length_table, get_or_table}
-use Rattle.lists.specs.Members.{in_map, map_same}
+use Rattle.lists.specs.Members.{in_map, map_same, get_or_map}
 use Rattle.lists.specs.Stretches.{stretch_map}
+use Rattle.lists.specs.Tables.{table_is}
 use Rattle.rules.specs.declared.Sense.{Sense}
 use Rattle.rules.specs.declared.Sense.TheVariants.{Same, Reversed}
 use Rattle.rules.specs.declared.Use.{Use}
@@ -15,7 +17,7 @@ use Rattle.rules.specs.Sense.{sense_of, sense_number}
 use Rattle.rules.specs.Read.{use_at}
 use Rattle.rules.specs.Pair.{twin_of}
 use Rattle.rules.specs.Edges.{lower_uses, item_of, FaceLoop, face_loop, face_loops}
-use Rattle.edges.specs.Table.{item_in, item_code, loop_at, loop_face, face_loops_in, Laid}
+use Rattle.edges.specs.Table.{item_in, item_code, loop_at, loop_face, faces_of, face_loop_at, face_loops_in}
 
 -- ITEMS
 
@@ -63,20 +65,27 @@ face_loops_lem us ts rm numbers owns ways stretches n loops e owners =
     loop : ℕ → FaceLoop
     loop k = record { face = get_or (map (loop_face us numbers ways stretches) (below n)) k 0; items = map item_in (loop_at (map (item_code us owns) ways) (span_at stretches k)) }
 
--- THE FIRST PART OF A TABLE OF STRETCHES
+-- ONE LOOP
 
--- n loops that follow one another
-pub laid_first : (stretches : List Span) (items : List ℕ) (n : ℕ) → ((k : ℕ) → k < n → (span_at stretches k).start ≤ (span_at stretches k).end)
-    → ((k : ℕ) → k + 1 < n → (span_at stretches (k + 1)).start ≡ (span_at stretches k).end)
-    → ((k : ℕ) → k < n → (span_at stretches k).end ≤ length items) → Laid (take n stretches) items
-laid_first stretches items n order follow inside = record {
-  order = λ k q. rw (first k (below_n k q)) (order k (below_n k q));
-  inside = λ k q. rw (first k (below_n k q)) (inside k (below_n k q));
-  apart = λ k q. let b : k + 1 < n = below_n (k + 1) q in rw (first k (omega arith), first (k + 1) b) (omega (arith, follow k b));
-}
-  where
-    below_n : (k : ℕ) → k < length (take n stretches) → k < n
-    below_n k q = omega (arith, length-take n stretches)
+module _ (items : List ℕ) (stretches : List Span) (faces : List ℕ) where
+  pub loops_length : length (face_loops_in items stretches faces) ≡ length faces
+  unfolding face_loops_in
+  loops_length = length_table (λ k. record { face = get_or faces k 0; items = map item_in (loop_at items (span_at stretches k)) }) (length faces)
 
-    first : (k : ℕ) → k < n → span_at (take n stretches) k ≡ span_at stretches k
-    first k b = get_or-take n stretches k no_span b
+  pub faces_are : faces ≡ faces_of (face_loops_in items stretches faces)
+  unfolding face_loops_in
+  faces_are =
+      table_is (λ k. get_or faces k 0) faces (length faces) 0 refl (λ i h. refl)
+      ∙ sym (map-map (λ (l : FaceLoop). l.face) (λ k. record { face = get_or faces k 0; items = map item_in (loop_at items (span_at stretches k)) }) (below (length faces)))
+
+  pub loop_is : (k : ℕ) → k < length faces → face_loop_at (face_loops_in items stretches faces) k ≡ record { face = get_or faces k 0; items = map item_in (loop_at items (span_at stretches k)) }
+  unfolding face_loops_in
+  loop_is k b = get_or_table (λ k. record { face = get_or faces k 0; items = map item_in (loop_at items (span_at stretches k)) }) (length faces) k (record { face = 0; items = [] }) b
+
+-- as many faces as loops
+pub faces_count : (loops : List FaceLoop) {faces : List ℕ} → faces ≡ faces_of loops → length faces ≡ length loops
+faces_count loops e = ap length e ∙ length-map loops (λ (l : FaceLoop). l.face)
+
+-- the merged face of loop k, as it stands in a table of the faces
+pub face_at : (loops : List FaceLoop) {faces : List ℕ} (k : ℕ) → faces ≡ faces_of loops → k < length faces → get_or faces k 0 ≡ (face_loop_at loops k).face
+face_at loops k e h = ap (λ l. get_or l k 0) e ∙ get_or_map (λ (l : FaceLoop). l.face) loops k 0 (record { face = 0; items = [] }) (omega (arith, h, faces_count loops e))

@@ -1,10 +1,9 @@
 -- The edges made use by use: the table, and the edge that each kept use is of.
 use Rattle.std.specs.Prelude.{ℕ, ◌+◌, ◌<◌, ◌≤◌, min, ◌≡◌, refl, ◌≢◌, List, [], ◌∷◌, ◌++◌, map, Bool, true, false, not, cond, length, get_or, set, take, ltb}
-use Rattle.std.proofs.Math.Decide.{ℕ_discrete, dec_lt}
-use Rattle.std.proofs.Common.{not-suc-le-zero, add-one, take-suc-set, arith, sym, ap, subst, ◌∙◌, ⊎_elim, true≢false, lt-ltb, ltb-true}
+use Rattle.std.proofs.Common.{not-suc-le-zero, add-one, take-suc-set, arith, sym, ap, ◌∙◌, ⊎_elim, ltb-true}
 use Rattle.std.proofs.lemmas.Grind.{common_steps}
 use Rattle.lists.specs.Lists.{from, below, keep, index_of}
-use Rattle.lists.specs.Tests.{both_ways, and_both, both_and, not_is}
+use Rattle.lists.specs.Tests.{both_ways, and_both}
 use Rattle.lists.specs.Runs.{length_below}
 use Rattle.lists.specs.Members.{keep_length, map_append}
 use Rattle.lists.specs.Tables.{set_two, length_snoc}
@@ -59,27 +58,11 @@ so_far_none ts rm make owns₀ rows = record {
 -- a kept use whose pair's lower use is i
 module _ (ts : List ℕ) (rm : List Bool) (mated : Mated ts rm) where
   lower_kept_lem : (h : ℕ) → h < length ts → is_removed rm h ≡ false → lower_kept ts rm (lower_of ts h) ≡ true
-  lower_kept_lem h b k =
-      elim (dec_lt h (twin_of ts h)) [
-        | yes l ↦
-            let e : lower_of ts h ≡ h = omega arith in
-            ap (lower_kept ts rm) e ∙ both_and _ _ (not_is (is_removed rm h) k) (lt-ltb h (twin_of ts h) l)
-        | no l ↦
-            let e : lower_of ts h ≡ twin_of ts h = omega arith in
-            let l' : twin_of ts h < twin_of ts (twin_of ts h) = omega (arith, mated.twice h b, mated.other h b) in
-            ap (lower_kept ts rm) e
-            ∙ both_and _ _ (not_is (is_removed rm (twin_of ts h)) (mated.together h b ∙ k)) (lt-ltb (twin_of ts h) (twin_of ts (twin_of ts h)) l')
-      ]
+  lower_kept_lem h b k = grind (arith, common_steps)
 
   -- the uses of a pair are its lower use and the twin of that
   pair_of : (h i : ℕ) → h < length ts → lower_of ts h ≡ i → h ≢ i → h ≢ twin_of ts i → ⊥
-  pair_of h i b e n m =
-      elim (dec_lt h (twin_of ts h)) [
-        | yes l ↦ n (omega arith)
-        | no l ↦
-            let f : twin_of ts h ≡ i = omega arith in
-            m (sym (mated.twice h b) ∙ ap (twin_of ts) f)
-      ]
+  pair_of h i b e n m = grind (arith, common_steps)
 
 module _ (ts : List ℕ) (rm : List Bool) (make : ℕ → EdgeData) (few_uses : length ts ≤ 2048) (owns₀ : List ℕ) where
   so_far_below : (rows : List EdgeData) (owns : List ℕ) (count i : ℕ) → SoFar ts rm make owns₀ rows owns count i → count ≤ i
@@ -111,14 +94,10 @@ module _ (ts : List ℕ) (rm : List Bool) (make : ℕ → EdgeData) (few_uses : 
             (λ _ _ _. let e : i ≡ lower_of ts i = omega arith in s.counted ∙ ap (λ k. length (keep (lower_kept ts rm) (below k))) e)
             (λ _ _ _. let e : i ≡ lower_of ts (twin_of ts i) = omega (arith, m.twice i h) in s.counted ∙ ap (λ k. length (keep (lower_kept ts rm) (below k))) e)
             g
-            (λ ni nt b u l. s.owners m g b u (earlier m g b l ni nt (ℕ_discrete (lower_of ts g) i)))
+            (λ ni nt b u l. s.owners m g b u (let other = pair_of ts rm m g i b in grind (arith, other)))
             b u l;
         few = λ j q. set_at_most (set owns i count) (twin_of ts i) count j 2048 (omega arith) (set_at_most owns i count j 2048 (omega arith) (s.few j q));
       }
-    where
-      earlier : Mated ts rm → (g : ℕ) → g < length ts → lower_of ts g < i + 1 → g ≢ i → g ≢ twin_of ts i → Dec (lower_of ts g ≡ i) → lower_of ts g < i
-      earlier m g b l ni nt (yes e) = absurd (pair_of ts rm m g i b e ni nt)
-      earlier m g b l ni nt (no e) = omega (arith, e)
 
   less : (rows : List EdgeData) (owns : List ℕ) (count i : ℕ) → SoFar ts rm make owns₀ rows owns count i → i < length ts → lower_kept ts rm i ≡ false
       → SoFar ts rm make owns₀ rows owns count (i + 1)
@@ -128,31 +107,17 @@ module _ (ts : List ℕ) (rm : List Bool) (make : ℕ → EdgeData) (few_uses : 
         within = omega arith;
         counted = s.counted ∙ sym (ap length same);
         edges = s.edges ∙ sym (ap (map make) same);
-        owners = λ m g b u l. s.owners m g b u (earlier m g b u l (ℕ_discrete (lower_of ts g) i));
+        owners = λ m g b u l. s.owners m g b u (let low = lower_kept_lem ts rm m g b u in grind (arith, low));
         few = s.few;
       }
-    where
-      earlier : Mated ts rm → (g : ℕ) → g < length ts → is_removed rm g ≡ false → lower_of ts g < i + 1 → Dec (lower_of ts g ≡ i) → lower_of ts g < i
-      earlier m g b u l (yes e) = absurd (true≢false (sym (lower_kept_lem ts rm m g b u) ∙ ap (lower_kept ts rm) e ∙ k))
-      earlier m g b u l (no e) = omega (arith, e)
 
   -- one use more
   pub so_far_step : (rows : List EdgeData) (owns : List ℕ) (rows' : List EdgeData) (owns' : List ℕ) (count i r : ℕ) → length ts ≤ length rows → length owns ≡ length ts
       → SoFar ts rm make owns₀ rows owns count i → i < length ts
       → OneEdge ts rm (make i) i count rows owns rows' owns' r → SoFar ts rm make owns₀ rows' owns' r (i + 1)
   so_far_step rows owns rows' owns' count i r roomy sizes s h o =
-      ⊎_elim
-      (λ k. by (set rows count (make i)) (set (set owns i count) (twin_of ts i) count) (count + 1) (o.table ∙ ap (λ b. cond b (set rows count (make i)) rows) k)
-      (o.owners ∙ ap (λ b. cond b (set (set owns i count) (twin_of ts i) count) owns) k) (o.next ∙ ap (λ b. cond b (count + 1) count) k) (more rows owns count i roomy sizes s h k))
-      (λ k. by rows owns count (o.table ∙ ap (λ b. cond b (set rows count (make i)) rows) k)
-      (o.owners ∙ ap (λ b. cond b (set (set owns i count) (twin_of ts i) count) owns) k) (o.next ∙ ap (λ b. cond b (count + 1) count) k) (less rows owns count i s h k))
-      (both_ways (lower_kept ts rm i))
-    where
-      by : (a : List EdgeData) (b : List ℕ) (n : ℕ) → rows' ≡ a → owns' ≡ b → r ≡ n → SoFar ts rm make owns₀ a b n (i + 1) → SoFar ts rm make owns₀ rows' owns' r (i + 1)
-      by a b n ea eb en s =
-          subst (λ n. SoFar ts rm make owns₀ rows' owns' n (i + 1)) (sym en)
-          (subst (λ b. SoFar ts rm make owns₀ rows' b n (i + 1)) (sym eb)
-          (subst (λ a. SoFar ts rm make owns₀ a b n (i + 1)) (sym ea) s))
+      rw (o.table, o.owners, o.next)
+      (⊎_elim (λ k. rw k (more rows owns count i roomy sizes s h k)) (λ k. rw k (less rows owns count i s h k)) (both_ways (lower_kept ts rm i)))
 
 -- all of them: the edges, how many, and for each kept use the number of its pair's edge
 pub record Made (es : List Edge) (us : List Use) (ts : List ℕ) (rm : List Bool) (numbers ss g owns₀ : List ℕ) (rows : List EdgeData) (owns : List ℕ) (r : ℕ) : Type 0 where

@@ -1,9 +1,10 @@
 -- The loops of the result as stretches of one list of items, each item a number.
-use Rattle.std.specs.Prelude.{ℕ, ◌+◌, ◌*◌, ◌/◌, ◌%◌, ◌<◌, ◌≤◌, List, map, length, get_or}
+use Rattle.std.specs.Prelude.{ℕ, ◌+◌, ◌*◌, ◌/◌, ◌%◌, ◌<◌, ◌≤◌, List, [], map, length, get_or}
 use Rattle.fields.specs.declared.Span.{Span}
 use Rattle.fields.specs.Spans.{span_at}
 use Rattle.lists.specs.Lists.{below}
 use Rattle.lists.specs.Stretches.{stretch}
+use Rattle.rules.specs.declared.EdgeData.{EdgeData}
 use Rattle.rules.specs.declared.Item.{Item}
 use Rattle.rules.specs.declared.Use.{Use}
 use Rattle.rules.specs.Sense.{sense_of, sense_number}
@@ -36,3 +37,19 @@ pub record Laid (stretches : List Span) (items : List ℕ) : Type 0 where
   pub order : (k : ℕ) → k < length stretches → (span_at stretches k).start ≤ (span_at stretches k).end
   pub inside : (k : ℕ) → k < length stretches → (span_at stretches k).end ≤ length items
   pub apart : (k : ℕ) → k + 1 < length stretches → (span_at stretches k).end ≤ (span_at stretches (k + 1)).start
+
+-- edges, and loops one after the other, each with its face; of none more than a job can have
+pub record Tabled (edges : List EdgeData) (items : List ℕ) (stretches : List Span) (faces : List ℕ) : Type 0 where
+  pub laid : Laid stretches items
+  pub loops : length faces ≤ length stretches
+  pub edges_few : length edges ≤ 2048
+  pub items_few : length items ≤ 2048
+  pub faces_few : length faces ≤ 2048
+
+-- the merged face of each loop
+abbrev pub faces_of : List FaceLoop → List ℕ
+faces_of loops = map (λ l. l.face) loops
+
+-- loop k; past the last, one of no items
+abbrev pub face_loop_at : List FaceLoop → ℕ → FaceLoop
+face_loop_at loops k = get_or loops k (record { face = 0; items = [] })

@@ -6,11 +6,14 @@
 ghost use Rattle.std.specs.Prelude.{◌≡◌, ℕ, ◌<◌, ◌≤◌, min, max, [], ◌∷◌, map, length, get_or};
 ghost use Rattle.rules.specs.Join.{edge_data_at};
 ghost use Rattle.lists.specs.Lists.{below};
-ghost use Rattle.rules.specs.Edges.{lower_kept, face_pair, fan_or_none, edge_data};
+ghost use Rattle.rules.specs.Edges.{lower_kept, face_pair, fan_or_none, own_start, own_end, edge_data};
 ghost use Rattle.edges.specs.Table.{item_code, loop_at, loop_face};
 ghost use Rattle.edges.specs.Made.{OneEdge, Made};
 
+mod joining;
+
 use fields::{Span, entry, get, is_set, put, put_entry, span_at};
+pub use joining::Joining;
 use loaded::Loaded;
 use rules::{Edge, EdgeData, Sense, Use};
 use uses::{use_at, use_face, use_sense};
@@ -91,6 +94,16 @@ fn fan_or_none(edge: Edge, fans: &[u32], h: usize) -> u32
     get(fans, h) as u32
 }
 
+// Of two ends given along a use, the edge's own start and its own end.
+fn own_ends(sense: Sense, here: u32, there: u32) -> (u32, u32)
+    ensures { (result.0 ≡ own_start sense here there) × (result.1 ≡ own_end sense here there) }
+{
+    match sense {
+        Sense::Same => (here, there),
+        Sense::Reversed => (there, here),
+    }
+}
+
 // What the edges are made of: the uses; the twin, the successor and the fan of each, and which are removed; and the merged
 // face of each selected face.
 #[derive(Drop)]
@@ -114,10 +127,7 @@ fn edge_of(job: &Loaded<'_>, s: &Sides<'_>, h: usize) -> EdgeData
     let here = fan_or_none(edge, s.fans, h);
     let there = fan_or_none(edge, s.fans, get(s.succ, h));
     let faces = faces_beside(s.uses, s.twins, s.numbers, h);
-    let (start, end) = match u.sense {
-        Sense::Same => (here, there),
-        Sense::Reversed => (there, here),
-    };
+    let (start, end) = own_ends(u.sense, here, there);
     EdgeData {
         curve: edge.curve,
         sense: edge.sense,
@@ -159,6 +169,7 @@ pub fn edges(job: &Loaded<'_>, s: &Sides<'_>, rows: &mut [EdgeData], owns: &mut 
     ensures { Made job.now.edges s.now.uses.now s.now.twins.now s.now.removed.now s.now.numbers.now s.now.succ.now s.now.fans.now owns.old rows.new owns.new result }
 {
     let mut count: usize = 0;
+    // by number: a use is looked up in all the tables of `Sides`, by itself or by its twin's number
     for h in 0..s.twins.len() {
         count = add_edge(job, s, rows, owns, h, count);
     }

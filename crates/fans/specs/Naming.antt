@@ -13,15 +13,14 @@ pub naming_start : (p : ℕ → Bool) (names : List ℕ) → Naming p names 0 0
 unfolding from keep
 naming_start p names = record { few = omega arith; named = refl }
 
-module _ (p : ℕ → Bool) (names : List ℕ) (count h : ℕ) (n : Naming p names count h) where
-  pub naming_yes : (after : List ℕ) (here : Bool) → h < length names → here ≡ p h → here ≡ true → after ≡ set names count h → Naming p after (count + 1) (h + 1)
-  naming_yes after here lt e y s =
+module _ (p : ℕ → Bool) (names after : List ℕ) (count more h : ℕ) (here : Bool) (n : Naming p names count h) (e : here ≡ p h) where
+  pub naming_yes : h < length names → here ≡ true → after ≡ set names count h → more ≡ count + 1 → Naming p after more (h + 1)
+  naming_yes lt y s m =
       let few = n.few in
       record {
         few = omega arith;
-        named = ap (take (count + 1)) s ∙ ap (λ k. take k (set names count h)) (add-one count) ∙ take-suc-set names count h (omega arith) ∙ ap (λ l. l ++ (h ∷ [])) n.named
-            ∙ sym (keep_below_yes p h (sym e ∙ y));
+        named = (λ i. take ((m ∙ add-one count) i) (s i)) ∙ take-suc-set names count h (omega arith) ∙ ap (λ l. l ++ (h ∷ [])) n.named ∙ sym (keep_below_yes p h (sym e ∙ y));
       }
 
-  pub naming_no : (here : Bool) → here ≡ p h → here ≡ false → Naming p names count (h + 1)
-  naming_no here e y = let few = n.few in record { few = omega arith; named = n.named ∙ sym (keep_below_no p h (sym e ∙ y)) }
+  pub naming_no : here ≡ false → after ≡ names → more ≡ count → Naming p after more (h + 1)
+  naming_no y s m = let few = n.few in record { few = omega arith; named = (λ i. take (m i) (s i)) ∙ n.named ∙ sym (keep_below_no p h (sym e ∙ y)) }

@@ -3,9 +3,7 @@
 #![tactic(auto)]
 
 ghost use Rattle.std.specs.Prelude.{◌≡◌, List, ℕ, ◌+◌, ◌≤◌, ◌<◌, length, take};
-ghost use Rattle.rules.specs.Fans.{kept_with_ends, fan_step, fans as fans_of, names_fan, fan_names, start_points};
-ghost use Rattle.groups.specs.Parents.{Ordered, Stands};
-ghost use Rattle.fans.specs.Naming.{Naming};
+ghost use Rattle.rules.specs.Fans.{kept_with_ends, fans as fans_of, names_fan, fan_names, start_points};
 
 use fields::{get, is_set, put};
 use groups::join_in;
@@ -22,27 +20,7 @@ pub fn kept_with_ends(job: &Loaded<'_>, uses: &[Use], removed: &[bool], h: usize
 
 // FANS
 
-// For a kept use with ends, new successor and twin join.
-fn fan_step(
-    job: &Loaded<'_>,
-    uses: &[Use],
-    twins: &[u32],
-    removed: &[bool],
-    succ: &[u32],
-    labels: &mut [u32],
-    h: usize,
-)
-    requires { (h < length succ.now) × Ordered labels.old }
-    ensures { (g : List ℕ) → Stands labels.old g → Stands labels.new (fan_step job.now.edges uses.now twins.now removed.now succ.now g h) }
-{
-    if kept_with_ends(job, uses, removed, h) {
-        let s = get(succ, h);
-        let t = get(twins, h);
-        join_in(labels, s, t);
-    }
-}
-
-// Each use's fan.
+// Each use's fan: new successor and twin of each kept use with ends join.
 pub fn fans(
     job: &Loaded<'_>,
     uses: &[Use],
@@ -55,8 +33,11 @@ pub fn fans(
     ensures { labels.new ≡ fans_of job.now.edges uses.now twins.now removed.now succ.now }
 {
     groups::alone(labels);
-    for h in 0..succ.len() {
-        fan_step(job, uses, twins, removed, succ, labels, h);
+    for (h, next) in succ.iter().enumerate() {
+        if kept_with_ends(job, uses, removed, h) {
+            let t = get(twins, h);
+            join_in(labels, *next as usize, t);
+        }
     }
     groups::settle(labels);
 }
@@ -68,27 +49,6 @@ fn names_fan(job: &Loaded<'_>, uses: &[Use], removed: &[bool], fans: &[u32], h: 
     ensures { result ≡ names_fan job.now.edges uses.now removed.now fans.now h }
 {
     get(fans, h) == h && kept_with_ends(job, uses, removed, h)
-}
-
-// Use h after the `count` names before it, where it names a fan. Gives how many names there are up to h.
-fn name_use(
-    job: &Loaded<'_>,
-    uses: &[Use],
-    removed: &[bool],
-    fans: &[u32],
-    names: &mut [u32],
-    count: usize,
-    h: usize,
-) -> usize
-    requires room { (h < length names.old) × (length names.old ≤ 2048) }
-    requires so_far { Naming (names_fan job.now.edges uses.now removed.now fans.now) names.old count h }
-    ensures { Naming (names_fan job.now.edges uses.now removed.now fans.now) names.new result (h + 1) }
-{
-    if names_fan(job, uses, removed, fans, h) {
-        put(names, count, h);
-        return count + 1;
-    }
-    count
 }
 
 // The fans by name, ascending. Gives how many there are.
@@ -103,8 +63,12 @@ pub fn fan_names(
     ensures { (take result names.new ≡ fan_names job.now.edges uses.now removed.now fans.now) × (result ≤ length uses.now) }
 {
     let mut count = 0;
-    for h in 0..names.len() {
-        count = name_use(job, uses, removed, fans, names, count, h);
+    // by number: a use is looked up in tables of which none need be as long as the others
+    for h in 0..uses.len() {
+        if names_fan(job, uses, removed, fans, h) {
+            put(names, count, h);
+            count += 1;
+        }
     }
     count
 }

@@ -35,7 +35,9 @@ pub tabled_step : (before : List ℕ) (at : ℕ) (t mid after : List ℕ) (p i v
     → Wrote mid p (bytes32 v) after q → Tabled before at t after q (i + 1)
 tabled_step before at t mid after p i v q h lt e w =
     let bytes : field_bytes (take i t) ++ bytes32 v ≡ field_bytes (take (i + 1) t) =
-    ap (λ bs. field_bytes (take i t) ++ bs) (ap bytes32 e ∙ sym (one_field (get_or t i 0))) ∙ sym (flat_map_append bytes32 (take i t) (get_or t i 0 ∷ [])) ∙ ap field_bytes (sym (take-suc t i 0 lt)) ∙ ap (λ n. field_bytes (take n t)) (sym (add-one i)) in
+    ap (λ bs. field_bytes (take i t) ++ bs) (ap bytes32 e ∙ sym (one_field (get_or t i 0)))
+    ∙ sym (flat_map_append bytes32 (take i t) (get_or t i 0 ∷ []))
+    ∙ ap field_bytes (sym (take-suc t i 0 lt)) ∙ ap (λ n. field_bytes (take n t)) (sym (add-one i)) in
     record {
       within = omega arith;
       place = omega (arith, w.1, length_bytes32 v, h.place);

@@ -151,11 +151,14 @@ pub struct Span {
     pub end: u32,
 }
 
+// An empty stretch, which a table holds before it is filled.
+pub const NO_SPAN: Span = Span { start: 0, end: 0 };
+
 // A stretch of a table; past its end, an empty one.
 pub fn span_at(spans: &[Span], k: usize) -> Span
     ensures { result ≡ span_at spans.now k }
 {
-    entry(spans, k, Span { start: 0, end: 0 })
+    entry(spans, k, NO_SPAN)
 }
 
 // CHAINS
@@ -211,7 +214,8 @@ impl<'a> Iterator for Chain<'a> {
 
 // RECORDS
 
-// A record's header at a place: payload length of so many fields, and kind; gives the place of its payload.
+// A record's header at a place: payload length of so many fields, and kind; gives the place of its payload. The kind is a
+// number: those of a body's records are an enum of `body`, which stands above.
 pub fn put_head(out: &mut [u8], at: usize, kind: usize, fields: usize) -> usize
     requires { (at < 2 ^ 60) × (fields < 2 ^ 60) }
     ensures { Wrote out.old at (bytes32 (4 * fields) ++ bytes16 kind) out.new result }
@@ -228,8 +232,8 @@ pub fn put_table(out: &mut [u8], at: usize, t: &[u32]) -> usize
     ensures { Wrote out.old at (field_bytes t.now) out.new result }
 {
     let mut p = at;
-    for i in 0..t.len() {
-        p = put_word(out, p, get(t, i));
+    for x in t {
+        p = put_word(out, p, *x as usize);
     }
     p
 }

@@ -1,25 +1,13 @@
 -- The fields of a record as they stand in the bytes.
-use Rattle.std.specs.Prelude.{ℕ, zero, suc, ◌+◌, ◌*◌, ◌-◌, ◌/◌, ◌<◌, ◌≤◌, ◌≡◌, refl, List, ◌∷◌, length, get_or, take, drop}
-use Rattle.std.proofs.Common.{arith, sym, ap, ◌∙◌, get_or-drop, drop-drop}
+use Rattle.std.specs.Prelude.{ℕ, zero, suc, ◌+◌, ◌*◌, ◌-◌, ◌/◌, ◌<◌, ◌≤◌, ◌≡◌, refl, List, ◌∷◌, get_or, take, drop}
+use Rattle.std.proofs.Common.{arith, sym, ap, ◌∙◌, drop-drop}
 use Rattle.rules.specs.Sense.{sense_of}
 use Rattle.rules.specs.Fields.{le32, field, fields_in}
 use Rattle.rules.specs.Load.{face_of}
+use Rattle.rules.proofs.FieldLaws.{field_in}
 use Rattle.job.specs.Lists.{fields_at, face_in}
 
--- a field at a place of a suffix
-pub le32_drop : (n : ℕ) (s : List ℕ) (p : ℕ) → le32 (drop n s) p ≡ le32 s (n + p)
-unfolding le32
-le32_drop n s p =
-    let one : n + (p + 1) ≡ n + p + 1 = omega arith in
-    let two : n + (p + 2) ≡ n + p + 2 = omega arith in
-    let three : n + (p + 3) ≡ n + p + 3 = omega arith in
-    simp (get_or-drop, one, two, three)
-
-pub length_fields : (n : ℕ) (s : List ℕ) → length (fields_in n s) ≡ n
-unfolding fields_in
-length_fields zero s = refl
-length_fields (suc n) s = ap suc (length_fields n (drop 4 s))
-
+-- the first fields, and those after them
 pub take_fields : (m n : ℕ) (s : List ℕ) → m ≤ n → take m (fields_in n s) ≡ fields_in m s
 unfolding fields_in
 take_fields zero n s h = refl
@@ -34,15 +22,6 @@ drop_fields (suc m) (suc n) s =
     let e : n - m ≡ suc n - suc m = omega arith in
     let d : 4 + 4 * m ≡ 4 * suc m = omega arith in
     drop_fields m n (drop 4 s) ∙ ap (fields_in (n - m)) (drop-drop (4 * m) 4 s) ∙ (λ i. fields_in (e i) (drop (d i) s))
-
--- field i of those at the front of a suffix
-pub field_in : (n : ℕ) (s : List ℕ) (p i : ℕ) → i < n → get_or (fields_in n (drop p s)) i 0 ≡ le32 s (p + 4 * i)
-unfolding fields_in
-field_in zero s p i h = absurd (omega arith)
-field_in (suc n) s p zero h = le32_drop p s 0
-field_in (suc n) s p (suc i) h =
-    let e : p + 4 + 4 * i ≡ p + 4 * suc i = omega arith in
-    ap (λ t. get_or (fields_in n t) i 0) (drop-drop 4 p s) ∙ field_in n s (p + 4) i (omega arith) ∙ ap (le32 s) e
 
 -- field i of the record at a byte
 pub field_at : (bytes : List ℕ) (at i : ℕ) → i < le32 bytes at / 4 → get_or (fields_at bytes at) i 0 ≡ le32 bytes (at + 6 + 4 * i)
@@ -61,11 +40,3 @@ face_is bytes at five =
     let f3 = f 3 (at + 18) (omega arith) (omega arith) in
     let f4 = f 4 (at + 22) (omega arith) (omega arith) in
     λ i. record { surface = f0 i; own = sense_of (f1 i); selected = sense_of (f2 i); body = f3 i; source = f4 i }
-
--- the first fields of the record at a byte, one more in front
-pub fields_first : (n : ℕ) (s : List ℕ) (p : ℕ) → fields_in (suc n) (drop p s) ≡ le32 s p ∷ fields_in n (drop (p + 4) s)
-unfolding fields_in
-fields_first n s p =
-    let e : p + 0 ≡ p = omega arith in
-    let one : le32 (drop p s) 0 ≡ le32 s p = le32_drop p s 0 ∙ ap (le32 s) e in
-    λ i. one i ∷ fields_in n (drop-drop 4 p s i)

@@ -55,7 +55,7 @@ fn edge_in(job: &[u8], at: usize) -> Edge
 // The face whose record stands at a byte.
 #[tactic(auto, unfolding(crate::specs::Lists::face_in))]
 #[inline(always)]
-fn face_in(job: &[u8], at: usize) -> Face
+pub fn face_in(job: &[u8], at: usize) -> Face
     requires { at < 2 ^ 59 }
     ensures { result ≡ face_in job.now at }
 {

@@ -85,7 +85,8 @@ module _ {A : Type 0} (item : List ℕ → A) (size : List ℕ → ℕ) (text : 
       let rest : List ℕ = drop from bytes in
       let here : List ℕ = text (item rest) in
       let on : cut_all item size rest ≡ item rest ∷ cut_all item size (drop next bytes) =
-      cut_more item size some rest (omega (arith, length-drop from bytes)) ∙ ap {B = List A} (λ l. item rest ∷ cut_all item size l) (drop-drop (size rest) from bytes ∙ ap (λ n. drop n bytes) (sym e)) in
+      cut_more item size some rest (omega (arith, length-drop from bytes))
+      ∙ ap {B = List A} (λ l. item rest ∷ cut_all item size l) (drop-drop (size rest) from bytes ∙ ap (λ n. drop n bytes) (sym e)) in
       record {
         done = G.done ++ here;
         wrote = wrote_more before mid after G.done here at p q G.wrote w;

@@ -72,14 +72,17 @@ record_back r F more =
     let size : le32 (framed r ++ more) 0 ≡ 4 * n = ap (λ l. le32 l 0) f ∙ field_back (4 * n) tail F.size in
     let kind : le16 (framed r ++ more) 4 ≡ r.kind = ap (λ l. le16 l 4) f ∙ kind_back (4 * n) r.kind rest F.kind in
     let fields : fields_in (le32 (framed r ++ more) 0 / 4) (drop 6 (framed r ++ more)) ≡ r.fields =
-    (λ i. fields_in (size i / 4) (drop 6 (f i))) ∙ ap (λ m. fields_in m (drop 6 (bytes32 (4 * n) ++ tail))) (quarter n) ∙ ap (fields_in n) (drop_head (4 * n) r.kind rest) ∙ fields_back r.fields more F.fields in
+    (λ i. fields_in (size i / 4) (drop 6 (f i))) ∙ ap (λ m. fields_in m (drop 6 (bytes32 (4 * n) ++ tail))) (quarter n)
+    ∙ ap (fields_in n) (drop_head (4 * n) r.kind rest) ∙ fields_back r.fields more F.fields in
     ((λ i. record { kind = kind i; fields = fields i }), omega (arith, size, framed_length r))
   where
     quarter : (n : ℕ) → 4 * n / 4 ≡ n
     quarter n = omega arith
 
     drop_head : (s k : ℕ) (rest : List ℕ) → drop 6 (bytes32 s ++ (bytes16 k ++ rest)) ≡ rest
-    drop_head s k rest = ap (λ l. drop 6 l) (sym (append_assoc (bytes32 s) (bytes16 k) rest)) ∙ drop_at (bytes32 s ++ bytes16 k) rest 6 (length-append (bytes32 s) (bytes16 k) ∙ ap (λ m. m + 2) (length_bytes32 s))
+    drop_head s k rest =
+        ap (λ l. drop 6 l) (sym (append_assoc (bytes32 s) (bytes16 k) rest))
+        ∙ drop_at (bytes32 s ++ bytes16 k) rest 6 (length-append (bytes32 s) (bytes16 k) ∙ ap (λ m. m + 2) (length_bytes32 s))
 
 -- the records of a body are read back from its bytes
 pub records_back : (rs : List Record) → ((r : Record) → r ∈ rs → Fits r) → records_in (framed_all rs) ≡ rs

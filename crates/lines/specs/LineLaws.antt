@@ -135,7 +135,8 @@ line_wrote bytes before a b d after at from p q r t kind size k ek es e w u v z 
     let s : List ℕ = drop (from + 6) bytes in
     let f : List ℕ = flat_map (field_text_in false) (fields_in k s) in
     let g : List ℕ = flat_map (field_text_in true) (fields_in (size / 4 - k) (drop (from + 6 + 4 * k) bytes)) in
-    let rest : g ≡ flat_map (field_text_in true) (fields_in (size / 4 - k) (drop (4 * k) s)) = ap (λ l. flat_map (field_text_in true) (fields_in (size / 4 - k) l)) (sym (drop-drop (4 * k) (from + 6) bytes)) in
+    let rest : g ≡ flat_map (field_text_in true) (fields_in (size / 4 - k) (drop (4 * k) s)) =
+    ap (λ l. flat_map (field_text_in true) (fields_in (size / 4 - k) l)) (sym (drop-drop (4 * k) (from + 6) bytes)) in
     let both : f ++ (g ++ (10 ∷ [])) ≡ fields_text (record { kind = kind; fields = fields_in (size / 4) s }) ++ (10 ∷ []) =
     sym (append_assoc f g (10 ∷ [])) ∙ ap (λ l. (f ++ l) ++ (10 ∷ [])) rest ∙ ap (λ l. l ++ (10 ∷ [])) (sym (fields_split kind (size / 4) k s e)) in
     wrote_same before after (word_of kind ++ (f ++ (g ++ (10 ∷ [])))) (line_of (record_at (drop from bytes))) at t
@@ -173,7 +174,8 @@ record_next bytes from v e = ap (λ w. from + (6 + w)) (e ∙ sym (le32_here fro
 
 -- THE LINE OF A REFUSAL
 
-pub refusal_wrote : (before a b d after : List ℕ) (p q r t number place : ℕ) → Wrote before 0 refused_word a p → Wrote a p (field_text number) b q → Wrote b q (field_text place) d r → Wrote d r (10 ∷ []) after t
+pub refusal_wrote : (before a b d after : List ℕ) (p q r t number place : ℕ) → Wrote before 0 refused_word a p
+    → Wrote a p (field_text number) b q → Wrote b q (field_text place) d r → Wrote d r (10 ∷ []) after t
     → Wrote before 0 (refusal_line number place) after t
 refusal_wrote before a b d after p q r t number place w u v z =
     wrote_more before a after refused_word (field_text number ++ (field_text place ++ (10 ∷ []))) 0 p t w

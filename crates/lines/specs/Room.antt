@@ -70,7 +70,13 @@ pub row_eleven : (row : List ℕ) → Below 4294967296 row → 0 < length row �
 unfolding row_text
 row_eleven [] h lt = absurd (omega arith)
 row_eleven (f ∷ fs) h lt =
-    omega (arith, length-append (decimal f) (flat_map field_text fs ++ (10 ∷ [])), length-append (flat_map field_text fs) (10 ∷ []), ten_digits f (h f (Memᴰ.head refl)), all_eleven field_text field_eleven fs (λ v m. h v (Memᴰ.tail m)))
+    omega (
+      arith,
+      length-append (decimal f) (flat_map field_text fs ++ (10 ∷ [])),
+      length-append (flat_map field_text fs) (10 ∷ []),
+      ten_digits f (h f (Memᴰ.head refl)),
+      all_eleven field_text field_eleven fs (λ v m. h v (Memᴰ.tail m)),
+    )
 
 -- THE LINES OF A BODY
 
@@ -80,7 +86,15 @@ edge_eleven [] h = omega arith
 edge_eleven (a ∷ []) h = omega (arith, length-append (field_text a ++ []) [], length-append (field_text a) [], ten_digits a (h a (Memᴰ.head refl)))
 edge_eleven (a ∷ b ∷ fs) h =
     let x : List ℕ = field_text a ++ (field_text b ++ []) in
-    omega (arith, length-append x (flat_map vertex_text fs), length-append (field_text a) (field_text b ++ []), length-append (field_text b) [], ten_digits a (h a (Memᴰ.head refl)), ten_digits b (h b (Memᴰ.tail (Memᴰ.head refl))), all_eleven vertex_text vertex_eleven fs (λ v m. h v (Memᴰ.tail (Memᴰ.tail m))))
+    omega (
+      arith,
+      length-append x (flat_map vertex_text fs),
+      length-append (field_text a) (field_text b ++ []),
+      length-append (field_text b) [],
+      ten_digits a (h a (Memᴰ.head refl)),
+      ten_digits b (h b (Memᴰ.tail (Memᴰ.head refl))),
+      all_eleven vertex_text vertex_eleven fs (λ v m. h v (Memᴰ.tail (Memᴰ.tail m))),
+    )
 
 fields_eleven : (r : Record) → Below 4294967296 r.fields → length (fields_text r) ≤ 11 * length r.fields
 unfolding fields_text

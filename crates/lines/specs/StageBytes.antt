@@ -22,9 +22,11 @@ use Rattle.rules.specs.Fans.{kept_with_ends}
 use Rattle.rules.specs.Join.{Joining}
 use Rattle.rules.specs.Shells.{nested, lumps}
 use Rattle.rules.specs.Sew.{walked, fanned, edged, through_joining, shells_of, fitting}
-use Rattle.rules.specs.Stage.{use_fields, group_fields, kept_fields, kept_uses, walk_fields, loop_fields, fan_fields, edge_fields, face_loop_fields, joining_fields, shell_fields, lump_shell_fields, lump_fields}
+use Rattle.rules.specs.Stage.{use_fields, group_fields, kept_fields, kept_uses, walk_fields, loop_fields, fan_fields, edge_fields}
+use Rattle.rules.specs.Stage.{face_loop_fields, joining_fields, shell_fields, lump_shell_fields, lump_fields}
 use Rattle.rules.specs.Stage.{stage_bytes, read_stage, pair_stage, merge_stage, vertex_loop_stage, walk_stage, loop_stage, fan_stage, edge_stage, joining_stage, shell_stage, lump_stage}
-use Rattle.rules.specs.Rows.{read_rows, pair_rows, merge_rows, vertex_loop_rows, walk_rows, loop_rows, fan_rows, table_rows, edge_rows, joining_rows as joined_rows, shell_rows, lump_rows_from, lump_rows, staged_rows}
+use Rattle.rules.specs.Rows.{read_rows, pair_rows, merge_rows, vertex_loop_rows, walk_rows, loop_rows, fan_rows, table_rows, edge_rows}
+use Rattle.rules.specs.Rows.{joining_rows as joined_rows, shell_rows, lump_rows_from, lump_rows, staged_rows}
 use Rattle.fields.specs.Tabled.{length_field_bytes}
 use Rattle.theorems.specs.Shapes.{Shaped, Laid}
 use Rattle.lines.specs.Text.{rows_in, joining_rows}

@@ -12,7 +12,8 @@ use Rattle.rules.specs.Job.{Job}
 use Rattle.rules.specs.Load.{loaded}
 use Rattle.rules.specs.Rules.{Rules, full_table, ordinary}
 use Rattle.rules.specs.Sew.{fitting, Ends}
-use Rattle.rules.specs.Rows.{read_rows, pair_rows, merge_rows, vertex_loop_rows, walk_rows, loop_rows, fan_rows, edge_rows, joining_rows as joined_rows, shell_rows, lump_rows, staged_rows, row_text, rows_listing}
+use Rattle.rules.specs.Rows.{read_rows, pair_rows, merge_rows, vertex_loop_rows, walk_rows, loop_rows, fan_rows, edge_rows}
+use Rattle.rules.specs.Rows.{joining_rows as joined_rows, shell_rows, lump_rows, staged_rows, row_text, rows_listing}
 use Rattle.rules.specs.Rows.{stage_listing}
 use Rattle.rules.specs.declared.Stage.{Stage}
 use Rattle.rules.specs.declared.Stage.TheVariants.{Read, Pair, Merge, VertexLoops, Walk, Loops, Fans, Edges, Joining, Shells, Lumps}
@@ -170,7 +171,8 @@ stage_known Lumps job b room = record {
 -- WHAT IS SHOWN
 
 -- the text of an answer whose rows are read back
-held_text : (stage : Stage) (room : ℕ) (o : Outcome (List (List ℕ))) (before after : List ℕ) (e : Outcome ℕ) → AllHeld stage room o → Ends (row_bytes o) before after e → stage_text stage after e ≡ rows_listing o
+held_text : (stage : Stage) (room : ℕ) (o : Outcome (List (List ℕ))) (before after : List ℕ) (e : Outcome ℕ) → AllHeld stage room o
+    → Ends (row_bytes o) before after e → stage_text stage after e ≡ rows_listing o
 held_text stage room (Ok rows) before after e H E =
     let bytes : List ℕ = flat_map field_bytes rows in
     ap (stage_text stage after) E.0 ∙ ap (λ l. flat_map row_text (stage_rows stage (take (length bytes) l))) E.1

@@ -1,6 +1,7 @@
 -- Laws of text written byte by byte: a text, the digits of a number, a field, fields one after the other.
 use Prim.Native.Nat.{ℕ, zero, suc, ◌+◌, ◌*◌, ◌-◌, ◌/◌, ◌%◌, ◌<◌, ◌≤◌}
-use Rattle.std.proofs.Common.{not-suc-le-zero, add-one, subst, ◌∙◌, ⊎_elim, length-append, length-set, length-drop, drop_of_length-le, take-suc, take_all, length-take-le, drop_at, drop-drop, lt-ltb, le-ltb}
+use Rattle.std.proofs.Common.{not-suc-le-zero, add-one, subst, ◌∙◌, ⊎_elim, length-append, length-set, length-drop}
+use Rattle.std.proofs.Common.{drop_of_length-le, take-suc, take_all, length-take-le, drop_at, drop-drop, lt-ltb, le-ltb}
 use native.Mathlib.Omega.{arith}
 use Rattle.std.specs.Prelude.{◌≡◌, refl, Bool, true, false, cond, length, get_or, set, take, eqb, ltb}
 use Rattle.std.proofs.Math.Path.{sym, ap}
@@ -23,7 +24,8 @@ wrote_same before after xs ys at q e w = subst (λ bs. Wrote before at bs after 
 
 -- ONE BYTE MORE
 
-pub text_more : (before mid after text : List ℕ) (at i : ℕ) → mid ≡ sets before at (take i text) → i < length text → after ≡ set mid (at + i) (get_or text i 0) → after ≡ sets before at (take (i + 1) text)
+pub text_more : (before mid after text : List ℕ) (at i : ℕ) → mid ≡ sets before at (take i text) → i < length text
+    → after ≡ set mid (at + i) (get_or text i 0) → after ≡ sets before at (take (i + 1) text)
 text_more before mid after text at i m lt e =
     let n : length (take i text) ≡ i = length-take-le i text (omega arith) in
     e ∙ (λ t. set (m t) (at + sym n t) (get_or text i 0)) ∙ sets_append before at (take i text) (get_or text i 0 ∷ [])
@@ -68,7 +70,8 @@ spelled_end v digits zero rest h S = S.2
 spelled_end v digits (suc i) rest h S = absurd (not-suc-le-zero h)
 
 -- the digits as a part that starts at the first
-pub number_wrote : (before after digits : List ℕ) (at q r v : ℕ) → length digits ≡ 20 → drop r digits ≡ decimal v → Wrote before at (take (20 - r) (drop r digits)) after q → Wrote before at (decimal v) after q
+pub number_wrote : (before after digits : List ℕ) (at q r v : ℕ) → length digits ≡ 20 → drop r digits ≡ decimal v
+    → Wrote before at (take (20 - r) (drop r digits)) after q → Wrote before at (decimal v) after q
 number_wrote before after digits at q r v n e w =
     wrote_same before after (take (20 - r) (drop r digits)) (decimal v) at q (take_all (20 - r) (drop r digits) (omega (arith, length-drop r digits, n)) ∙ e) w
 

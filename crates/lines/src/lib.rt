@@ -47,7 +47,8 @@ pub fn put_text(page: &mut [u8], at: usize, text: &[u8]) -> usize
 #[tactic(auto, using(crate::specs::Writing::spelled_start, crate::specs::Writing::spelled_last, crate::specs::Writing::spelled_on, crate::specs::Writing::spelled_end))]
 fn spell(v: usize, digits: &mut [u8]) -> usize
     requires { length digits.old ≡ 20 }
-    ensures { (result ≤ 20) × (drop result digits.new ≡ decimal v) }
+    ensures within { result ≤ 20 }
+    ensures spells { drop result digits.new ≡ decimal v }
 {
     let mut rest = v;
     for i in (0..20).rev() {
@@ -97,6 +98,7 @@ fn put_fields(
     ensures { Wrote page.old at (flat_map (field_text_in vertex) (fields_in n (drop from bytes.now))) page.new result }
 {
     let mut p = at;
+    // by number: the fields stand in the bytes at every fourth place, and past the end they are read as 0
     for i in 0..n {
         p = put_field(page, p, word(bytes, from + 4 * i), vertex);
     }

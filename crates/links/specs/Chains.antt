@@ -6,7 +6,7 @@ use mathlib.Core.List.{List, [], ◌∷◌, ◌++◌, map, head-eq_of_cons-eq, t
 use Rattle.lists.specs.Lists.{◌∈◌, Nodup, times}
 use Rattle.lists.specs.Membership.{in_or_out, times_append, times_out, times_once, once_nodup}
 use Rattle.lists.specs.Members.{map_append}
-use Rattle.lists.specs.Stretches.{take_map, drop_map}
+use Rattle.std.proofs.lemmas.List.{take-map, drop-map}
 use Rattle.links.specs.Tables.{follow, Chain}
 
 pub length_follow : (t : List ℕ) (x n : ℕ) → length (follow t x n) ≡ n
@@ -58,7 +58,7 @@ nodup_turned i l n =
 
 -- the images of a turned list
 pub map_turned : {A B : Type 0} (f : A → B) (i : ℕ) (l : List A) → map f (drop i l ++ take i l) ≡ drop i (map f l) ++ take i (map f l)
-map_turned f i l = map_append f (drop i l) (take i l) ∙ (λ k. sym (drop_map f i l) k ++ sym (take_map f i l) k)
+map_turned f i l = map_append f (drop i l) (take i l) ∙ (λ k. sym (drop-map f i l) k ++ sym (take-map f i l) k)
 
 -- what the first two of some images are images of
 pub record Front {A B : Type 0} (f : A → B) (l : List A) (x y : B) (rest : List B) : Type 0 where

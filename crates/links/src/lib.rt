@@ -13,7 +13,7 @@ ghost use Rattle.links.specs.Lay.{laid_by};
 ghost use Rattle.links.specs.Link.{next_slot, Linkable, Linking, LinkedLoops};
 
 use edges::edge_start;
-use fields::{Span, get, put, put_entry, span_at};
+use fields::{NO_SPAN, Span, get, put, put_entry, span_at};
 use rules::EdgeData;
 use std::marker::Model;
 
@@ -76,10 +76,9 @@ fn own_end(stretches: &[Span], size: usize, k: usize) -> usize
     requires { k < 4294967296 }
     ensures { result ≡ own_end stretches.now size k }
 {
-    match stretches.get(k + 1) {
-        Some(next) => next.start as usize,
-        None => size,
-    }
+    stretches
+        .get(k + 1)
+        .map_or(size, |next| next.start as usize)
 }
 
 // One loop, of which its own stretch of the item list and of the links, from `start` on, and its head are lent: the item in slot p and the
@@ -134,7 +133,7 @@ impl<const SLOTS: usize, const CODES: usize> Links<SLOTS, CODES> {
             heads: [0; SLOTS],
             owners: [0; SLOTS],
             spots: [0; CODES],
-            stretches: [Span { start: 0, end: 0 }; SLOTS],
+            stretches: [NO_SPAN; SLOTS],
             loops: 0,
         }
     }
@@ -144,11 +143,10 @@ impl<const SLOTS: usize, const CODES: usize> Links<SLOTS, CODES> {
         requires { Linkable items.now stretches.now SLOTS CODES × (length stretches.now < 4294967296) }
         ensures { LinkedLoops items.now self.new × (self.new.stretches ≡ stretches.now) × (length self.new.spots ≡ CODES) }
     {
-        let loops = stretches.len();
         copy_front(&mut self.stretches, stretches);
-        self.loops = loops;
-        for k in 0..loops {
-            self.link_loop(items, k);
+        self.loops = stretches.len();
+        for (k, stretch) in stretches.iter().enumerate() {
+            self.link_loop(items, k, stretch);
         }
     }
 
@@ -160,13 +158,14 @@ impl<const SLOTS: usize, const CODES: usize> Links<SLOTS, CODES> {
     }
 
     // The slots of loop k are linked, and it starts where it was laid out.
-    fn link_loop(&mut self, items: &[u32], k: usize)
-        requires { Linking items.now self.old.stretches SLOTS CODES self.old k 0 × IsLoop self.old.stretches k × (k < 4294967296) }
+    fn link_loop(&mut self, items: &[u32], k: usize, stretch: &Span)
+        requires { Linking items.now self.old.stretches SLOTS CODES self.old k 0 × IsLoop self.old.stretches k × (k < 4294967296)
+            × (stretch.now ≡ span_at self.old.stretches k) }
         ensures { Linking items.now self.old.stretches SLOTS CODES self.new (k + 1) 0 }
     {
-        let stretch = span_at(&self.stretches[..self.loops], k);
         let start = stretch.start as usize;
         let end = stretch.end as usize;
+        // by number: a slot is a place of four tables, and the one after it is a number too
         for s in start..end {
             let x = get(items, s);
             let q = next_slot(start, end, s);

@@ -14,7 +14,8 @@ use Rattle.lists.specs.Tests.{both_ways}
 use Rattle.lists.specs.Membership.{same_length}
 use Rattle.lists.specs.Members.{in_flat_map, flat_map_in, flat_map_nodup, flat_map_length}
 use Rattle.lists.specs.Sums.{sum_same}
-use Rattle.lists.specs.Orbits.{least_below, iterate_zero, iterate_first, iterate_suc, iterate_split, in_orbit, orbit_in, length_orbit, Perm, iterate_stays, iterate_inj, orbit_stays, orbit_nodup, period, cycle_reach}
+use Rattle.lists.specs.Orbits.{least_below, iterate_zero, iterate_first, iterate_suc, iterate_split, in_orbit, orbit_in, length_orbit}
+use Rattle.lists.specs.Orbits.{Perm, iterate_stays, iterate_inj, orbit_stays, orbit_nodup, period, cycle_reach}
 
 -- a value that does not change from one number to the next is constant along the orbit
 pub iterate_constant : (f g : ℕ → ℕ) (k a : ℕ) → ((i : ℕ) → i < k → g (f (iterate f i a)) ≡ g (iterate f i a)) → g (iterate f k a) ≡ g a

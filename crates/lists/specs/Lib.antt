@@ -27,3 +27,4 @@ pub mod Appended
 pub mod Cuts
 pub mod Rows
 pub mod Leasts
+pub mod Yielded

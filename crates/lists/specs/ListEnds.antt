@@ -1,6 +1,7 @@
 -- Lists at their ends: one list after another, a first member, members from the other end, the last.
 use Rattle.std.specs.Prelude.{ℕ, suc, ◌+◌, ◌≡◌, refl, Bool, true, false, ◌&&◌, cond, length}
 use Rattle.std.proofs.Common.{arith, sym, ap, ◌∙◌, eq-eqb, ne_eqb}
+use Rattle.std.proofs.Math.Bool.{and_assoc, and-true}
 use mathlib.Core.List.{List, [], ◌∷◌, ◌++◌, reverse_aux, reverse}
 use Rattle.lists.specs.Lists.{has, all, positions}
 
@@ -50,17 +51,9 @@ and_swap false false c = refl
 all_onto : {A : Type 0} (p : A → Bool) (l m : List A) → all p (reverse_aux l m) ≡ (all p l && all p m)
 unfolding all
 all_onto p [] m = refl
-all_onto p (x ∷ l) m = all_onto p l (x ∷ m) ∙ and_swap (all p l) (p x) (all p m) ∙ sym (and_three (p x) (all p l) (all p m))
-  where
-    and_three : (a b c : Bool) → ((a && b) && c) ≡ (a && (b && c))
-    and_three true b c = refl
-    and_three false b c = refl
+all_onto p (x ∷ l) m = all_onto p l (x ∷ m) ∙ and_swap (all p l) (p x) (all p m) ∙ sym (and_assoc (p x) (all p l) (all p m))
 
 -- members from the other end pass a test as they do
 pub all_reverse : {A : Type 0} (p : A → Bool) (l : List A) → all p (reverse l) ≡ all p l
 unfolding all
-all_reverse p l = all_onto p l [] ∙ and_true (all p l)
-  where
-    and_true : (b : Bool) → (b && true) ≡ b
-    and_true true = refl
-    and_true false = refl
+all_reverse p l = all_onto p l [] ∙ and-true (all p l)

@@ -7,6 +7,7 @@ use mathlib.Core.List.{List, [], ◌∷◌, ◌++◌, map, flat_map, foldl}
 use Rattle.lists.specs.Lists.{◌∈◌, Nodup, all, some, keep, positions, position, index_of, sum_of}
 use Rattle.lists.specs.Tests.{or_cases, or_second, and_both, both_and, equal_or_not}
 use Rattle.lists.specs.Membership.{pigeon, nodup_append}
+pub use Rattle.std.proofs.lemmas.List.{map-append as map_append}
 
 -- WHAT HOLDS OF EACH MEMBER
 
@@ -323,10 +324,6 @@ pub get_or_map : {A B : Type 0} (f : A → B) (l : List A) (i : ℕ) (d : B) (e 
 get_or_map f [] i d e h = absurd (omega arith)
 get_or_map f (x ∷ xs) zero d e h = refl
 get_or_map f (x ∷ xs) (suc i) d e h = get_or_map f xs i d e (omega arith)
-
-pub map_append : {A B : Type 0} (f : A → B) (l m : List A) → map f (l ++ m) ≡ map f l ++ map f m
-map_append f [] m = refl
-map_append f (x ∷ l) m = ap (λ r. f x ∷ r) (map_append f l m)
 
 pub map_same : {A B : Type 0} (f g : A → B) (l : List A) → ((x : A) → x ∈ l → f x ≡ g x) → map f l ≡ map g l
 map_same f g [] h = refl

@@ -103,7 +103,11 @@ module _ {n : ℕ} {f : ℕ → ℕ} {D : ℕ → Type 0} (P : Perm n f D) where
 
   pub period : (x : ℕ) → D x → (j : ℕ) × (j < n) × (iterate f (suc j) x ≡ x) × ((i : ℕ) → i < j → ¬ (iterate f (suc i) x ≡ x))
   unfolding iterate
-  period x d = ⊎_elim (λ r. (r.0, r.1, eqb-true (iterate f (suc r.0) x) x r.2, λ i h. eqb-false (iterate f (suc i) x) x (r.3 i h))) (λ h. absurd (never h)) (least_below (λ j. eqb (iterate f (suc j) x) x) n)
+  period x d =
+      ⊎_elim
+      (λ r. (r.0, r.1, eqb-true (iterate f (suc r.0) x) x r.2, λ i h. eqb-false (iterate f (suc i) x) x (r.3 i h)))
+      (λ h. absurd (never h))
+      (least_below (λ j. eqb (iterate f (suc j) x) x) n)
     where
       never : ((j : ℕ) → j < n → eqb (iterate f (suc j) x) x ≡ false) → ⊥
       never h =

@@ -32,7 +32,9 @@ keep_below_yes p h e = ap (λ k. keep p (below k)) (add-one h) ∙ ap (keep p) (
 
 pub keep_below_no : (p : ℕ → Bool) (h : ℕ) → p h ≡ false → keep p (below (h + 1)) ≡ keep p (below h)
 unfolding keep
-keep_below_no p h e = ap (λ k. keep p (below k)) (add-one h) ∙ ap (keep p) (below_snoc h) ∙ keep_append p (below h) (h ∷ []) ∙ ap (λ l. keep p (below h) ++ l) (keep_no p h [] e) ∙ append-nil (keep p (below h))
+keep_below_no p h e =
+    ap (λ k. keep p (below k)) (add-one h) ∙ ap (keep p) (below_snoc h) ∙ keep_append p (below h) (h ∷ [])
+    ∙ ap (λ l. keep p (below h) ++ l) (keep_no p h [] e) ∙ append-nil (keep p (below h))
 
 -- at most h of the numbers below h pass
 pub keep_below_le : (p : ℕ → Bool) (h : ℕ) → length (keep p (below h)) ≤ h

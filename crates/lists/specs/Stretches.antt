@@ -1,18 +1,12 @@
 -- Stretches: the members of a list from a place to another, and what a list with one stretch rewritten has.
-use Rattle.std.specs.Prelude.{◌≡◌, refl, List, [], ◌∷◌, ◌++◌, map, ℕ, zero, suc, ◌+◌, ◌-◌, ◌≤◌, ◌<◌, length, get_or, set, take, drop}
-use Rattle.std.proofs.Common.{sym, ap, ◌∙◌, not-suc-le-zero, arith, length-append, length-take, length-drop, take-append-drop, take_at, drop_at, length-take-le, get_or-take, get_or-drop}
-use Rattle.std.proofs.lemmas.List.{take-append-le, drop-append-le}
+use Rattle.std.specs.Prelude.{◌≡◌, List, ◌++◌, map, ℕ, ◌+◌, ◌-◌, ◌≤◌, ◌<◌, length, get_or, set, take, drop}
+use Rattle.std.proofs.Common.{sym, ap, ◌∙◌, arith, length-append, length-take, length-drop, take-append-drop, take_at, drop_at, length-take-le, get_or-take, get_or-drop}
+use Rattle.std.proofs.lemmas.List.{take-append-le, drop-append-le, take-map, drop-map}
 use borrow.Rule.Slice.PartMut.{post_of, put_mid, set_mid_at}
 
 -- the members from place a up to place e
 abbrev pub stretch : {A : Type 0} → List A → ℕ → ℕ → List A
 stretch l a e = take (e - a) (drop a l)
-
--- within a list it does not matter what stands past its end
-pub get_or_within : {A : Type 0} (l : List A) (i : ℕ) (d e : A) → i < length l → get_or l i d ≡ get_or l i e
-get_or_within [] i d e h = absurd (not-suc-le-zero h)
-get_or_within (x ∷ l) zero d e h = refl
-get_or_within (x ∷ l) (suc i) d e h = get_or_within l i d e (omega arith)
 
 pub length_stretch : {A : Type 0} (l : List A) (a e : ℕ) → e ≤ length l → length (stretch l a e) ≡ e - a
 length_stretch l a e h = length-take (e - a) (drop a l) ∙ simp length-drop (omega arith)
@@ -20,19 +14,9 @@ length_stretch l a e h = length-take (e - a) (drop a l) ∙ simp length-drop (om
 pub get_or_stretch : {A : Type 0} (l : List A) (a e i : ℕ) (d : A) → i < e - a → get_or (stretch l a e) i d ≡ get_or l (a + i) d
 get_or_stretch l a e i d h = get_or-take (e - a) (drop a l) i d h ∙ get_or-drop a l i d
 
-pub take_map : {A B : Type 0} (f : A → B) (n : ℕ) (l : List A) → take n (map f l) ≡ map f (take n l)
-take_map f zero l = refl
-take_map f (suc n) [] = refl
-take_map f (suc n) (x ∷ l) = ap (λ r. f x ∷ r) (take_map f n l)
-
-pub drop_map : {A B : Type 0} (f : A → B) (n : ℕ) (l : List A) → drop n (map f l) ≡ map f (drop n l)
-drop_map f zero l = refl
-drop_map f (suc n) [] = refl
-drop_map f (suc n) (x ∷ l) = drop_map f n l
-
 -- a stretch of the images
 pub stretch_map : {A B : Type 0} (f : A → B) (l : List A) (a e : ℕ) → stretch (map f l) a e ≡ map f (stretch l a e)
-stretch_map f l a e = ap (take (e - a)) (drop_map f a l) ∙ take_map f (e - a) (drop a l)
+stretch_map f l a e = ap (take (e - a)) (drop-map f a l) ∙ take-map f (e - a) (drop a l)
 
 -- what is read in a stretch, by its place in the list
 pub part_get : {A : Type 0} (l : List A) (a e p : ℕ) (d : A) → a ≤ p → p < e → get_or (stretch l a e) (p - a) d ≡ get_or l p d

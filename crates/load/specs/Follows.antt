@@ -19,7 +19,8 @@ use Rattle.theorems.specs.Sound.{Limited}
 use Rattle.job.specs.Lists.{points_in, edges_in, faces_in, loops_in, stretches_in, answers_in, job_in}
 use Rattle.answers.specs.Index.{Indexed}
 use Rattle.answers.specs.IndexLaws.{indexed_none}
-use Rattle.selected.specs.Sources.{Sourced}
+use Rattle.selected.specs.declared.Sources.{Sources}
+use Rattle.selected.specs.Sources.{no_sources, Sourced}
 use Rattle.selected.specs.SourceLaws.{sourced_none}
 use Rattle.load.specs.Placed.{Placed, placed_none}
 use Rattle.load.specs.Judged.{state_in}
@@ -101,14 +102,14 @@ follows_start bytes ix c e h some =
     ∙ sym (ap (λ fs. throughout load_record fs (state_in bytes ix no_counts)) (frames_step bytes 0 some))
     ∙ ap (λ d. throughout load_record (frames_of 0 (drop 0 bytes)) (state_in bytes ix d)) (sym e)
 
-pub going_start : (bytes ix t : List ℕ) (c : Counts) → ix ≡ replicate 7424 0 → t ≡ replicate 512 0 → c ≡ no_counts → length bytes ≤ 65536 → Going bytes ix t c 0
-going_start bytes ix t c blank bare e h = record {
+pub going_start : (bytes ix : List ℕ) (s : Sources) (c : Counts) → ix ≡ replicate 7424 0 → s ≡ no_sources → c ≡ no_counts → length bytes ≤ 65536 → Going bytes ix s c 0
+going_start bytes ix s c blank bare e h = record {
   small = h;
   within = omega arith;
   placed = subst (λ d. Placed d 0) (sym e) placed_none;
   limited = subst Limited (sym e) (record { vertices = omega arith; edges = omega arith; faces = omega arith; loops = omega arith; uses = omega arith; answers = omega arith });
   indexed = subst (λ l. Indexed bytes l c) (sym blank) (indexed_none bytes c (ap (λ d. d.answers) e));
-  sourced = subst (λ l. Sourced bytes ix l c) (sym bare) (sourced_none bytes ix c (ap (λ d. d.faces) e));
+  sourced = subst (λ t. Sourced bytes ix t c) (sym bare) (sourced_none bytes ix c (ap (λ d. d.faces) e));
 }
 
 module _ (bytes ix : List ℕ) (c : Counts) (at : ℕ) (F : Follows bytes ix c at) where

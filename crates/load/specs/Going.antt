@@ -14,6 +14,7 @@ use Rattle.rules.specs.Load.{counted, extended, load_record}
 use Rattle.theorems.specs.Sound.{Limited}
 use Rattle.job.specs.Lists.{fields_at, job_in}
 use Rattle.answers.specs.Index.{Indexed}
+use Rattle.selected.specs.declared.Sources.{Sources}
 use Rattle.selected.specs.Sources.{Sourced}
 use Rattle.records.specs.Limits.{whole_fields, limited_kept, loop_part, answer_room}
 use Rattle.load.specs.Placed.{Placed, placed_kept}
@@ -23,19 +24,19 @@ use Rattle.load.specs.SourcesKept.{kept_sources, face_room, sourced_kept}
 use Rattle.load.specs.Judged.{state_in, record_at, taken_at, Passed, passed}
 
 -- what holds of index and counts where the next record begins
-pub record Going (bytes ix t : List ℕ) (c : Counts) (at : ℕ) : Type 0 where
+pub record Going (bytes ix : List ℕ) (s : Sources) (c : Counts) (at : ℕ) : Type 0 where
   pub small : length bytes ≤ 65536
   pub within : at ≤ length bytes
   pub placed : Placed c at
   pub limited : Limited c
   pub indexed : Indexed bytes ix c
-  pub sourced : Sourced bytes ix t c
+  pub sourced : Sourced bytes ix s c
 
 -- the next record: where it begins, and what holds there
-pub record OnTo (bytes ix t : List ℕ) (at : ℕ) (c : Counts) (next : ℕ) : Type 0 where
+pub record OnTo (bytes ix : List ℕ) (s : Sources) (at : ℕ) (c : Counts) (next : ℕ) : Type 0 where
   pub begins : next ≡ at + taking (drop at bytes)
   pub further : at < next
-  pub going : Going bytes ix t c next
+  pub going : Going bytes ix s c next
 
 -- ONE RECORD
 
@@ -51,7 +52,7 @@ unfolding fields_at
 frame_here bytes ix c at w = ap (λ f. load_record f (state_in bytes ix c)) (frame_is bytes at w)
 
 -- a whole record that is taken
-module _ {bytes ix t : List ℕ} {c : Counts} {at : ℕ} {k : Kind} {size : ℕ} (G : Going bytes ix t c at) (kind : k ≡ kind_of (le16 bytes (at + 4))) (long : size ≡ le32 bytes at)
+module _ {bytes ix : List ℕ} {s : Sources} {c : Counts} {at : ℕ} {k : Kind} {size : ℕ} (G : Going bytes ix s c at) (kind : k ≡ kind_of (le16 bytes (at + 4))) (long : size ≡ le32 bytes at)
     (T : load_record (record_at bytes at) (state_in bytes ix c) ≡ Ok (taken_at k bytes ix c at))
   where
     P : Passed bytes ix c at k
@@ -74,11 +75,11 @@ module _ {bytes ix t : List ℕ} {c : Counts} {at : ℕ} {k : Kind} {size : ℕ}
     abbrev iy : List ℕ
     iy = kept_index k bytes ix c at
 
-    abbrev u : List ℕ
-    u = kept_sources k bytes t c at
+    abbrev t : Sources
+    t = kept_sources k bytes s c at
 
     counts : counted k (length (fields_at bytes at)) c ≡ d
-    counts = ap (λ n. counted k n c) (fields_count bytes at ∙ ap (λ s. s / 4) (sym long))
+    counts = ap (λ n. counted k n c) (fields_count bytes at ∙ ap (λ m. m / 4) (sym long))
 
     -- it is as the definitions have it
     pub step_taken : whole_record (drop at bytes) ≡ true → Ok (state_in bytes iy d) ≡ load_record (frame_at at (drop at bytes)) (state_in bytes ix c)
@@ -88,11 +89,11 @@ module _ {bytes ix t : List ℕ} {c : Counts} {at : ℕ} {k : Kind} {size : ℕ}
         (λ i. Ok (record { counts = sym counts i; job = job i })) ∙ sym T ∙ sym (frame_here bytes ix c at w)
 
     -- and the next one begins where it ends
-    pub step_on : whole_record (drop at bytes) ≡ true → OnTo bytes iy u at d (at + 6 + size)
+    pub step_on : whole_record (drop at bytes) ≡ true → OnTo bytes iy t at d (at + 6 + size)
     step_on w =
         let n = length (fields_at bytes at) in
-        let fields : size ≡ 4 * n = long ∙ whole_fields k (le32 bytes at) P.right ∙ ap (λ s. 4 * s) (sym (fields_count bytes at)) in
-        let there : at + 6 + 4 * n ≡ at + 6 + size = ap (λ s. at + 6 + s) (sym fields) in
+        let fields : size ≡ 4 * n = long ∙ whole_fields k (le32 bytes at) P.right ∙ ap (λ m. 4 * m) (sym (fields_count bytes at)) in
+        let there : at + 6 + 4 * n ≡ at + 6 + size = ap (λ m. at + 6 + m) (sym fields) in
         let fits : right_length k (4 * n) ≡ true = ap (right_length k) (sym fields ∙ long) ∙ P.right in
         record {
           begins = omega (arith, taking_is bytes at w, long);
@@ -103,7 +104,7 @@ module _ {bytes ix t : List ℕ} {c : Counts} {at : ℕ} {k : Kind} {size : ℕ}
             placed = subst (λ e. Placed e (at + 6 + size)) counts (subst (Placed (counted k n c)) there (placed_kept n c at G.placed k fits P.position));
             limited = subst Limited counts (limited_kept c G.limited k n P.limit);
             indexed = subst (Indexed bytes iy) counts (indexed_kept bytes ix c at G.placed G.limited G.indexed k (sym kind) P.right P.limit P.new);
-            sourced = subst (Sourced bytes iy u) counts
-                (sourced_kept bytes ix c at G.placed G.limited G.indexed t G.sourced k (sym kind) P.right P.position P.limit);
+            sourced = subst (Sourced bytes iy t) counts
+                (sourced_kept bytes ix c at G.placed G.limited G.indexed s G.sourced k (sym kind) P.right P.position P.limit);
           };
         }

@@ -17,11 +17,11 @@ use Rattle.rules.specs.Kinds.{kind_of, number_of, right_length, right_position, 
 use Rattle.rules.specs.Load.{Loading, counted, extended, same_source, selected_before, right_joints, answered_before, load_record}
 use Rattle.theorems.specs.Sound.{Limited}
 use Rattle.job.specs.Lists.{points_in, edges_in, fields_at, face_in, faces_in, answers_in, job_in}
-use Rattle.job.specs.declared.RawJob.{RawJob}
-use Rattle.job.specs.Raw.{faces}
 use Rattle.job.specs.FieldLaws.{face_is}
 use Rattle.answers.specs.Index.{Indexed}
 use Rattle.job.specs.Apart.{other_kind}
+use Rattle.job.specs.declared.RawJob.{RawJob}
+use Rattle.load.specs.declared.Header.{Header}
 use Rattle.load.specs.After.{fields_count}
 use Rattle.rules.specs.declared.Fault.TheVariants.{Misplaced, FieldNotPermitted, LimitPassed, LoopJoints, AnsweredTwice, SelectedTwice}
 
@@ -36,21 +36,21 @@ state raw = state_in raw.bytes.now raw.index.now raw.counts
 abbrev pub record_at : List ℕ → ℕ → Frame
 record_at bytes at = record { at = at; whole = true; kind = le16 bytes (at + 4); size = le32 bytes at; fields = fields_at bytes at }
 
--- a whole record, its kind and length as read
-pub record Here (raw : RawJob) (at : ℕ) (k : Kind) (size : ℕ) : Type 0 where
-  pub limited : Limited raw.counts
-  pub indexed : Indexed raw.bytes.now raw.index.now raw.counts
-  pub low : at < 4294967296
-  pub kind : k ≡ kind_of (le16 raw.bytes.now (at + 4))
-  pub long : size ≡ le32 raw.bytes.now at
-  pub small : size < 4294967296
+-- a whole record, its header as read
+pub record Here (bytes ix : List ℕ) (c : Counts) (h : Header) : Type 0 where
+  pub limited : Limited c
+  pub indexed : Indexed bytes ix c
+  pub low : h.at < 4294967296
+  pub kind : h.kind ≡ kind_of (le16 bytes (h.at + 4))
+  pub long : h.size ≡ le32 bytes h.at
+  pub small : h.size < 4294967296
 
 -- what is loaded where the record at a byte is taken
 abbrev pub taken_at : Kind → List ℕ → List ℕ → Counts → ℕ → Loading
 taken_at k bytes ix c at = record { counts = counted k (length (fields_at bytes at)) c; job = extended k at (fields_at bytes at) (job_in bytes ix c) }
 
-abbrev pub taken : Kind → RawJob → ℕ → Loading
-taken k raw at = taken_at k raw.bytes.now raw.index.now raw.counts at
+abbrev pub taken : Header → RawJob → Loading
+taken h raw = taken_at h.kind raw.bytes.now raw.index.now raw.counts h.at
 
 -- the tests of a whole record by its kind and length as read; it is taken where all hold
 abbrev pub tests : Kind → ℕ → List ℕ → List ℕ → Counts → ℕ → Outcome Loading
@@ -69,9 +69,8 @@ tested : (bytes ix : List ℕ) (c : Counts) (at : ℕ) (k : Kind) (size : ℕ) �
 unfolding load_record need fields_at job_in
 tested bytes ix c at k size kind long = rw (kind, long, fields_count)
 
-pub judged : {raw : RawJob} {at : ℕ} {k : Kind} {size : ℕ} → Here raw at k size
-    → load_record (record_at raw.bytes.now at) (state raw) ≡ tests k size raw.bytes.now raw.index.now raw.counts at
-judged {raw} {at} {k} {size} H = tested raw.bytes.now raw.index.now raw.counts at k size H.kind H.long
+pub judged : {bytes ix : List ℕ} {c : Counts} {h : Header} → Here bytes ix c h → load_record (record_at bytes h.at) (state_in bytes ix c) ≡ tests h.kind h.size bytes ix c h.at
+judged {bytes} {ix} {c} {h} H = tested bytes ix c h.at h.kind h.size H.kind H.long
 
 -- the tests that a record has passed
 pub record Passed (bytes ix : List ℕ) (c : Counts) (at : ℕ) (k : Kind) : Type 0 where
@@ -98,13 +97,13 @@ passed {bytes} {ix} {c} {at} {k} {size} {s} kind long e =
     }
 
 -- the face of a record that selects one, and of one that selects none
-pub selected_as : (raw : RawJob) (at : ℕ) (k : Kind) (size : ℕ) (r : Bool) → Here raw at k size → right_length k size ≡ true → k ≡ FaceRecord
-    → r ≡ some (same_source (face_in raw.bytes.now at)) (faces raw) → r ≡ selected_before k (faces raw) (fields_at raw.bytes.now at)
+pub selected_as : (bytes : List ℕ) (fs : List Face) (h : Header) (r : Bool) → h.size ≡ le32 bytes h.at → right_length h.kind h.size ≡ true → h.kind ≡ FaceRecord
+    → r ≡ some (same_source (face_in bytes h.at)) fs → r ≡ selected_before h.kind fs (fields_at bytes h.at)
 unfolding selected_before number_of right_length
-selected_as raw at k size r H l e q =
-    let five : size ≡ 20 = eqb-true size 20 (ap (λ j. right_length j size) (sym e) ∙ l) in
-    let fields : le32 raw.bytes.now at / 4 ≡ 5 = omega (arith, five, H.long) in
-    q ∙ ap (λ f. some (same_source f) (faces raw)) (face_is raw.bytes.now at fields) ∙ ap (λ j. selected_before j (faces raw) (fields_at raw.bytes.now at)) (sym e)
+selected_as bytes fs h r long l e q =
+    let five : h.size ≡ 20 = eqb-true h.size 20 (ap (λ j. right_length j h.size) (sym e) ∙ l) in
+    let fields : le32 bytes h.at / 4 ≡ 5 = omega (arith, five, long) in
+    q ∙ ap (λ f. some (same_source f) fs) (face_is bytes h.at fields) ∙ ap (λ j. selected_before j fs (fields_at bytes h.at)) (sym e)
 
 pub no_face_lem : (k : Kind) (fs : List Face) (x : List ℕ) → (k ≡ FaceRecord → ⊥) → false ≡ selected_before k fs x
 unfolding selected_before number_of

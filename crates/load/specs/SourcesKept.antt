@@ -13,21 +13,16 @@ use Rattle.job.specs.Lists.{face_byte, fields_at, faces_in, job_in}
 use Rattle.job.specs.FieldLaws.{face_is}
 use Rattle.answers.specs.Index.{Indexed, entered}
 use Rattle.answers.specs.EnterLaws.{entered_past}
+use Rattle.selected.specs.declared.Sources.{Sources}
 use Rattle.selected.specs.Sources.{face_entered, Sourced}
 use Rattle.selected.specs.SourceLaws.{sourced_same, sourced_enter}
-use Rattle.job.specs.Apart.{other_kind}
 use Rattle.load.specs.Placed.{Placed}
 use Rattle.load.specs.Kept.{loop_kept, kept_index, long}
 use Rattle.load.specs.After.{job_kept}
 
 -- the table after a record of a kind at a byte
-unfoldable pub kept_sources : Kind → List ℕ → List ℕ → Counts → ℕ → List ℕ
-kept_sources k bytes t c at = cond (eqb (number_of k) 4) (face_entered bytes t c.faces at) t
-
--- where none is entered
-pub none_kept : (k : Kind) (bytes t : List ℕ) (c : Counts) (at : ℕ) → (k ≡ FaceRecord → ⊥) → t ≡ kept_sources k bytes t c at
-unfolding kept_sources number_of
-none_kept k bytes t c at h = rw (other_kind k FaceRecord h)
+unfoldable pub kept_sources : Kind → List ℕ → Sources → Counts → ℕ → Sources
+kept_sources k bytes s c at = cond (eqb (number_of k) 4) (face_entered bytes s c.faces at) s
 
 -- there is room for a face that is taken
 pub face_room : (k : Kind) (c : Counts) (n : ℕ) → limit_passed k c n ≡ false → k ≡ FaceRecord → c.faces < 256
@@ -70,7 +65,7 @@ module _ (bytes ix : List ℕ) (c : Counts) (at : ℕ) (P : Placed c at) (L : Li
   face_place Orientation m f h = past_answers f h (leb-false 2048 c.answers m)
   face_place Inside m f h = past_answers f h (leb-false 2048 c.answers m)
 
-  module _ (t : List ℕ) (S : Sourced bytes ix t c) where
+  module _ (s : Sources) (S : Sourced bytes ix s c) where
     -- the faces after a record of a kind
     faces_after : (k : Kind) → kind_of (le16 bytes (at + 4)) ≡ k → right_length k (le32 bytes at) ≡ true → right_position k c.part ≡ true → limit_passed k c n ≡ false
         → faces_in bytes (kept_index k bytes ix c at) (counted k n c) ≡ also_if (eqb (number_of k) 4) (faces_in bytes ix c) (face_of x)
@@ -78,25 +73,25 @@ module _ (bytes ix : List ℕ) (c : Counts) (at : ℕ) (P : Placed c at) (L : Li
     faces_after k kind l p m = ap (λ j. j.faces) (job_kept bytes ix c at P L I k kind l p m)
 
     no_face_entered : (k : Kind) → kind_of (le16 bytes (at + 4)) ≡ k → right_length k (le32 bytes at) ≡ true → right_position k c.part ≡ true → limit_passed k c n ≡ false
-        → eqb (number_of k) 4 ≡ false → Sourced bytes (kept_index k bytes ix c at) (kept_sources k bytes t c at) (counted k n c)
+        → eqb (number_of k) 4 ≡ false → Sourced bytes (kept_index k bytes ix c at) (kept_sources k bytes s c at) (counted k n c)
     unfolding counted kept_sources
     no_face_entered k kind l p m e =
         let iy : List ℕ = kept_index k bytes ix c at in
         let faces = faces_after k kind l p m ∙ ap (λ b. also_if b (faces_in bytes ix c) (face_of x)) e in
-        let same = sourced_same bytes ix iy t c (counted k n c) S (ap (λ b. more_if b 1 c.faces) e) (face_place k m) faces in
-        subst (λ u. Sourced bytes iy u (counted k n c)) (sym (ap (λ b. cond b (face_entered bytes t c.faces at) t) e)) same
+        let same = sourced_same bytes ix iy s c (counted k n c) S (ap (λ b. more_if b 1 c.faces) e) (face_place k m) faces in
+        subst (λ u. Sourced bytes iy u (counted k n c)) (sym (ap (λ b. cond b (face_entered bytes s c.faces at) s) e)) same
 
     face_entered_lem : kind_of (le16 bytes (at + 4)) ≡ FaceRecord → right_length FaceRecord (le32 bytes at) ≡ true → right_position FaceRecord c.part ≡ true → limit_passed FaceRecord c n ≡ false
-        → Sourced bytes (kept_index FaceRecord bytes ix c at) (kept_sources FaceRecord bytes t c at) (counted FaceRecord n c)
+        → Sourced bytes (kept_index FaceRecord bytes ix c at) (kept_sources FaceRecord bytes s c at) (counted FaceRecord n c)
     unfolding counted kept_sources kept_index number_of right_length
     face_entered_lem kind l p m =
         let room : c.faces < 256 = face_room FaceRecord c n m refl in
         let here : face_byte (set ix (5120 + c.faces) at) c.faces ≡ at = get_or-set_same ix (5120 + c.faces) at 0 (omega (arith, I.size, room)) in
         let faces = faces_after FaceRecord kind l p m ∙ ap (λ f. faces_in bytes ix c ++ (f ∷ [])) (sym (face_is bytes at (long (le32 bytes at) 5 l))) in
-        sourced_enter bytes ix (set ix (5120 + c.faces) at) t c (counted FaceRecord n c) at S room refl (face_place FaceRecord m) here faces
+        sourced_enter bytes ix (set ix (5120 + c.faces) at) s c (counted FaceRecord n c) at S room refl (face_place FaceRecord m) here faces
 
     pub sourced_kept : (k : Kind) → kind_of (le16 bytes (at + 4)) ≡ k → right_length k (le32 bytes at) ≡ true → right_position k c.part ≡ true → limit_passed k c n ≡ false
-        → Sourced bytes (kept_index k bytes ix c at) (kept_sources k bytes t c at) (counted k n c)
+        → Sourced bytes (kept_index k bytes ix c at) (kept_sources k bytes s c at) (counted k n c)
     unfolding number_of
     sourced_kept Unknown kind l p m = no_face_entered Unknown kind l p m refl
     sourced_kept Head kind l p m = no_face_entered Head kind l p m refl

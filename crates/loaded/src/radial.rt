@@ -35,7 +35,7 @@ impl<'a> Order<'a> {
     }
 
     // How many uses there are.
-    #[tactic(auto, using(job::specs::FieldLaws::length_fields))]
+    #[tactic(auto, using(rules::proofs::FieldLaws::length_fields))]
     pub fn len(&self) -> usize
         ensures { (result ≡ length self.now) × (result < 2 ^ 40) }
     {
@@ -43,7 +43,7 @@ impl<'a> Order<'a> {
     }
 
     // The use at a place.
-    #[tactic(auto, using(job::specs::FieldLaws::length_fields, job::specs::FieldLaws::field_in))]
+    #[tactic(auto, using(rules::proofs::FieldLaws::length_fields, rules::proofs::FieldLaws::field_in))]
     pub fn at(&self, i: usize) -> usize
         requires { i < length self.now }
         ensures { (result ≡ get_or self.now i 0) × (result < 4294967296) }
@@ -52,15 +52,9 @@ impl<'a> Order<'a> {
     }
 
     // A use is among them.
-    #[tactic(auto, using(crate::proofs::ItemLaws::has_here, crate::proofs::ItemLaws::has_later, crate::proofs::ItemLaws::has_nowhere))]
     pub fn has(&self, h: usize) -> bool
         ensures { result ≡ has h self.now }
     {
-        for i in 0..self.len() {
-            if self.at(i) == h {
-                return true;
-            }
-        }
-        false
+        (0..self.len()).any(|i| h == self.at(i))
     }
 }

@@ -1,5 +1,5 @@
 -- The corners end by end: how many ends stand at each fan, and the first and the last of them.
-use Rattle.std.specs.Prelude.{ℕ, suc, ◌+◌, ◌*◌, ◌<◌, ◌≤◌, ◌≡◌, refl, List, [], ◌∷◌, ◌++◌, Bool, true, false, ◌&&◌, cond, length, take, eqb}
+use Rattle.std.specs.Prelude.{ℕ, suc, ◌+◌, ◌*◌, ◌<◌, ◌≤◌, ◌≡◌, refl, List, [], ◌∷◌, ◌++◌, Bool, true, false, ◌&&◌, cond, length, get_or, take, eqb}
 use Rattle.std.proofs.Common.{add-one, arith, sym, ap, ◌∙◌, length-set, length-take}
 use Rattle.std.proofs.Common.{take-suc, take_all, length-take-le}
 use Rattle.std.proofs.lemmas.Grind.{common_steps}
@@ -7,7 +7,7 @@ use Rattle.lists.specs.Lists.{sum_of}
 use Rattle.lists.specs.Tables.{get_or_snoc_last, length_snoc}
 use Rattle.lists.specs.Sums.{sum_nil, sum_cons}
 use Rattle.rules.specs.declared.EdgeData.{EdgeData}
-use Rattle.rules.specs.Join.{no_edge_data, edge_data_at, one_if, ends_from, ends_at}
+use Rattle.rules.specs.Join.{one_if, ends_from, ends_at}
 use Rattle.theorems.specs.Ends.{ends_one}
 use Rattle.theorems.proofs.Ends.{ends_sum}
 use Rattle.maximal_edges.specs.declared.Corner.{Corner}
@@ -80,13 +80,13 @@ half_small es {e = e} p q k h m =
 
 -- ONE EDGE MORE
 
-module _ (es : List EdgeData) (e : ℕ) (h : e < length es) where
+module _ (es : List EdgeData) (e : ℕ) (h : e < length es) (past : EdgeData) where
   abbrev d : EdgeData
-  d = edge_data_at es e
+  d = get_or es e past
 
   ends_more : (v : ℕ) → ends_at (take (e + 1) es) v ≡ ends_at (take e es) v ++ one_if (d.active && eqb d.start v) e (one_if (d.active && eqb d.end v) e [])
   ends_more v =
-      ap (λ n. ends_at (take n es) v) (add-one e) ∙ ap (λ l. ends_at l v) (take-suc es e no_edge_data h)
+      ap (λ n. ends_at (take n es) v) (add-one e) ∙ ap (λ l. ends_at l v) (take-suc es e past h)
       ∙ ends_snoc 0 e (take e es) d v (omega (arith, length-take-le e es (omega arith)))
 
   -- an edge that is not active

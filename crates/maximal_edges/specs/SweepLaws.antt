@@ -57,6 +57,14 @@ tried_none o c e = grind arith
 pub next_more : (from : Resume) (i : ℕ) → i < next_after from i
 next_more from i = grind (arith, nat_tests)
 
+-- a fan with two ends by the table of ends has those of its lower and its higher edge
+pub two_corner : {es : List EdgeData} {corners : List Corner} {names : List ℕ} → Tabled es corners → ((v : ℕ) → v ∈ names → v < length corners)
+    → {i v : ℕ} {c : Corner} → i < length names → v ≡ get_or names i 0 → c ≡ corner_at corners v → c.ends ≡ 2 → ends_at es v ≡ c.low ∷ c.high ∷ []
+two_corner {names = names} tabled fans {i} {v} h ev ec two =
+    let inside = fans v (subst (λ x. x ∈ names) (sym ev) (get_or_in names i 0 h)) in
+    let pair = tabled.pairs v inside (sym (tabled.counts v inside) ∙ sym (ap (λ (d : Corner). d.ends) ec) ∙ two) in
+    pair ∙ sym (ap (λ (d : Corner). d.low ∷ d.high ∷ []) ec)
+
 -- a fan with other than two ends is still
 pub idle_still : (answers : List Answer) (starts : List ℕ) (es : List EdgeData) (v : ℕ) → (length (ends_at es v) ≡ 2 → ⊥) → Still answers starts es v
 idle_still answers starts es v other a b e = absurd (other (ap length e))

@@ -110,27 +110,17 @@ fn count_end(corners: &mut [Corner], v: usize, e: usize)
     put_entry(corners, v, one_more(e, c));
 }
 
-// The ends of edge e.
-#[tactic(auto, using(crate::specs::CountLaws::counted_active, crate::specs::CountLaws::counted_idle))]
-fn count_edge(rows: &[EdgeData], corners: &mut [Corner], e: usize)
-    requires { Counted rows.now corners.old e × (e < length rows.now) × (e < 2048) }
-    ensures { Counted rows.now corners.new (e + 1) }
-{
-    let edge = edge_at(rows, e);
-    if edge.active {
-        count_end(corners, edge.start as usize, e);
-        count_end(corners, edge.end as usize, e);
-    }
-}
-
 // The active edge ends at each fan; none is counted at first.
-#[tactic(auto, using(crate::specs::CountLaws::counted_all), unfolding(rules::specs::Join::ends_from))]
+#[tactic(auto, using(crate::specs::CountLaws::counted_active, crate::specs::CountLaws::counted_idle, crate::specs::CountLaws::counted_all), unfolding(rules::specs::Join::ends_from))]
 fn count_ends(rows: &[EdgeData], corners: &mut [Corner])
     requires { (length rows.now ≤ 2048) × Blank corners.old }
     ensures { Tabled rows.now corners.new }
 {
-    for e in 0..rows.len() {
-        count_edge(rows, corners, e);
+    for (e, edge) in rows.iter().enumerate() {
+        if edge.active {
+            count_end(corners, edge.start as usize, e);
+            count_end(corners, edge.end as usize, e);
+        }
     }
 }
 
@@ -531,8 +521,8 @@ fn is_small(names: &[u32], count: usize, items: usize, stretches: usize) -> bool
 }
 
 // The edges joined: corners with exactly two active edge ends are taken away until no sweep changes anything.
-// The tables are lent one by one, here and in `join_in` and `join_all`: of a struct that lends them, a contract could not say
-// that they are the same tables afterwards.
+// The tables are lent one by one: of a struct that lends them (tried: some 66 lines more) each contract must say that each
+// table is the same and as long as before, which slices do by themselves.
 pub fn maximal_edges(
     job: &Loaded<'_>,
     starts: &[u32],

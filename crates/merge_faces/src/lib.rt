@@ -13,7 +13,6 @@ ghost use Rattle.rules.specs.Rules.{full_table};
 ghost use Rattle.rules.specs.Merge.{boundaries as boundaries_of, other_face, joins_faces, merge_step, merged_groups, removes, removed_uses};
 ghost use Rattle.groups.specs.Parents.{Ordered, Stands};
 ghost use Rattle.merge_faces.specs.Merging.{MergedTo, answered_step, JoinedPairs};
-ghost use Rattle.merge_faces.specs.Numbering.{MembersBelow, NumbersBelow};
 
 mod faces;
 
@@ -26,34 +25,16 @@ use uses::use_face;
 
 // BOUNDARIES
 
-// The faces beside a pair.
-#[derive(Clone, Copy)]
-struct TwoFaces {
-    face: usize,
-    other: usize,
-}
-
-// The face of use h, and that of its twin.
-fn sides(uses: &[Use], twins: &[u32], h: usize) -> TwoFaces
-    ensures { (result.face ≡ face_of_use uses.now h) × (result.other ≡ other_face uses.now twins.now h) }
-{
-    let t = get(twins, h);
-    TwoFaces {
-        face: use_face(uses, h),
-        other: use_face(uses, t),
-    }
-}
-
 // The faces of every twin pair join.
 fn join_pairs(g: Groups, uses: &[Use], twins: &[u32]) -> Groups
     requires { Ordered g.parents }
     ensures { JoinedPairs uses.now twins.now (length uses.now) g.parents result.parents }
 {
     let mut groups = g;
-    for h in 0..uses.len() {
-        let s = sides(uses, twins, h);
+    for (h, u) in uses.iter().enumerate() {
+        let t = get(twins, h);
         // boundaries count no joins
-        let _separate = join(&mut groups, s.face, s.other);
+        let _separate = join(&mut groups, u.face as usize, use_face(uses, t));
     }
     groups
 }
@@ -157,6 +138,7 @@ fn merge_groups(
 {
     groups::alone(labels);
     let mut joins = 0;
+    // by number: a use's question and its twin are found by its number, and its face only after them
     for h in 0..uses.len() {
         joins += merge_use(job, uses, twins, labels, h)?;
     }
@@ -190,40 +172,23 @@ pub fn remove(uses: &[Use], twins: &[u32], groups: &[u32], removed: &mut [bool])
 
 // MERGED FACES BY NUMBER
 
-// Face f: the lowest member of the next group, or of a group met before. Gives how many groups there are up to f.
-#[tactic(auto, using(crate::specs::Numbering::no_member))]
-fn number_face(
-    groups: &[u32],
-    members: &mut [u32],
-    numbers: &mut [u32],
-    count: usize,
-    f: usize,
-) -> usize
-    requires { Lowest groups.now × (f < length groups.now) × (length groups.now ≤ 256) × (length members.old ≡ length groups.now) × (length numbers.old ≡ length groups.now)
-        × MembersBelow groups.now members.old count f × NumbersBelow groups.now numbers.old f }
-    ensures members { MembersBelow groups.now members.new result (f + 1) }
-    ensures numbers { NumbersBelow groups.now numbers.new (f + 1) }
-{
-    let g = get(groups, f);
-    if g == f {
-        put(members, count, f);
-        put(numbers, f, count);
-        return count + 1;
-    }
-    let k = get(numbers, g);
-    put(numbers, f, k);
-    count
-}
-
 // The lowest member of each merged face, and each selected face's merged face. Gives how many merged faces there are.
-#[tactic(auto, using(crate::specs::Numbering::all_numbered), unfolding(lists::specs::Lists::from, lists::specs::Lists::keep))]
+#[tactic(auto, using(crate::specs::Numbering::own_more, crate::specs::Numbering::other_more, crate::specs::Numbering::all_numbered), unfolding(lists::specs::Lists::from, lists::specs::Lists::keep))]
 pub fn number(groups: &[u32], members: &mut [u32], numbers: &mut [u32]) -> usize
     requires { Lowest groups.now × (length members.old ≡ length groups.now) × (length numbers.old ≡ length groups.now) × (length groups.now ≤ 256) }
     ensures { (take result members.new ≡ lowest_members groups.now) × (result ≡ length (lowest_members groups.now)) × (numbers.new ≡ group_numbers groups.now) }
 {
     let mut count = 0;
-    for f in 0..groups.len() {
-        count = number_face(groups, members, numbers, count, f);
+    for (f, group) in groups.iter().enumerate() {
+        let g = *group as usize;
+        if g == f {
+            put(members, count, f);
+            put(numbers, f, count);
+            count += 1;
+        } else {
+            let k = get(numbers, g);
+            put(numbers, f, k);
+        }
     }
     count
 }

@@ -1,4 +1,3 @@
-pub mod All
 pub mod Last
 pub mod EdgeLaws
 pub mod Complete

@@ -82,6 +82,7 @@ fn take_predecessors(
     ensures { (result and_then λ _. Ok twins.new) ≡ take_predecessors uses.now e (last_of 0 order.now) order.now twins.old }
 {
     let mut p = order.at(order.len() - 1);
+    // by number: the record's uses are read where they stand in the bytes, and `Order` is no iterator: two loops alone go over one
     for i in 0..order.len() {
         let h = order.at(i);
         take_predecessor(uses, twins, e, p, h)?;
@@ -161,6 +162,7 @@ fn pair_edges(job: &Loaded<'_>, linked: &EdgeUses<'_>, twins: &mut [u32]) -> Res
         × (twins.old ≡ replicate (length linked.now.uses) unset) }
     ensures { (result and_then λ _. Ok twins.new) ≡ pair_all job.now.answers linked.now.uses (length job.now.edges) }
 {
+    // by number: an edge is its number, and has no record to go along
     for e in 0..job.edges() {
         pair_edge(job, linked, twins, e)?;
     }

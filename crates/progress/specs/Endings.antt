@@ -18,8 +18,8 @@ pub ends_refused : (o : Outcome (List ℕ)) (out : List ℕ) (refusal : Refusal)
 ends_refused o out refusal e q h = ends_as o (Err refusal) out out e q (h, refl)
 
 -- a stage that wrote its fields ends as the definition whose fields these are
-pub ends_staged : (o : Outcome (List ℕ)) (fields written before after : List ℕ) (r : Outcome ℕ) → o ≡ stage_bytes (length before) fields → written ≡ fields → Ends (stage_bytes (length before) written) before after r
-    → Ends o before after r
+pub ends_staged : (o : Outcome (List ℕ)) (fields written before after : List ℕ) (r : Outcome ℕ) → o ≡ stage_bytes (length before) fields
+    → written ≡ fields → Ends (stage_bytes (length before) written) before after r → Ends o before after r
 ends_staged o fields written before after r e w s = ends_as o (stage_bytes (length before) written) before after r (e ∙ ap (stage_bytes (length before)) (sym w)) s
 
 -- a stage that is asked for, and one that is not

@@ -6,33 +6,32 @@ use Rattle.rules.specs.declared.KeptVertexLoop.{KeptVertexLoop}
 use Rattle.rules.specs.Outcome.{Ok}
 use Rattle.rules.proofs.OutcomeLaws.{bind_on}
 use Rattle.rules.specs.Job.{Job}
-use Rattle.rules.specs.Load.{loaded}
-use Rattle.rules.specs.Read.{face_of_use, uses_of}
+use Rattle.rules.specs.Read.{face_of_use}
 use Rattle.lists.specs.Lists.{below, keep, sum_of}
 use Rattle.lists.specs.Runs.{length_below}
 use Rattle.lists.specs.Members.{keep_length}
 use Rattle.rules.specs.Groups.{Lowest, is_lowest, lowest_members}
-use Rattle.rules.specs.Rules.{full_table, ordinary}
+use Rattle.rules.specs.Rules.{full_table}
 use Rattle.rules.specs.Pair.{pair}
-use Rattle.rules.specs.Merge.{boundaries, merge_faces, merged_faces, removed_uses}
+use Rattle.rules.specs.Merge.{merge_faces, merged_faces, removed_uses}
 use Rattle.rules.specs.VertexLoops.{vertex_loops}
 use Rattle.rules.specs.Walk.{circuits}
-use Rattle.rules.specs.Sew.{walks_of, walked}
+use Rattle.rules.specs.Sew.{walks_of}
 use Rattle.theorems.specs.Sound.{Sound}
 use Rattle.theorems.specs.Linked.{Twins, Linked}
 use Rattle.theorems.proofs.Loading.{loaded_limits, loaded_sound, faces_few}
 use Rattle.theorems.proofs.Reading.{use_face_below}
 use Rattle.theorems.proofs.Pairing.{pairs_fully}
 use Rattle.theorems.proofs.Connected.{boundaries_lowest, boundaries_length}
-use Rattle.theorems.proofs.Merging.{merged_length, merged_lowest, length_removed_uses}
+use Rattle.theorems.proofs.Merging.{merged_length, merged_lowest}
 use Rattle.theorems.specs.Circuits.{Permuted}
 use Rattle.theorems.proofs.Circuits.{linked_permuted}
 use Rattle.theorems.specs.Demand3.{Settled as SettledRules}
 use Rattle.theorems.specs.Ground.{Ground}
-use Rattle.theorems.proofs.Ground.{ground, settled_walked}
+use Rattle.theorems.proofs.Ground.{ground}
 use Rattle.loaded.specs.Opened.{Loads}
 use Rattle.merge_faces.specs.FaceTables.{FaceTables}
-use Rattle.progress.specs.Known.{Paired, Grouped, merged_in, walked_in, Kept, Settled, Walking}
+use Rattle.progress.specs.Known.{Paired, Grouped, merged_in, walked_in, Settled, Walking}
 
 -- LOADED
 
@@ -43,7 +42,7 @@ module _ {j : Job} (l : Loads j) where
   pub loads_loops : length j.loops ≤ 1024
   loads_loops = let c = loaded_limits l.bytes j l.loads in omega (arith, c.1.loops, c.2.loops)
 
-  pub loads_faces : length j.faces ≤ 256
+  loads_faces : length j.faces ≤ 256
   loads_faces = faces_few l.bytes j l.loads
 
 -- PAIRED
@@ -55,7 +54,7 @@ module _ {j : Job} {us : List Use} {ts : List ℕ} (P : Paired j us ts) where
   pub paired_twins : Twins us ts
   paired_twins = pairs_fully j.answers us ts (length j.edges) (omega (arith, paired_few)) P.pairs
 
-  pub face_below : (h : ℕ) → h < length us → face_of_use us h < length j.faces
+  face_below : (h : ℕ) → h < length us → face_of_use us h < length j.faces
   face_below = subst (λ (u : List Use). (h : ℕ) → h < length u → face_of_use u h < length j.faces) (sym P.uses) (use_face_below j (loads_sound P.loads))
 
 -- MERGED
@@ -64,17 +63,17 @@ module _ {j : Job} {us : List Use} {ts : List ℕ} {m : FaceTables} (G : Grouped
   pub grouped_lowest : Lowest m.groups
   grouped_lowest = merged_lowest full_table j.answers j.faces us ts _ G.merges (face_below G.paired) (paired_twins G.paired).below
 
-  pub bounded_lowest : Lowest m.boundaries
+  bounded_lowest : Lowest m.boundaries
   bounded_lowest = subst Lowest (sym G.tables.boundaries) (boundaries_lowest us ts (length j.faces) (face_below G.paired) (paired_twins G.paired).below)
 
-  pub groups_length : length m.groups ≡ length j.faces
+  groups_length : length m.groups ≡ length j.faces
   groups_length = merged_length full_table j.answers j.faces us ts _ G.merges
 
   pub labels_length : length m.boundaries ≡ length j.faces
   labels_length = ap length G.tables.boundaries ∙ boundaries_length us ts (length j.faces)
 
   -- with the uses removed, this is merging
-  pub grouped_merges : (rm : List Bool) → rm ≡ removed_uses us ts m.groups → merge_faces full_table j.answers j.faces us ts ≡ Ok (merged_in m rm)
+  grouped_merges : (rm : List Bool) → rm ≡ removed_uses us ts m.groups → merge_faces full_table j.answers j.faces us ts ≡ Ok (merged_in m rm)
   unfolding merge_faces
   grouped_merges rm e = bind_on _ G.merges ∙ (λ i. Ok (record { boundaries = sym G.tables.boundaries i; groups = m.groups; joins = m.joins; removed = sym e i }))
 
@@ -93,12 +92,8 @@ module _ {j : Job} {us : List Use} {ts : List ℕ} {m : FaceTables} {kept : List
     walks = ap (λ u. walks_of u ts (merged_in m rm) kept) G.paired.uses;
   }
 
-  -- the walks of the definitions
-  pub settled_is : walked ordinary j ≡ Ok (walked_in us ts m rm kept)
-  settled_is = settled_walked full_table j (walked_in us ts m rm kept) settled_rules
-
   -- what they give to the stages after them
-  pub settled_ground : Ground j (walked_in us ts m rm kept)
+  settled_ground : Ground j (walked_in us ts m rm kept)
   settled_ground = ground full_table G.paired.loads.bytes j (walked_in us ts m rm kept) G.paired.loads.loads settled_rules
 
   pub settled_linked : Linked us ts rm m.groups
@@ -107,9 +102,6 @@ module _ {j : Job} {us : List Use} {ts : List ℕ} {m : FaceTables} {kept : List
 
   pub settled_permuted : Permuted (length us) rm ss
   settled_permuted = subst (Permuted (length us) rm) (sym S.follows) (linked_permuted settled_linked)
-
-  pub settled_removed : length rm ≡ length us
-  settled_removed = ap length S.removed ∙ length_removed_uses us ts m.groups
 
 -- A JOB WITH ITS WALKS, AND THE TABLES THAT HOLD IT
 

@@ -22,8 +22,10 @@ use Rattle.rules.specs.Walk.{loops_of}
 use Rattle.rules.specs.Shells.{Nested, nested, lumps}
 use Rattle.rules.specs.Body.{Body, empty_body, body_records}
 use Rattle.rules.specs.Sew.{Walked, walks_of, walked, Fanned, fans_of, fanned, Joined, unjoined, edged, through_joining, shells_of, lumps_clear, body_of, solid, rebuild, fitting, sewn}
-use Rattle.rules.specs.Stage.{pair_stage, merge_stage, vertex_loop_stage, walk_stage, loop_stage, fan_stage, edge_stage, joining_stage, shell_stage, lump_stage, group_fields, kept_fields, kept_uses, walk_fields, loop_fields, fan_fields, joining_fields, shell_fields, lump_fields, stage_bytes}
-use Rattle.progress.specs.Chain.{after_lumps, after_nesting, after_shells, after_joining, after_edges, after_fans, after_loops, after_walks, after_keeping, after_merging, after_pairing, after_reading, staged, sewn_from, sewn_by}
+use Rattle.rules.specs.Stage.{pair_stage, merge_stage, vertex_loop_stage, walk_stage, loop_stage, fan_stage, edge_stage, joining_stage, shell_stage, lump_stage, group_fields}
+use Rattle.rules.specs.Stage.{kept_fields, kept_uses, walk_fields, loop_fields, fan_fields, joining_fields, shell_fields, lump_fields, stage_bytes}
+use Rattle.progress.specs.Chain.{after_lumps, after_nesting, after_shells, after_joining, after_edges, after_fans, after_loops, after_walks}
+use Rattle.progress.specs.Chain.{after_keeping, after_merging, after_pairing, after_reading, staged, sewn_from, sewn_by}
 use Rattle.rules.specs.declared.Fault.TheVariants.{PairsInBoundary, FansInBoundary}
 use Rattle.rules.specs.Operation.{stage_number, is_asked}
 use Rattle.rules.specs.declared.Stage.{Stage}
@@ -49,7 +51,8 @@ module _ (j : Job) (stage : Option Stage) (room : ℕ) where
       (λ ks. after_keeping stage j room (walks_of (uses_of j) ts m ks))
       (λ ks. refl)))))
 
-  through_fans : is_asked VertexLoops stage ≡ false → is_asked Walk stage ≡ false → is_asked Loops stage ≡ false → (walked ordinary j >>= after_keeping stage j room) ≡ (fanned ordinary j >>= after_fans stage j room)
+  through_fans : is_asked VertexLoops stage ≡ false → is_asked Walk stage ≡ false → is_asked Loops stage ≡ false
+      → (walked ordinary j >>= after_keeping stage j room) ≡ (fanned ordinary j >>= after_fans stage j room)
   unfolding fanned after_keeping after_walks after_loops
   through_fans a b d =
       bind_then (walked ordinary j)
@@ -112,8 +115,8 @@ stage_merge job room =
 
 module _ (job : List ℕ) (room : ℕ) where
   -- a stage after the walks
-  from_walks : (stage : Option Stage) (fields : Walked → Outcome (List ℕ)) → is_asked Pair stage ≡ false → is_asked Merge stage ≡ false → ((j : Job) (w : Walked) → after_keeping stage j room w ≡ fields w)
-      → staged stage job room ≡ (loaded job >>= λ j. walked ordinary j >>= fields)
+  from_walks : (stage : Option Stage) (fields : Walked → Outcome (List ℕ)) → is_asked Pair stage ≡ false → is_asked Merge stage ≡ false
+      → ((j : Job) (w : Walked) → after_keeping stage j room w ≡ fields w) → staged stage job room ≡ (loaded job >>= λ j. walked ordinary j >>= fields)
   unfolding staged
   from_walks stage fields b d e =
       bind_same (loaded job) (by_job stage room) (λ j. walked ordinary j >>= fields)
@@ -149,8 +152,9 @@ module _ (job : List ℕ) (room : ℕ) where
       ∙ bind_same (edged ordinary j) (after_edges (Some Edges) j room) (λ x. stage_bytes room (joining_fields x.joining)) (λ x. refl))
 
   -- a stage after joining
-  from_joining : (stage : Option Stage) (fields : Job → Joined → Outcome (List ℕ)) → is_asked Pair stage ≡ false → is_asked Merge stage ≡ false → is_asked VertexLoops stage ≡ false → is_asked Walk stage ≡ false → is_asked Loops stage ≡ false
-      → is_asked Fans stage ≡ false → is_asked Edges stage ≡ false → ((j : Job) (x : Joined) → after_joining stage j room x ≡ fields j x) → (j : Job) → by_job stage room j ≡ (through_joining ordinary j >>= fields j)
+  from_joining : (stage : Option Stage) (fields : Job → Joined → Outcome (List ℕ)) → is_asked Pair stage ≡ false → is_asked Merge stage ≡ false
+      → is_asked VertexLoops stage ≡ false → is_asked Walk stage ≡ false → is_asked Loops stage ≡ false → is_asked Fans stage ≡ false → is_asked Edges stage ≡ false
+      → ((j : Job) (x : Joined) → after_joining stage j room x ≡ fields j x) → (j : Job) → by_job stage room j ≡ (through_joining ordinary j >>= fields j)
   from_joining stage fields b d e f g h i same j =
       through_walks j stage room b d ∙ through_fans j stage room e f g ∙ through_edges j stage room h ∙ through_join j stage room i
       ∙ bind_same (through_joining ordinary j) (after_joining stage j room) (fields j) (same j)

@@ -58,6 +58,7 @@ pub fn read(job: &Loaded<'_>, uses: &mut [Use])
     // So each use's number fits the 32 bits in which another leads to it.
     prove!(job.uses() <= 2048);
     let mut h = 0;
+    // by number: a loop's parts are read where they stand in the job
     for l in 0..job.loops() {
         let items = job.items(l);
         let face = job.loop_face(l);

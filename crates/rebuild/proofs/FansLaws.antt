@@ -1,32 +1,19 @@
 -- A job with its fans, and the tables that hold it.
 use Rattle.std.specs.Prelude.{ℕ, ◌<◌, ◌≤◌, ◌≡◌, refl, List, Bool, length}
-use Rattle.std.proofs.Math.Decide.{dec_lt}
 use Rattle.std.proofs.Common.{arith, sym, ap, subst, ◌∙◌}
-use Rattle.std.proofs.Math.ListN.{get_or-eq_default}
 use Rattle.lists.specs.Lists.{◌∈◌, Nodup}
 use Rattle.lists.specs.Runs.{pigeon_below}
 use Rattle.rules.specs.declared.Use.{Use}
 use Rattle.rules.specs.declared.KeptVertexLoop.{KeptVertexLoop}
 use Rattle.rules.specs.Job.{Job}
-use Rattle.rules.specs.Groups.{Lowest}
-use Rattle.rules.proofs.GroupLaws.{label_below}
 use Rattle.rules.specs.Sew.{fans_of, Fanned}
 use Rattle.theorems.specs.Fanning.{FansHold, fan_list}
 use Rattle.theorems.proofs.Fanning.{fans_hold}
-use Rattle.contact.specs.Clear.{LowLabels}
 use Rattle.merge_faces.specs.FaceTables.{FaceTables}
 use Rattle.progress.specs.Known.{Settled, Walking, walked_in}
 use Rattle.progress.specs.KnownLaws.{Seen, seen, settled_permuted}
 use Rattle.rules.specs.Join.{Joining}
 use Rattle.rebuild.specs.Fanning.{Fanning, Drawing}
-
--- labels that are lowest members of at most 256 are below 256
-pub low_labels : {labels : List ℕ} → Lowest labels → length labels ≤ 256 → LowLabels labels
-low_labels {labels} L few f =
-    elim (dec_lt f (length labels)) [
-      | yes h ↦ omega (arith, label_below L f h)
-      | no h ↦ omega (arith, get_or-eq_default labels 0 {n = f} (omega arith))
-    ]
 
 -- the walks of a job with fans
 abbrev pub walking : Fanning → Walking

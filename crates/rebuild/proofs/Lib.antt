@@ -1,4 +1,3 @@
 pub mod FansLaws
 pub mod LinedLaws
-pub mod ShellLaws
 pub mod SolidLaws

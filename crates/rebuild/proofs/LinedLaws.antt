@@ -1,5 +1,5 @@
 -- Edges and loops made of the walks.
-use Rattle.std.specs.Prelude.{ℕ, ◌*◌, ◌<◌, ◌≤◌, ◌≡◌, refl, List, map, Bool, length, get_or, take, IfOk}
+use Rattle.std.specs.Prelude.{ℕ, ◌*◌, ◌≤◌, ◌≡◌, refl, List, map, Bool, length, get_or, take, IfOk}
 use Rattle.std.proofs.Common.{arith, sym, ap, subst, ◌∙◌, length-take, length-take-le}
 use Rattle.std.proofs.Math.Path.{subst₂}
 use Rattle.std.proofs.lemmas.List.{length-map}
@@ -9,7 +9,6 @@ use Rattle.lists.specs.Lists.{below, ◌∈◌}
 use Rattle.lists.specs.Members.{map_in}
 use Rattle.lists.specs.Tables.{table_is}
 use Rattle.rules.specs.declared.Use.{Use}
-use Rattle.rules.specs.declared.Edge.{Edge}
 use Rattle.rules.specs.declared.EdgeData.{EdgeData}
 use Rattle.rules.specs.declared.KeptVertexLoop.{KeptVertexLoop}
 use Rattle.rules.specs.Job.{Job}
@@ -29,7 +28,7 @@ use Rattle.theorems.proofs.Starting.{ends_are_fans, starts_sound}
 use Rattle.fields.specs.declared.Span.{Span}
 use Rattle.fields.specs.Spans.{no_span, span_at}
 use Rattle.merge_faces.specs.FaceTables.{FaceTables}
-use Rattle.edges.specs.Table.{item_in, item_code, loop_at, loop_face, face_loops_in, Laid}
+use Rattle.edges.specs.Table.{item_in, item_code, loop_at, loop_face, face_loops_in, Laid, Tabled}
 use Rattle.edges.specs.Made.{Mated, Made}
 use Rattle.edges.specs.LoopLaws.{face_loops_lem}
 use Rattle.links.specs.Spread.{laid_loop, laid_loops}
@@ -40,7 +39,6 @@ use Rattle.progress.specs.Known.{Settled}
 use Rattle.progress.specs.KnownLaws.{paired_twins, settled_linked, settled_permuted}
 use Rattle.rebuild.specs.Fanning.{Fanning}
 use Rattle.rebuild.specs.Lined.{Roomy, Lined}
-use Rattle.rebuild.specs.Tables.{Tables}
 use Rattle.rebuild.specs.Halves.{half_of_uses}
 use Rattle.rebuild.proofs.FansLaws.{FansSeen, fanned_names, fanned_hold, names_low}
 
@@ -56,17 +54,6 @@ laid_faces items stretches faces e =
     map-map (λ (l : FaceLoop). l.items) (λ k. record { face = get_or faces k 0; items = map item_in (loop_at items (span_at stretches k)) }) (below (length faces))
     ∙ ap (λ n. map (laid_loop items stretches) (below n)) e
 
--- the merged faces of the loops, and the edges, by the numbers that the code was lent
-pub faces_told : (us : List Use) {numbers ns : List ℕ} (ways : List ℕ) (stretches : List Span) {faces : List ℕ} {n m : ℕ}
-    → faces ≡ map (loop_face us ns ways stretches) (below m) → ns ≡ numbers → n ≡ m
-    → faces ≡ map (loop_face us numbers ways stretches) (below n)
-faces_told us ways stretches e en em = e ∙ (λ i. map (loop_face us (en i) ways stretches) (below (sym em i)))
-
-pub made_told : {es : List Edge} {us : List Use} {ts : List ℕ} {rm : List Bool} {numbers ns ss g owns₀ owns : List ℕ} {rows : List EdgeData} {r : ℕ}
-    → Made es us ts rm ns ss g owns₀ rows owns r → ns ≡ numbers
-    → Made es us ts rm numbers ss g owns₀ rows owns r
-made_told {es} {us} {ts} {rm} {ss = ss} {g = g} {owns₀ = owns₀} {owns = owns} {rows = rows} {r = r} M e = subst (λ n. Made es us ts rm n ss g owns₀ rows owns r) e M
-
 -- the uses of the loops are kept
 loop_kept_lem : (n : ℕ) (rm : List Bool) (ss : List ℕ) → Permuted n rm ss → (l : List ℕ) → l ∈ loops_of (circuits rm ss) → (h : ℕ) → h ∈ l → Kept n rm h
 loop_kept_lem n rm ss P l m h i =
@@ -80,17 +67,12 @@ module _ {v : Fanning} {j : Job} {us : List Use} {ts : List ℕ} {m : FaceTables
 
   pub settled_mated : Mated ts rm
   settled_mated =
-      let T : Twins us ts = twins in
-      let inside : (h : ℕ) → h < length ts → h < length us = λ h b. omega (arith, T.size) in
-      record {
-        within = λ h b. omega (arith, T.below h (inside h b), T.size);
-        twice = λ h b. T.twice h (inside h b);
-        other = λ h b. T.other h (inside h b);
-        together = λ h b. (settled_linked S).removed_twin h (inside h b);
-      }
+      let T = twins in
+      let removed_twin = (settled_linked S).removed_twin in
+      record { within = λ h b. grind arith; twice = λ h b. grind arith; other = λ h b. grind arith; together = λ h b. grind arith }
 
   pub settled_walks : Permuted (length ss) rm ss
-  settled_walks = subst (λ n. Permuted n rm ss) (sym (settled_permuted S).size) (settled_permuted S)
+  settled_walks = rw (settled_permuted S).size (settled_permuted S)
 
   -- the uses made items: with the edges and the merged face of each loop these are the edges and loops before any change
   module _ (rows₀ : List EdgeData) (owns₀ items₀ : List ℕ) (stretches₀ : List Span) (faces₀ : List ℕ) (R : Roomy (length v.fan.walk.uses) rows₀ owns₀ items₀ stretches₀ faces₀)
@@ -147,13 +129,13 @@ module _ {v : Fanning} {j : Job} {us : List Use} {ts : List ℕ} {m : FaceTables
     lined = record {
       drawn = drawn;
       tables = record {
-        few = omega (arith, length-take edges rows, half, ap length F.walks.uses, F.walks.ground.few);
         laid = laid;
         loops = omega (arith, cut, cut_faces);
+        edges_few = omega (arith, length-take edges rows, half, ap length F.walks.uses, F.walks.ground.few);
         items_few = omega (arith, ap length ei, length-map ways (item_code us owns), sw, R.items_size, F.walks.ground.few);
         faces_few = omega (arith, cut_faces, few, F.size, F.walks.ground.few);
-        ended = ended;
       };
+      ended = ended;
       room = omega (arith, half, sr, R.rows_size, ap length F.walks.uses);
       few = omega (arith, half, ap length F.walks.uses, F.walks.ground.few);
       sound = record {
@@ -167,24 +149,29 @@ module _ {v : Fanning} {j : Job} {us : List Use} {ts : List ℕ} {m : FaceTables
     }
 
 -- joined, the tables are still such
-pub joined_tables : {v : Fanning} {j : Job} {us : List Use} {ts : List ℕ} {m : FaceTables} {kept : List KeptVertexLoop} {rm : List Bool} {ss : List ℕ} {gone total : ℕ}
-    {fans names starts : List ℕ} (F : FansSeen v j us ts m kept rm ss gone total fans names starts) (rows rows' : List EdgeData) (n : ℕ) (items items' : List ℕ)
-    (stretches stretches' : List Span) (faces : List ℕ) {q : Outcome Joins} {k : Joins}
-    → Tables v.fan.names (take n rows) items stretches faces → length items' ≡ length items → length stretches' ≡ length stretches
-    → (q >>= λ k. Ok (state_in rows' k.edges items' stretches' faces k.joins k.rings)) ≡ maximal_edges j.answers starts names (length names) (state_in rows n items stretches faces 0 0)
-    → IfOk q (λ k. Fitting names rows' items' stretches' k) → q ≡ Ok k → Tables v.fan.names (take k.edges rows') items' stretches' faces
-unfolding state_in
-joined_tables {v} {j} {names = names} {starts = starts} F rows rows' n items items' stretches stretches' faces {k = k} T ei es e fit d =
+pub joined_tables : (names : List ℕ) (rows rows' : List EdgeData) {items items' : List ℕ} {stretches stretches' : List Span} {faces : List ℕ} (n : ℕ) {q : Outcome Joins} {k : Joins}
+    → Tabled (take n rows) items stretches faces → length items' ≡ length items → length stretches' ≡ length stretches
+    → IfOk q (λ k. Fitting names rows' items' stretches' k) → q ≡ Ok k → Tabled (take k.edges rows') items' stretches' faces
+joined_tables names rows rows' {items' = items'} {stretches' = stretches'} n {k = k} T ei es fit d =
     let fits = IfOk-at_ok (λ k. Fitting names rows' items' stretches' k) d fit in
-    let run = sym e ∙ bind_on (λ k. Ok (state_in rows' k.edges items' stretches' faces k.joins k.rings)) d in
     record {
-      few = omega (arith, length-take k.edges rows', fits.few);
       laid = fits.laid;
       loops = omega (arith, T.loops, es);
+      edges_few = omega (arith, length-take k.edges rows', fits.few);
       items_few = omega (arith, T.items_few, ei);
       faces_few = T.faces_few;
-      ended = subst (EndsAreFans (take k.edges rows')) F.names
-          (joining_fans j.answers starts names (λ n i. omega (arith, names_low F n i)) (length names)
-          (state_in rows n items stretches faces 0 0) (state_in rows' k.edges items' stretches' faces k.joins k.rings) run
-          (subst (EndsAreFans (take n rows)) (sym F.names) T.ended));
     }
+
+-- and each edge still has no ends or two fans
+pub joined_ended : {v : Fanning} {j : Job} {us : List Use} {ts : List ℕ} {m : FaceTables} {kept : List KeptVertexLoop} {rm : List Bool} {ss : List ℕ} {gone total : ℕ}
+    {fans names starts : List ℕ} (F : FansSeen v j us ts m kept rm ss gone total fans names starts) (rows rows' : List EdgeData) (n : ℕ) (items items' : List ℕ)
+    (stretches stretches' : List Span) (faces : List ℕ) {q : Outcome Joins} {k : Joins}
+    → (q >>= λ k. Ok (state_in rows' k.edges items' stretches' faces k.joins k.rings)) ≡ maximal_edges j.answers starts names (length names) (state_in rows n items stretches faces 0 0)
+    → q ≡ Ok k → EndsAreFans (take n rows) v.fan.names → EndsAreFans (take k.edges rows') v.fan.names
+unfolding state_in
+joined_ended {j = j} {names = names} {starts = starts} F rows rows' n items items' stretches stretches' faces {k = k} e d E =
+    let run = sym e ∙ bind_on (λ k. Ok (state_in rows' k.edges items' stretches' faces k.joins k.rings)) d in
+    subst (EndsAreFans (take k.edges rows')) F.names
+    (joining_fans j.answers starts names (λ n i. omega (arith, names_low F n i)) (length names)
+    (state_in rows n items stretches faces 0 0) (state_in rows' k.edges items' stretches' faces k.joins k.rings) run
+    (subst (EndsAreFans (take n rows)) (sym F.names) E))

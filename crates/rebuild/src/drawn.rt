@@ -12,42 +12,29 @@ ghost use Rattle.rebuild.specs.Tables.{Sized, boundaries_of, members_of};
 use crate::clear_edges;
 use crate::fanned::Fans;
 use body::{Solid, Totals, put_body};
-use contact::points_clear;
-use fields::Span;
+use contact::{LabelledFans, points_clear};
+use edges::Joining;
 use result_out::{write_joining, write_lumps, write_shells};
-use rules::{EdgeData, Fault, Refusal, Stage};
+use rules::{Fault, Refusal, Stage};
 use shells::{NO_SHELL, ShellRow, lump_labels, nest, shells};
 use std::marker::Model;
 
-// The edges and loops of the result over the fans, and how many joins and rings made them so. Contracts see those of the
-// definitions.
+// The fans with the edges and loops over them. Each edge has no ends or two fans. Contracts see those of the definitions.
 #[derive(Drop)]
 pub struct Drawn<'a> {
     pub fans: &'a Fans<'a>,
-    pub rows: &'a [EdgeData],
-    pub items: &'a [u32],
-    pub stretches: &'a [Span],
-    pub faces: &'a [u32],
-    pub joins: usize,
-    pub rings: usize,
+    pub joining: &'a Joining<'a>,
 }
 
 impl<'a> Model for Drawn<'a> {
-    ghost use Rattle.edges.specs.Table.{face_loops_in};
+    ghost use Rattle.theorems.specs.Linked.{EndsAreFans};
     ghost use Rattle.rebuild.specs.Fanning.{Drawing};
-    ghost use Rattle.rebuild.specs.Tables.{Tables};
 
     ghost Value = { Drawing };
 
-    ghost view = { λ d. record {
-      job = d.fans.now.job;
-      joined = record {
-        fan = d.fans.now.fan;
-        joining = record { edges = d.rows.now; loops = face_loops_in d.items.now d.stretches.now d.faces.now; joins = d.joins; rings = d.rings };
-      };
-    } };
+    ghost view = { λ d. record { job = d.fans.now.job; joined = record { fan = d.fans.now.fan; joining = d.joining.now } } };
 
-    ghost invariant = { λ d. Tables d.fans.now.fan.names d.rows.now d.items.now d.stretches.now d.faces.now };
+    ghost invariant = { λ d. EndsAreFans d.joining.now.edges d.fans.now.fan.names };
 }
 
 // The stage `joining`, then the shells.
@@ -60,13 +47,14 @@ pub fn on_joined<const USES: usize>(
     requires { Sized USES d.now }
     ensures { Ends (after_joining stage d.now.job (length out.old) d.now.joined) out.old out.new result }
 {
+    // A test in each step and no table of closures: each stage is handed other tables, which a closure could not own.
     if Stage::Joining.is_asked(stage) {
-        return write_joining(d.joins, d.rings, d.rows, d.items, d.stretches, d.faces, out);
+        return write_joining(d.joining, out);
     }
     let f = d.fans;
     let w = f.walks;
     let mut table = [NO_SHELL; 256];
-    let n = shells(w.job, w.faces.boundaries(), w.faces.members(), &mut table)?;
+    let n = shells(w.job, w.faces, &mut table)?;
     on_shelled::<USES>(stage, d, &mut table[..n], out)
 }
 
@@ -99,8 +87,14 @@ fn lumps_clear(d: &Drawn<'_>, table: &[ShellRow]) -> Result<(), Refusal>
     let boundaries = w.faces.boundaries();
     let mut room = [0u32; 256];
     let labels = &mut room[..boundaries.len()];
-    lump_labels(boundaries, table, labels);
-    points_clear(Fault::FansInLump, w.uses, f.starts, labels, f.names)?;
+    lump_labels(w.faces, table, labels);
+    let fans = LabelledFans {
+        uses: w.uses,
+        starts: f.starts,
+        labels,
+        names: f.names,
+    };
+    points_clear(Fault::FansInLump, &fans)?;
     clear_edges(Fault::PairsInLump, w.job.edges(), w.uses, w.twins, labels)
 }
 
@@ -135,12 +129,13 @@ fn write_body<const USES: usize>(
 {
     let f = d.fans;
     let w = f.walks;
+    let j = d.joining;
     let totals = Totals {
         uses: w.uses.len(),
         removed: w.gone,
         passed: w.passed,
-        joins: d.joins,
-        rings: d.rings,
+        joins: j.joins,
+        rings: j.rings,
         merges: w.faces.joins(),
     };
     let solid = Solid {
@@ -148,16 +143,13 @@ fn write_body<const USES: usize>(
         job: w.job,
         faces: w.faces,
         starts: f.starts,
-        rows: d.rows,
-        items: d.items,
-        stretches: d.stretches,
-        loop_faces: d.faces,
+        joining: j,
         kept: w.kept,
         shells: table,
     };
     let mut number_table = [0u32; USES];
     let mut vertex_table = [0u32; USES];
-    let numbers = &mut number_table[..d.rows.len()];
+    let numbers = &mut number_table[..j.edges.len()];
     let vertices = &mut vertex_table[..w.uses.len()];
     put_body(&solid, numbers, vertices, out)
 }

@@ -2,17 +2,15 @@
 
 ghost use Rattle.std.specs.Prelude.{◌≡◌, ◌*◌, ◌≤◌, length, take};
 ghost use Rattle.rules.specs.Sew.{unjoined, Ends};
-ghost use Rattle.edges.specs.Table.{Laid};
 ghost use Rattle.maximal_edges.specs.Joined.{state_in};
 ghost use Rattle.maximal_edges.specs.Hung.{SoundIn};
 ghost use Rattle.progress.specs.Chain.{after_fans, after_edges};
 ghost use Rattle.rebuild.specs.Lined.{Roomy, Lined};
-ghost use Rattle.rebuild.specs.Tables.{Tables};
 
 use crate::drawn::{Drawn, on_joined};
-use contact::points_clear;
-use edges::{NO_EDGE, Sides};
-use fields::Span;
+use contact::{LabelledFans, points_clear};
+use edges::{Joining, NO_EDGE, Sides};
+use fields::{NO_SPAN, Span};
 use maximal_edges::maximal_edges;
 use progress::Walks;
 use result_out::{write_fans, write_joining};
@@ -41,8 +39,6 @@ impl<'a> Model for Fans<'a> {
     ghost invariant = { λ f. record { walk = f.walks.now.walked; fans = f.fans.now; names = f.names.now; starts = f.starts.now } ≡ fans_of f.walks.now.job f.walks.now.walked };
 }
 
-const NO_SPAN: Span = Span { start: 0, end: 0 };
-
 // The stage `fans`, then 31.
 #[tactic(auto, unfolding(progress::specs::Chain::after_fans, rules::specs::Sew::walks_of))]
 pub fn on_fanned<const USES: usize>(
@@ -54,16 +50,17 @@ pub fn on_fanned<const USES: usize>(
     ensures { Ends (after_fans stage f.now.job (length out.old) f.now.fan) out.old out.new result }
 {
     let w = f.walks;
+    // A test in each step and no table of closures: each stage is handed other tables, which a closure could not own.
     if Stage::Fans.is_asked(stage) {
         return write_fans(w.job, w.uses, w.removed, f.fans, f.starts, out);
     }
-    points_clear(
-        Fault::FansInBoundary,
-        w.uses,
-        f.starts,
-        w.faces.boundaries(),
-        f.names,
-    )?;
+    let fans = LabelledFans {
+        uses: w.uses,
+        starts: f.starts,
+        labels: w.faces.boundaries(),
+        names: f.names,
+    };
+    points_clear(Fault::FansInBoundary, &fans)?;
     draw_in_tables::<USES>(stage, f, out)
 }
 
@@ -159,18 +156,29 @@ fn on_edged<'a, const USES: usize>(
     ensures { Ends (after_edges stage f.now.job (length out.old) (record { fan = f.now.fan; joining = state_in rows.old count items.old stretches.old faces.now 0 0 })) out.old out.new result }
 {
     if Stage::Edges.is_asked(stage) {
-        return write_joining(0, 0, &rows[..count], items, stretches, faces, out);
+        let unjoined = Joining {
+            edges: &rows[..count],
+            items,
+            stretches,
+            faces,
+            joins: 0,
+            rings: 0,
+        };
+        return write_joining(&unjoined, out);
     }
     let w = f.walks;
     let k = maximal_edges(w.job, f.starts, f.names, rows, count, items, stretches)?;
-    let drawn = Drawn {
-        fans: f,
-        rows: &rows[..k.edges],
+    let joining = Joining {
+        edges: &rows[..k.edges],
         items,
         stretches,
         faces,
         joins: k.joins,
         rings: k.rings,
+    };
+    let drawn = Drawn {
+        fans: f,
+        joining: &joining,
     };
     on_joined::<USES>(stage, &drawn, out)
 }

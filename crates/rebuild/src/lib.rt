@@ -14,7 +14,7 @@ ghost use Rattle.progress.specs.Chain.{after_loops, after_fans};
 mod drawn;
 mod fanned;
 
-use contact::points_clear;
+use contact::LabelledPairs;
 use edge_uses::link;
 use fanned::{Fans, on_fanned};
 use fans::{fan_names, start_points};
@@ -37,7 +37,12 @@ fn clear_in_tables<const EDGES: usize, const USES: usize>(
     let mut table = [0u32; EDGES];
     let mut room = [0u32; USES];
     let linked = link(uses, &mut table[..edges], &mut room[..uses.len()]);
-    contact::edges_clear(fault, &linked, twins, labels)
+    let pairs = LabelledPairs {
+        linked: &linked,
+        twins,
+        labels,
+    };
+    contact::edges_clear(fault, &pairs)
 }
 
 // In tables for up to 64 edges and uses, where that is enough, and else for as many as there may be.

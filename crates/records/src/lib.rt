@@ -208,35 +208,19 @@ fn face_permitted(job: &[u8], body: usize) -> bool
 }
 
 // Each of n items names an edge and has a sense.
-#[tactic(auto, using(crate::specs::Permitted::permit_each, crate::specs::Permitted::permit_edge, crate::specs::Permitted::permit_sense))]
 fn items_permitted(job: &[u8], edges: usize, body: usize, n: usize) -> bool
     requires { body + 8 * n < 2 ^ 59 }
     ensures { result ≡ items_permitted edges (fields_in (2 * n) (drop body job.now)) }
 {
-    for i in 0..n {
-        let p = body + 8 * i;
-        if edges <= word(job, p) {
-            return false;
-        }
-        if 1 < word(job, p + 4) {
-            return false;
-        }
-    }
-    true
+    (0..n).all(|i| word(job, body + 8 * i) < edges && word(job, body + 8 * i + 4) <= 1)
 }
 
 // Each of n numbers lies below a count.
-#[tactic(auto, using(crate::specs::Permitted::exist_each, crate::specs::Permitted::exist_not))]
 fn all_exist(job: &[u8], count: usize, from: usize, n: usize) -> bool
     requires { from + 4 * n < 2 ^ 59 }
     ensures { result ≡ all (exists count) (fields_in n (drop from job.now)) }
 {
-    for i in 0..n {
-        if count <= word(job, from + 4 * i) {
-            return false;
-        }
-    }
-    true
+    (0..n).all(|i| word(job, from + 4 * i) < count)
 }
 
 fn radial_permitted(raw: &RawJob<'_>, body: usize, n: usize) -> bool
@@ -351,6 +335,7 @@ fn joined(raw: &RawJob<'_>, body: usize, n: usize) -> bool
         return false;
     }
     let mut end = first.end;
+    // by number: an item is read where it stands in the bytes, once, and looked at with the one before
     for i in 1..n {
         let next = item_ends(raw, body + 8 * i);
         if next.ring {

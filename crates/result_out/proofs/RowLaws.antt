@@ -16,16 +16,15 @@ use Rattle.rules.specs.Fields.{bytes32, field_bytes}
 use Rattle.rules.specs.Groups.{label_of}
 use Rattle.rules.specs.Fans.{kept_with_ends, fan_point}
 use Rattle.rules.specs.Edges.{FaceLoop}
+use Rattle.rules.specs.Join.{Joining}
 use Rattle.rules.specs.Shells.{Nested, shell_faces, voids_of, lump_of, lumps}
 use Rattle.rules.specs.Body.{body_kind, item_fields}
 use Rattle.rules.specs.Stage.{edge_fields, face_loop_fields, joining_fields, lump_shell_fields, lump_fields}
-use Rattle.fields.specs.declared.Span.{Span}
-use Rattle.fields.specs.Spans.{span_at}
 use Rattle.fields.specs.Wrote.{Wrote}
-use Rattle.edges.specs.Table.{item_in, loop_at, face_loops_in}
+use Rattle.edges.specs.Table.{item_in}
 use Rattle.shells.specs.declared.ShellRow.{ShellRow}
 use Rattle.shells.specs.Table.{no_row, row_at, nested_one, nested_in}
-use Rattle.stages_out.specs.Writing.{Rowed, rowed_step, wrote_one, wrote_both, wrote_same, wrote_nothing, place_after_lem}
+use Rattle.stages_out.specs.Writing.{Rowed, rowed_step, wrote_one, wrote_both, wrote_same, wrote_nothing}
 use Rattle.result_out.specs.Rows.{fan_row, fan_rows}
 
 -- A ROW OR NONE
@@ -104,24 +103,18 @@ loop_wrote face part before mid after at p q u w =
     wrote_same (face ∷ length part ∷ xs) (face ∷ length (map item_in part) ∷ xs) before after at q (λ t. face ∷ sym (length-map part item_in) t ∷ xs)
     (wrote_both (face ∷ length part ∷ []) xs before mid after at p q u w)
 
-module _ (items : List ℕ) (stretches : List Span) (faces : List ℕ) where
-  -- loop k
-  abbrev pub face_loop_in : ℕ → FaceLoop
-  face_loop_in k = record { face = get_or faces k 0; items = map item_in (loop_at items (span_at stretches k)) }
-
-  pub loop_rows : (n : ℕ) → n ≡ length faces → flat_map (λ k. face_loop_fields (face_loop_in k)) (below n) ≡ flat_map face_loop_fields (face_loops_in items stretches faces)
-  unfolding face_loops_in
-  loop_rows n e = ap (λ k. flat_map (λ i. face_loop_fields (face_loop_in i)) (below k)) e ∙ sym (flat_map_map face_loop_fields face_loop_in (below (length faces)))
-
-pub joining_wrote : (edges : List EdgeData) (loops : List FaceLoop) (joins rings : ℕ) (before one two three after : List ℕ) (p q r next : ℕ)
+-- what is seen of the edges and loops, and how many joins and rings made them so
+pub joining_wrote : {edges : List EdgeData} {loops : List FaceLoop} {joins rings : ℕ} {s : Joining} → record { edges = edges; loops = loops; joins = joins; rings = rings } ≡ s
+    → (before one two three after : List ℕ) (p q r next : ℕ)
     → Wrote before 0 (field_bytes (joins ∷ rings ∷ [])) one p → Wrote one p (bytes32 (length edges)) two q → Wrote two q (field_bytes (flat_map edge_fields edges)) three r
-    → Wrote three r (field_bytes (flat_map face_loop_fields loops)) after next
-    → Wrote before 0 (field_bytes (joining_fields (record { edges = edges; loops = loops; joins = joins; rings = rings }))) after next
-joining_wrote edges loops joins rings before one two three after p q r next a b c d =
-    let fs = flat_map edge_fields edges ++ flat_map face_loop_fields loops in
-    wrote_both (joins ∷ rings ∷ []) (length edges ∷ fs) before one after 0 p next a
+    → Wrote three r (field_bytes (flat_map face_loop_fields s.loops)) after next → Wrote before 0 (field_bytes (joining_fields s)) after next
+joining_wrote {edges} {loops} {joins} {rings} {s} e before one two three after p q r next a b c d =
+    let fs = flat_map edge_fields edges ++ flat_map face_loop_fields s.loops in
+    wrote_same (joins ∷ rings ∷ length edges ∷ fs) (joining_fields s) before after 0 next
+    (λ t. (e t).joins ∷ (e t).rings ∷ length (e t).edges ∷ (flat_map edge_fields (e t).edges ++ flat_map face_loop_fields s.loops))
+    (wrote_both (joins ∷ rings ∷ []) (length edges ∷ fs) before one after 0 p next a
     (wrote_both (length edges ∷ []) fs one two after p q next (wrote_one one two p (length edges) q b)
-    (wrote_both (flat_map edge_fields edges) (flat_map face_loop_fields loops) two three after q r next c d))
+    (wrote_both (flat_map edge_fields edges) (flat_map face_loop_fields s.loops) two three after q r next c d)))
 
 -- SHELLS
 
@@ -234,9 +227,3 @@ module _ (boundaries members : List ℕ) (rows : List ShellRow) where
   unfolding lumps
   lumped_all before after p number k s le =
       wrote_same (lump_fields 0 (first_lumps k)) _ before after 0 p (ap (λ l. lump_fields 0 (map (lump_of (map one rows)) (keep (λ x. x.shell.outer) (map one l)))) (take_all k rows le)) s.wrote
-
--- THE ENDING
-
--- the bytes needed are those of another output, to which the same fields were written
-pub four_each : (fs none after : List ℕ) (needed : ℕ) → Wrote none 0 (field_bytes fs) after needed → needed ≡ 4 * length fs
-four_each fs none after needed w = omega (arith, place_after_lem fs none after 0 needed w)

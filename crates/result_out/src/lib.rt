@@ -1,7 +1,5 @@
 // What the single stages from the fans on write: four-byte fields from the output's start on, or nothing and the refusal
-// `NoRoom` with the bytes needed where the output is too short. The bytes needed are the place after the same fields written
-// to an output of no bytes, which stores none of them. Each stage says so itself: as a closure the writer would have to
-// state in a clause what its contract states.
+// `NoRoom` with the bytes needed where the output is too short.
 
 #![tactic(auto)]
 
@@ -12,18 +10,19 @@ ghost use Rattle.rules.specs.Shells.{shell_faces, voids_of, lump_of, lumps};
 ghost use Rattle.rules.specs.Body.{item_fields};
 ghost use Rattle.rules.specs.Stage.{edge_fields, face_loop_fields, joining_fields, shell_fields, lump_shell_fields, lump_fields};
 ghost use Rattle.fields.specs.Wrote.{Wrote};
-ghost use Rattle.edges.specs.Table.{item_in, face_loops_in, Laid};
+ghost use Rattle.edges.specs.Table.{item_in};
 ghost use Rattle.shells.specs.Table.{shells_in, nested_one, nested_in};
 ghost use Rattle.stages_out.specs.Rows.{Staged};
 ghost use Rattle.result_out.specs.Rows.{fan_rows};
 
+use edges::Joining;
 use fans::kept_with_ends;
-use fields::{Span, get, put_word, span_at};
+use fields::{get, put_word};
 use loaded::Loaded;
 use merge_faces::Faces;
 use rules::{EdgeData, Refusal, Use};
 use shells::ShellRow;
-use stages_out::{count_shell_faces, fits, put_shell_faces, put_two};
+use stages_out::{count_shell_faces, put_shell_faces, put_two, write_fitting};
 
 // FANS
 
@@ -40,6 +39,7 @@ fn put_fans(
     ensures { Wrote out.old 0 (field_bytes (fan_rows job.now.edges uses.now removed.now fans.now starts.now)) out.new result }
 {
     let mut p = 0;
+    // by number: a use is looked up in tables of which none need be as long as the others
     for h in 0..uses.len() {
         if kept_with_ends(job, uses, removed, h) {
             let point = get(starts, h);
@@ -62,9 +62,7 @@ pub fn write_fans(
     requires { length uses.now ≤ 2048 }
     ensures { Staged (fan_rows job.now.edges uses.now removed.now fans.now starts.now) out.old out.new result }
 {
-    let needed = put_fans(job, uses, removed, fans, starts, &mut []);
-    fits(out, needed)?;
-    Ok(put_fans(job, uses, removed, fans, starts, out))
+    write_fitting(out, |out| put_fans(job, uses, removed, fans, starts, out))
 }
 
 // EDGES AND JOINING
@@ -114,59 +112,34 @@ fn put_loop(face: usize, part: &[u32], out: &mut [u8], at: usize) -> usize
     put_items(part, out, p)
 }
 
-// The fields of each loop at a place. By number, and not over `zip`, where the facts of a loop are of the pairs so far.
-fn put_loops(items: &[u32], stretches: &[Span], faces: &[u32], out: &mut [u8], at: usize) -> usize
-    requires { Laid stretches.now items.now × (length faces.now ≤ length stretches.now) × (length items.now ≤ 2048) × (length faces.now ≤ 2048) × (at < 2 ^ 56) }
-    ensures { Wrote out.old at (field_bytes (flat_map face_loop_fields (face_loops_in items.now stretches.now faces.now))) out.new result }
+// The fields of each loop at a place.
+fn put_loops(j: &Joining<'_>, out: &mut [u8], at: usize) -> usize
+    requires { at < 2 ^ 56 }
+    ensures { Wrote out.old at (field_bytes (flat_map face_loop_fields j.now.loops)) out.new result }
 {
+    let faces = j.loop_faces();
     let mut p = at;
     for (k, face) in faces.iter().enumerate() {
-        let s = span_at(stretches, k);
-        p = put_loop(
-            *face as usize,
-            &items[s.start as usize..s.end as usize],
-            out,
-            p,
-        );
+        p = put_loop(*face as usize, j.loop_items(k), out, p);
     }
     p
 }
 
 // The numbers of joins, rings and edges, the edges, and the loops.
-fn put_joining(
-    joins: usize,
-    rings: usize,
-    edges: &[EdgeData],
-    items: &[u32],
-    stretches: &[Span],
-    faces: &[u32],
-    out: &mut [u8],
-) -> usize
-    requires { Laid stretches.now items.now × (length faces.now ≤ length stretches.now) × (length edges.now ≤ 2048) × (length items.now ≤ 2048) × (length faces.now ≤ 2048) }
-    ensures { Wrote out.old 0 (field_bytes (joining_fields (record { edges = edges.now; loops = face_loops_in items.now stretches.now faces.now; joins = joins; rings = rings }))) out.new result }
+fn put_joining(j: &Joining<'_>, out: &mut [u8]) -> usize
+    ensures { Wrote out.old 0 (field_bytes (joining_fields j.now)) out.new result }
 {
-    let p = put_two(out, 0, joins, rings);
-    let q = put_word(out, p, edges.len());
-    let r = put_edges(edges, out, q);
-    put_loops(items, stretches, faces, out, r)
+    let p = put_two(out, 0, j.joins, j.rings);
+    let q = put_word(out, p, j.edges.len());
+    let r = put_edges(j.edges, out, q);
+    put_loops(j, out, r)
 }
 
 // The stages `edges` and `joining`: numbers of joins, rings and edges; the edges; the loops.
-pub fn write_joining(
-    joins: usize,
-    rings: usize,
-    edges: &[EdgeData],
-    items: &[u32],
-    stretches: &[Span],
-    faces: &[u32],
-    out: &mut [u8],
-) -> Result<usize, Refusal>
-    requires { Laid stretches.now items.now × (length faces.now ≤ length stretches.now) × (length edges.now ≤ 2048) × (length items.now ≤ 2048) × (length faces.now ≤ 2048) }
-    ensures { Staged (joining_fields (record { edges = edges.now; loops = face_loops_in items.now stretches.now faces.now; joins = joins; rings = rings })) out.old out.new result }
+pub fn write_joining(j: &Joining<'_>, out: &mut [u8]) -> Result<usize, Refusal>
+    ensures { Staged (joining_fields j.now) out.old out.new result }
 {
-    let needed = put_joining(joins, rings, edges, items, stretches, faces, &mut []);
-    fits(out, needed)?;
-    Ok(put_joining(joins, rings, edges, items, stretches, faces, out))
+    write_fitting(out, |out| put_joining(j, out))
 }
 
 // SHELLS
@@ -199,9 +172,7 @@ pub fn write_shells(faces: &Faces, shells: &[ShellRow], out: &mut [u8]) -> Resul
     requires { length shells.now ≤ 256 }
     ensures { Staged (flat_map shell_fields (shells_in faces.now.boundaries faces.now.members shells.now)) out.old out.new result }
 {
-    let needed = put_shells(faces, shells, &mut []);
-    fits(out, needed)?;
-    Ok(put_shells(faces, shells, out))
+    write_fitting(out, |out| put_shells(faces, shells, out))
 }
 
 // LUMPS
@@ -267,7 +238,5 @@ pub fn write_lumps(faces: &Faces, shells: &[ShellRow], out: &mut [u8]) -> Result
     requires { length shells.now ≤ 256 }
     ensures { Staged (lump_fields 0 (lumps (nested_in faces.now.boundaries faces.now.members shells.now))) out.old out.new result }
 {
-    let needed = put_lumps(faces, shells, &mut []);
-    fits(out, needed)?;
-    Ok(put_lumps(faces, shells, out))
+    write_fitting(out, |out| put_lumps(faces, shells, out))
 }

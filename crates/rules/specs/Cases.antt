@@ -8,7 +8,8 @@ use Rattle.rules.specs.Rules.{ordinary}
 use Rattle.rules.specs.Body.{rec}
 use Rattle.rules.specs.Sew.{sewn}
 use Rattle.rules.specs.Open.{computes}
-use Rattle.rules.specs.declared.Fault.TheVariants.{CutShort, Misplaced, FieldNotPermitted, LoopJoints, AnsweredTwice, OddUses, SamePredecessor, NoTwin, Unanswered, AnswerUndecided, NormalsVanish, NotRound, PairsInBoundary, FansInBoundary, FansInLump, PairsInLump, NoOuterShell, NoRoom}
+use Rattle.rules.specs.declared.Fault.TheVariants.{CutShort, Misplaced, FieldNotPermitted, LoopJoints, AnsweredTwice, OddUses, SamePredecessor, NoTwin, Unanswered, AnswerUndecided}
+use Rattle.rules.specs.declared.Fault.TheVariants.{NormalsVanish, NotRound, PairsInBoundary, FansInBoundary, FansInLump, PairsInLump, NoOuterShell, NoRoom}
 
 -- a job, its records and then the bytes of a damaged one, the length of the output, the expected ending
 pub record Case : Type 0 where
@@ -994,5 +995,12 @@ cases =
 
 -- each case ends as it says
 pub cases_right : all right cases ≡ true
-unfolding computes cases sense_and_joint empty_job no_head cut_header cut_payload cut_huge unknown_kind two_heads late_vertex loose_loop late_face empty_loop odd_loop head_two half_ring edge_sense face_sense loop_edge loop_vertex points_equal singular_order points_twice empty_unasked no_room just_room broken_joint radial_missing radial_open radial_short radial_twice same_same lone_use three_uses surface_missing surface_open surface_vanish two_shells orient_missing orient_second void_alone inside_missing not_inside edge_in_lump edge_in_bound point_in_bound singular_missing singular_open point_shared point_in_lump void_inside seam turned opposed opposed_same points_missing points_same points_differ points_apart four_joined pass_twice curves_missing curves_open unused_edge vertex_loop_last radial_again point_before_edge inner outer_kept void_first
+unfolding computes cases sense_and_joint empty_job no_head cut_header cut_payload cut_huge unknown_kind two_heads
+    late_vertex loose_loop late_face empty_loop odd_loop head_two half_ring edge_sense face_sense loop_edge
+    loop_vertex points_equal singular_order points_twice empty_unasked no_room just_room broken_joint radial_missing
+    radial_open radial_short radial_twice same_same lone_use three_uses surface_missing surface_open surface_vanish
+    two_shells orient_missing orient_second void_alone inside_missing not_inside edge_in_lump edge_in_bound
+    point_in_bound singular_missing singular_open point_shared point_in_lump void_inside seam turned opposed
+    opposed_same points_missing points_same points_differ points_apart four_joined pass_twice curves_missing
+    curves_open unused_edge vertex_loop_last radial_again point_before_edge inner outer_kept void_first
 cases_right = refl

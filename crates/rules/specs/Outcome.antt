@@ -1,7 +1,8 @@
 -- What a rule gives: a value, or a refusal. Rules that stand one after the other stop at the first refusal.
 use Rattle.std.specs.Prelude.{ℕ, List, [], ◌∷◌, Bool, true, false, ◌&&◌, eqb, Result}
 use Rattle.rules.specs.declared.Fault.{Fault}
-use Rattle.rules.specs.declared.Fault.TheVariants.{TooLong, CutShort, Misplaced, FieldNotPermitted, LimitPassed, LoopJoints, AnsweredTwice, EqualSenses, OddUses, SamePredecessor, NoTwin, Unanswered, AnswerUndecided, NormalsVanish, NotRound, PairsInBoundary, FansInBoundary, FansInLump, PairsInLump, NoOuterShell, NoRoom, SelectedTwice}
+use Rattle.rules.specs.declared.Fault.TheVariants.{TooLong, CutShort, Misplaced, FieldNotPermitted, LimitPassed, LoopJoints, AnsweredTwice, EqualSenses, OddUses, SamePredecessor, NoTwin, Unanswered}
+use Rattle.rules.specs.declared.Fault.TheVariants.{AnswerUndecided, NormalsVanish, NotRound, PairsInBoundary, FansInBoundary, FansInLump, PairsInLump, NoOuterShell, NoRoom, SelectedTwice}
 use Rattle.rules.specs.declared.Refusal.{Refusal}
 pub use Rattle.std.specs.Prelude.{Ok, Err}
 

@@ -527,11 +527,16 @@ by_all_bits = record {
 
 unfoldable pub selected_rows : List Row
 selected_rows =
-    selected_twice ∷ twice_and_joined ∷ twice_on_another_surface ∷ twice_with_another_own_sense ∷ twice_in_the_other_body ∷ zero_twice ∷ highest_twice ∷ not_the_face_before ∷ not_the_first_face ∷
-    after_the_other_body ∷ first_of_two_repeats ∷ length_before_twice ∷ fields_before_twice ∷ twice_before_joints ∷ joints_before_twice ∷ twice_before_unknown ∷ same_number_of_both ∷ same_sum ∷ by_all_bits ∷ []
+    selected_twice ∷ twice_and_joined ∷ twice_on_another_surface ∷ twice_with_another_own_sense ∷
+    twice_in_the_other_body ∷ zero_twice ∷ highest_twice ∷ not_the_face_before ∷ not_the_first_face ∷
+    after_the_other_body ∷ first_of_two_repeats ∷ length_before_twice ∷ fields_before_twice ∷ twice_before_joints ∷
+    joints_before_twice ∷ twice_before_unknown ∷ same_number_of_both ∷ same_sum ∷ by_all_bits ∷ []
 
 pub selected_right : all right selected_rows ≡ true
-unfolding computes same_records selected_rows selecting selected_twice twice_and_joined twice_on_another_surface twice_with_another_own_sense twice_in_the_other_body zero_twice highest_twice not_the_face_before not_the_first_face after_the_other_body first_of_two_repeats length_before_twice fields_before_twice twice_before_joints joints_before_twice twice_before_unknown same_number_of_both same_sum by_all_bits
+unfolding computes same_records selected_rows selecting selected_twice twice_and_joined twice_on_another_surface
+    twice_with_another_own_sense twice_in_the_other_body zero_twice highest_twice not_the_face_before
+    not_the_first_face after_the_other_body first_of_two_repeats length_before_twice fields_before_twice
+    twice_before_joints joints_before_twice twice_before_unknown same_number_of_both same_sum by_all_bits
 selected_right = refl
 
 -- a record that is cut, after the second of two; and as the second of them

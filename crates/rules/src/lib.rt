@@ -346,7 +346,8 @@ impl Stage {
         self as usize
     }
 
-    // This is the stage that is asked for; stages are told apart by number, as in the definitions.
+    // This is the stage that is asked for. Stages are told apart by number: by cases the equation with the definition would
+    // be of eleven times eleven.
     #[tactic(auto, unfolding(crate::specs::Operation::is_asked))]
     pub fn is_asked(self, stage: Option<Stage>) -> bool
         ensures { result ≡ is_asked self stage }

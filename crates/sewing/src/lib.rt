@@ -1,6 +1,6 @@
 // Sewing: from a job's bytes to the body or to the fields of a single stage. Each stage is done and handed to the next, up
-// to the one that is asked for. Tables are made in two sizes, for small parts and for all others: small ones are cleared
-// sooner.
+// to the one that is asked for. Most tables are made in two sizes, for small parts and for all others: small ones are
+// cleared sooner.
 
 #![tactic(auto)]
 
@@ -14,16 +14,17 @@ ghost use Rattle.rules.specs.Walk.{circuits, loops_of};
 ghost use Rattle.theorems.specs.Circuits.{Permuted};
 ghost use Rattle.stages_out.specs.Rows.{Staged, round_rows};
 ghost use Rattle.rules.specs.Sew.{sewn, Ends};
-ghost use Rattle.rules.specs.Stage.{use_fields, loop_fields, stage_bytes, read_stage, pair_stage, merge_stage, vertex_loop_stage, walk_stage, loop_stage, fan_stage, edge_stage, joining_stage, shell_stage, lump_stage};
+ghost use Rattle.rules.specs.Stage.{use_fields, loop_fields, stage_bytes, read_stage, pair_stage, merge_stage, vertex_loop_stage};
+ghost use Rattle.rules.specs.Stage.{walk_stage, loop_stage, fan_stage, edge_stage, joining_stage, shell_stage, lump_stage};
 ghost use Rattle.theorems.specs.Promises.{Promises};
 ghost use Rattle.loaded.specs.Opened.{Loads};
 ghost use Rattle.progress.specs.Chain.{after_reading, after_pairing, after_merging, after_keeping, after_walks, staged, sewn_by};
 ghost use Rattle.progress.specs.Known.{Paired, Grouped, Kept, merged_in, walked_in};
-ghost use Rattle.sewing.specs.Steps.{Promised};
+ghost use Rattle.sewing.specs.Promised.{Promised};
 
 use body::put_empty;
 use edge_uses::link;
-use fields::Span;
+use fields::NO_SPAN;
 use job::INDEX;
 use load::open;
 use loaded::Loaded;
@@ -38,10 +39,8 @@ use uses::NO_USE;
 use vertex_loops::vertex_loops;
 use walk::{loops, successors};
 
-// A kept vertex loop and a stretch before the tables of them are filled.
+// A kept vertex loop before the table of them is filled.
 const NO_VERTEX_LOOP: KeptVertexLoop = KeptVertexLoop { face: 0, point: 0 };
-
-const NO_SPAN: Span = Span { start: 0, end: 0 };
 
 // The stage `loops`, of walks that are known by their successors.
 fn put_loops(
@@ -69,6 +68,7 @@ fn on_walks(stage: Option<Stage>, w: &Walks<'_>, out: &mut [u8]) -> Result<usize
     requires { is_asked Stage.Walk stage ≡ false }
     ensures { Ends (after_walks stage w.now.job (length out.old) w.now.walked) out.old out.new result }
 {
+    // A test in each step and no table of closures: each stage is handed other tables, which a closure could not own.
     if Stage::Loops.is_asked(stage) {
         return put_loops(w.uses, w.faces.numbers(), w.removed, w.succ, out);
     }
@@ -204,7 +204,10 @@ fn read_in_tables<const USES: usize, const EDGES: usize>(
     job: &Loaded<'_>,
     out: &mut [u8],
 ) -> Result<usize, Refusal>
-    requires { Loads job.now × (length (uses_of job.now) ≤ USES) × (USES ≤ 2048) × (length job.now.edges ≤ EDGES) × (EDGES ≤ 1024) }
+    requires loads { Loads job.now }
+    requires uses_fit { length (uses_of job.now) ≤ USES }
+    requires edges_fit { length job.now.edges ≤ EDGES }
+    requires size { (USES ≤ 2048) × (EDGES ≤ 1024) }
     ensures { Ends (after_reading stage job.now (length out.old) (uses_of job.now)) out.old out.new result }
 {
     let n = job.uses();
@@ -241,7 +244,7 @@ fn run(stage: Option<Stage>, job: &[u8], out: &mut [u8]) -> Result<usize, Refusa
     on_loaded(stage, &loaded, out)
 }
 
-// The stage `read`. It hands nothing on, and goes a way of its own.
+// The stage `read`. It hands nothing on, and goes a way of its own: the frames of the chain would hold its table of uses too.
 #[tactic(auto, unfolding(rules::specs::Stage::read_stage))]
 pub fn read_stage(job: &[u8], out: &mut [u8]) -> Result<usize, Refusal>
     ensures { Ends (read_stage job.now (length out.old)) out.old out.new result }

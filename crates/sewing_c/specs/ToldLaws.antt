@@ -1,22 +1,22 @@
 -- What is told follows from the ending.
-use Rattle.std.specs.Prelude.{ℕ, ◌+◌, ◌-◌, ◌<◌, ◌≤◌, ◌≡◌, refl, List, true, cond, length, take}
-use Rattle.std.proofs.Common.{arith, sym, ap, ◌∙◌, subst, length-take, take_all, eq-eqb, ne_eqb}
+use Rattle.std.specs.Prelude.{ℕ, ◌<◌, ◌≡◌, refl, List, true, cond, length, take}
+use Rattle.std.proofs.Common.{arith, sym, ap, ◌∙◌, length-take, take_all, eq-eqb, ne_eqb}
 use Rattle.std.proofs.lemmas.Bool.{false≢true}
 use mathlib.Core.List.{flat_map}
 use Rattle.lists.specs.Lists.{has}
-use Rattle.rules.specs.declared.Refusal.{Refusal}
 use Rattle.rules.specs.declared.Fault.{Fault}
-use Rattle.rules.specs.declared.Fault.TheVariants.{TooLong, CutShort, Misplaced, LimitPassed, FieldNotPermitted, LoopJoints, AnsweredTwice, SelectedTwice, EqualSenses, OddUses, SamePredecessor, NoTwin, Unanswered, AnswerUndecided, NormalsVanish, NotRound, PairsInBoundary, FansInBoundary, FansInLump, PairsInLump, NoOuterShell, NoRoom}
-use Rattle.rules.specs.Job.{Stretch}
+use Rattle.rules.specs.declared.Fault.TheVariants.{TooLong, CutShort, Misplaced, LimitPassed, FieldNotPermitted, LoopJoints, AnsweredTwice, SelectedTwice}
+use Rattle.rules.specs.declared.Fault.TheVariants.{EqualSenses, OddUses, SamePredecessor, NoTwin, Unanswered, AnswerUndecided, NormalsVanish, NotRound}
+use Rattle.rules.specs.declared.Fault.TheVariants.{PairsInBoundary, FansInBoundary, FansInLump, PairsInLump, NoOuterShell, NoRoom}
 use Rattle.rules.specs.Rules.{full_table, ordinary}
-use Rattle.rules.specs.Sew.{ended, Ends, sewn}
+use Rattle.rules.specs.Sew.{Ends, sewn}
 use Rattle.rules.specs.Outcome.{Outcome, Ok, Err, fault_number}
 use Rattle.rules.specs.Listing.{line_of, refusal_line, listing_of, sewn_records}
 use Rattle.fields.specs.Wrote.{Wrote}
 use Rattle.lines.specs.Text.{records_in, recorded}
 use Rattle.lines.specs.Writing.{wrote_same}
 use Rattle.lines.specs.Listed.{recorded_listing}
-use Rattle.sewing_c.specs.Told.{is_number, Numbered, number_of, end_value, value_of, Tells, answer_text, ListsAnswer, Inside, TellsLoop}
+use Rattle.sewing_c.specs.Told.{is_number, Numbered, Tells, answer_text, ListsAnswer}
 
 -- NUMBERS
 
@@ -46,6 +46,7 @@ fault_listed NoOuterShell = refl
 fault_listed NoRoom = refl
 fault_listed SelectedTwice = refl
 
+-- so each outcome is a numbered one
 pub numbered : {A : Type 0} (o : Outcome A) → Numbered o
 numbered o = record { listed = λ r e. fault_listed r.fault }
 
@@ -53,39 +54,16 @@ not_zero : (n : ℕ) → is_number n ≡ true → n ≡ 0 → ⊥
 unfolding is_number has
 not_zero n t e = false≢true (ap is_number (sym e) ∙ t)
 
--- ENDINGS
-
-number_is : (o : Outcome (List ℕ)) → number_of (ended o) ≡ number_of o
-number_is (Ok bytes) = refl
-number_is (Err refusal) = refl
-
-value_is : (o : Outcome (List ℕ)) → end_value (ended o) ≡ value_of o
-value_is (Ok bytes) = refl
-value_is (Err refusal) = refl
-
--- an operation's ending, told
-pub told : (o : Outcome (List ℕ)) (before after : List ℕ) (e : Outcome ℕ) (number value : ℕ) → Ends o before after e → (number ≡ number_of e) × (value ≡ end_value e) → Tells o before after value number
-told o before after e number value E t = (t.0 ∙ ap number_of E.0 ∙ number_is o, t.1 ∙ ap end_value E.0 ∙ value_is o, E.1, numbered o)
-
--- THE LOOP REQUEST
-
--- a stretch, told
-pub loop_told : (job : List ℕ) (o : Outcome Stretch) (a z : ℕ) → Ok (record { start = a; size = z - a }) ≡ o → (a < z) × (z ≤ length job) → TellsLoop o a (z - a) 0 × Inside job o
-loop_told job o a z e inside =
-    subst (λ x. TellsLoop x a (z - a) 0 × Inside job x) e
-    ((refl, refl, refl, numbered (Ok (record { start = a; size = z - a }))), (omega (arith, inside.0), omega (arith, inside.0, inside.1)))
-
-pub loop_refused : (job : List ℕ) (o : Outcome Stretch) (r : Refusal) (n : ℕ) → Err r ≡ o → n ≡ fault_number r.fault → TellsLoop o 0 r.place n × Inside job o
-loop_refused job o r n e en = subst (λ x. TellsLoop x 0 r.place n × Inside job x) e ((en, refl, refl, numbered (Err r)), tt)
-
 -- THE LISTING
 
 -- the text by number and value
-pub text_written : (number value : ℕ) (out : List ℕ) → number ≡ 0 → listing_of (recorded out (Ok value)) ≡ answer_text number value out
-text_written number value out e = sym (ap (λ t. cond t (flat_map line_of (records_in (take value out))) (refusal_line number value)) (eq-eqb number 0 e))
+text_written : (number value : ℕ) (out : List ℕ) → number ≡ 0 → listing_of (recorded out (Ok value)) ≡ answer_text number value out
+text_written number value out e =
+    sym (ap (λ t. cond t (flat_map line_of (records_in (take value out))) (refusal_line number value)) (eq-eqb number 0 e))
 
-pub text_refused : (number value : ℕ) (out : List ℕ) → (number ≡ 0 → ⊥) → refusal_line number value ≡ answer_text number value out
-text_refused number value out n = sym (ap (λ t. cond t (flat_map line_of (records_in (take value out))) (refusal_line number value)) (ne_eqb number 0 n))
+text_refused : (number value : ℕ) (out : List ℕ) → (number ≡ 0 → ⊥) → refusal_line number value ≡ answer_text number value out
+text_refused number value out n =
+    sym (ap (λ t. cond t (flat_map line_of (records_in (take value out))) (refusal_line number value)) (ne_eqb number 0 n))
 
 -- what was told is an ending, and its text is that
 abbrev Answered : Outcome (List ℕ) → List ℕ → List ℕ → ℕ → ℕ → Type 0
@@ -101,17 +79,25 @@ answered (Err r) before out number value T =
 pub few_bytes : (out body : List ℕ) → body ≡ take 4294967295 out → length body < 4294967296
 few_bytes out body e = omega (arith, ap length e ∙ length-take 4294967295 out)
 
--- the listing by what was told
-pub listed : (page after out body text : List ℕ) (number value n : ℕ) → body ≡ out → text ≡ answer_text number value body → Wrote page 0 text after n
-    → Wrote page 0 (answer_text number value out) after n
-listed page after out body text number value n p q w = wrote_same page after text (answer_text number value out) 0 n (q ∙ ap (answer_text number value) p) w
+module _ {number value r : ℕ} {out page printed : List ℕ} where
+  answer_lists : Wrote page 0 (answer_text number value (take 4294967295 out)) printed r → ListsAnswer number value out page printed r
+  answer_lists w = record {
+    text = w;
+    records = λ job before bytes few same T.
+        let all : take 4294967295 out ≡ out = take_all 4294967295 out (omega (arith, few, same)) in
+        let a = answered (sewn ordinary job (length before)) before out number value T in
+        wrote_same page printed (answer_text number value (take 4294967295 out)) (listing_of (sewn_records ordinary job (length before))) 0 r
+        (ap (answer_text number value) all ∙ a.2 ∙ recorded_listing full_table job before out a.0 bytes few a.1) w;
+  }
 
-pub lists_answer : (number value : ℕ) (out page printed : List ℕ) (r : ℕ) → Wrote page 0 (answer_text number value (take 4294967295 out)) printed r → ListsAnswer number value out page printed r
-lists_answer number value out page printed r w = record {
-  text = w;
-  records = λ job before bytes few same T.
-      let all : take 4294967295 out ≡ out = take_all 4294967295 out (omega (arith, few, same)) in
-      let a = answered (sewn ordinary job (length before)) before out number value T in
-      wrote_same page printed (answer_text number value (take 4294967295 out)) (listing_of (sewn_records ordinary job (length before))) 0 r
-      (ap (answer_text number value) all ∙ a.2 ∙ recorded_listing full_table job before out a.0 bytes few a.1) w;
-}
+  -- the listing of a body, and that of a refusal
+  pub text_lists : {body : List ℕ} → body ≡ take 4294967295 out → number ≡ 0 → Wrote page 0 (listing_of (recorded body (Ok value))) printed r
+      → ListsAnswer number value out page printed r
+  text_lists {body} p e w =
+      answer_lists (wrote_same page printed (listing_of (recorded body (Ok value))) (answer_text number value (take 4294967295 out)) 0 r
+      (text_written number value body e ∙ ap (answer_text number value) p) w)
+
+  pub refusal_lists : (number ≡ 0 → ⊥) → Wrote page 0 (refusal_line number value) printed r → ListsAnswer number value out page printed r
+  refusal_lists n w =
+      answer_lists (wrote_same page printed (refusal_line number value) (answer_text number value (take 4294967295 out)) 0 r
+      (text_refused number value (take 4294967295 out) n) w)

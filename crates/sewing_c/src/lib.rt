@@ -1,7 +1,7 @@
 // Sewing for callers in C and Rust: numbers and byte slices. A `&[u8]` is passed as a pointer and a length, a `&mut usize`
 // as a pointer; `include/sewing.h` says what each must hold.
 
-#![tactic(auto)]
+#![tactic(auto, using(crate::specs::ToldLaws::numbered))]
 
 ghost use Rattle.std.specs.Prelude.{◌≡◌, length};
 ghost use Rattle.rules.specs.Load.{requested};
@@ -10,7 +10,7 @@ ghost use Rattle.rules.specs.Sew.{sewn};
 ghost use Rattle.rules.specs.Stage.{read_stage, pair_stage, merge_stage, vertex_loop_stage, walk_stage, loop_stage, fan_stage, edge_stage, joining_stage, shell_stage, lump_stage};
 ghost use Rattle.theorems.specs.Promises.{Promises};
 ghost use Rattle.lines.specs.Listed.{Lists};
-ghost use Rattle.sewing.specs.Steps.{Promised};
+ghost use Rattle.sewing.specs.Promised.{Promised};
 ghost use Rattle.sewing_c.specs.Told.{number_of, end_value, Tells, ListsAnswer, Inside, TellsLoop};
 
 use rules::Refusal;
@@ -160,7 +160,8 @@ pub extern "C" fn zaxclover_loop(
     start: &mut usize,
     value: &mut usize,
 ) -> usize
-    ensures { TellsLoop (requested job.now n) start.new value.new result × Inside job.now (requested job.now n) }
+    ensures tells { TellsLoop (requested job.now n) start.new value.new result }
+    ensures inside { Inside job.now (requested job.now n) }
 {
     match load::loop_stretch(job, n) {
         Ok(bytes) => {

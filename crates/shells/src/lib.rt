@@ -2,16 +2,16 @@
 
 #![tactic(auto)]
 
-ghost use Rattle.std.specs.Prelude.{◌≡◌, ℕ, ◌+◌, ◌<◌, ◌≤◌, List, map, length, get_or, take, replicate, Ok, IfOk, OnOk, IfSome};
+ghost use Rattle.std.specs.Prelude.{◌≡◌, ℕ, ◌<◌, ◌≤◌, List, map, length, get_or, take, replicate, Ok, IfOk, OnOk, IfSome};
 ghost use Rattle.rules.specs.Outcome.{◌>>=◌ as ◌and_then◌};
 ghost use Rattle.rules.specs.Groups.{lowest_members, Lowest};
 ghost use Rattle.rules.specs.Shells.{shell_faces, shells as shells_by, nested, innermost, enclosing_shell, none, shell, lump_labels};
 ghost use Rattle.shells.specs.Table.{row_at, shells_in, nested_in, Shelled};
 ghost use Rattle.shells.specs.Steps.{LowFaces, outer_by, outers_in, taken_of, taken_after, home_of};
-ghost use Rattle.shells.specs.LumpLaws.{LabelsAt};
 
 use fields::{entry, get, put};
 use loaded::Loaded;
+use merge_faces::Faces;
 use rules::{Fault, Refusal};
 
 // A shell: the label of the boundary that it is, its lowest merged face, whether it is outer, and the lowest merged face of
@@ -43,12 +43,14 @@ pub fn shell_at(table: &[ShellRow], k: usize) -> ShellRow
 // SHELLS
 
 // The lowest merged face of each boundary: the merged faces from the last to the first, each over those after it.
-fn low_faces(boundaries: &[u32], members: &[u32], lows: &mut [u32])
-    requires { (length members.now ≤ 256) × (lows.old ≡ replicate 256 0) }
-    ensures { LowFaces boundaries.now members.now lows.new }
+fn low_faces(faces: &Faces, lows: &mut [u32])
+    requires { lows.old ≡ replicate 256 0 }
+    ensures { LowFaces faces.now.boundaries faces.now.members lows.new }
 {
-    for f in (0..members.len()).rev() {
-        put(lows, get(boundaries, get(members, f)), f);
+    let boundaries = faces.boundaries();
+    let members = faces.members();
+    for (f, m) in members.iter().enumerate().rev() {
+        put(lows, get(boundaries, *m as usize), f);
     }
 }
 
@@ -80,24 +82,19 @@ fn shell_of(job: &Loaded<'_>, lows: &[u32], b: usize) -> Result<ShellRow, Refusa
     })
 }
 
-// The shells in the order of their boundaries' lowest faces, each asked about in that order. `members` has the lowest
-// selected face of each merged face. Gives how many shells there are.
-pub fn shells(
-    job: &Loaded<'_>,
-    boundaries: &[u32],
-    members: &[u32],
-    table: &mut [ShellRow],
-) -> Result<usize, Refusal>
-    requires { (length table.old ≡ 256) × (length boundaries.now ≤ 256) × (length members.now ≤ 256) }
-    ensures { ((result and_then λ n. Ok (shells_in boundaries.now members.now (take n table.new)))
-        ≡ shells_by job.now.answers job.now.proven (map (shell_faces boundaries.now members.now) (lowest_members boundaries.now)))
-        × IfOk result (λ n. (n ≤ length boundaries.now) × Shelled boundaries.now members.now (take n table.new)) }
+// The shells in the order of their boundaries' lowest faces, each asked about in that order. Gives how many shells there are.
+pub fn shells(job: &Loaded<'_>, faces: &Faces, table: &mut [ShellRow]) -> Result<usize, Refusal>
+    requires { length table.old ≡ 256 }
+    ensures { ((result and_then λ n. Ok (shells_in faces.now.boundaries faces.now.members (take n table.new)))
+        ≡ shells_by job.now.answers job.now.proven (map (shell_faces faces.now.boundaries faces.now.members) (lowest_members faces.now.boundaries)))
+        × IfOk result (λ n. (n ≤ length faces.now.boundaries) × (n ≤ length table.new) × Shelled faces.now.boundaries faces.now.members (take n table.new)) }
 {
     let mut lows = [0u32; 256];
-    low_faces(boundaries, members, &mut lows);
+    low_faces(faces, &mut lows);
+    let boundaries = faces.boundaries();
     let mut count = 0;
-    for b in 0..boundaries.len() {
-        if get(boundaries, b) == b {
+    for (b, label) in boundaries.iter().enumerate() {
+        if *label as usize == b {
             table[count] = shell_of(job, &lows, b)?;
             count += 1;
         }
@@ -188,34 +185,21 @@ pub fn nest(job: &Loaded<'_>, table: &mut [ShellRow]) -> Result<(), Refusal>
 
 // LUMPS
 
-// Face f by lump: the next shell's home, or the label of its boundary's lowest face. Gives how many shells there are up
-// to f.
-fn label_face(
-    boundaries: &[u32],
-    shells: &[ShellRow],
-    labels: &mut [u32],
-    count: usize,
-    f: usize,
-) -> usize
-    requires { LabelsAt boundaries.now shells.now labels.old count f × (f < length boundaries.now) × (length boundaries.now ≤ 256) }
-    ensures { LabelsAt boundaries.now shells.now labels.new result (f + 1) }
+// The selected faces labelled by lump, each by the lowest merged face of its outer shell: the home of the next shell, or the
+// label of its boundary's lowest face.
+pub fn lump_labels(faces: &Faces, shells: &[ShellRow], labels: &mut [u32])
+    requires { Lowest faces.now.boundaries × (length labels.old ≡ length faces.now.boundaries) }
+    ensures { (members : List ℕ) → Shelled faces.now.boundaries members shells.now → labels.new ≡ lump_labels faces.now.boundaries (nested_in faces.now.boundaries members shells.now) }
 {
-    let b = get(boundaries, f);
-    if b == f {
-        put(labels, f, shell_at(shells, count).home as usize);
-        return count + 1;
-    }
-    put(labels, f, get(labels, b));
-    count
-}
-
-// The selected faces labelled by lump, each by the lowest merged face of its outer shell.
-pub fn lump_labels(boundaries: &[u32], shells: &[ShellRow], labels: &mut [u32])
-    requires { Lowest boundaries.now × (length labels.old ≡ length boundaries.now) × (length boundaries.now ≤ 256) }
-    ensures { (members : List ℕ) → Shelled boundaries.now members shells.now → labels.new ≡ lump_labels boundaries.now (nested_in boundaries.now members shells.now) }
-{
-    let mut count = 0;
-    for f in 0..boundaries.len() {
-        count = label_face(boundaries, shells, labels, count, f);
+    let boundaries = faces.boundaries();
+    let mut count: usize = 0;
+    for (f, label) in boundaries.iter().enumerate() {
+        let b = *label as usize;
+        if b == f {
+            put(labels, f, shell_at(shells, count).home as usize);
+            count += 1;
+        } else {
+            put(labels, f, get(labels, b));
+        }
     }
 }

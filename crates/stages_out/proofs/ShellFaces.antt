@@ -1,8 +1,9 @@
 -- Laws of the merged faces of a boundary.
-use Rattle.std.specs.Prelude.{ℕ, zero, suc, ◌+◌, ◌≤◌, ◌≡◌, refl, Bool, true, false, cond, length, get_or, take, eqb}
+use Rattle.std.specs.Prelude.{ℕ, zero, suc, ◌+◌, ◌≤◌, ◌≡◌, refl, Bool, cond, length, get_or, take, eqb}
 use Rattle.std.proofs.Common.{arith, sym, ap, ◌∙◌, take-suc}
 use mathlib.Core.List.{List, [], ◌∷◌, ◌++◌, flat_map}
 use Rattle.std.proofs.Math.Seq.{take-length, length-take-le}
+use Rattle.std.proofs.lemmas.Grind.{common_steps}
 use Rattle.std.specs.List.{filter}
 use Rattle.lists.specs.Lists.{from, below, keep, positions}
 use Rattle.lists.specs.Runs.{below_snoc}
@@ -32,11 +33,7 @@ module _ {A : Type 0} (p : A → Bool) (l : List A) (d : A) where
 positions_count : {A : Type 0} (p : A → Bool) (i : ℕ) (l : List A) → length (filter p l) ≡ length (positions p i l)
 unfolding positions
 positions_count p i [] = refl
-positions_count p i (x ∷ l) = go (p x) (positions_count p (suc i) l)
-  where
-    go : (b : Bool) → length (filter p l) ≡ length (positions p (suc i) l) → length (cond b (x ∷ filter p l) (filter p l)) ≡ length (cond b (i ∷ positions p (suc i) l) (positions p (suc i) l))
-    go true e = ap suc e
-    go false e = e
+positions_count p i (x ∷ l) = grind (arith, common_steps, positions_count p (suc i) l)
 
 module _ (boundaries members : List ℕ) (b : ℕ) where
   -- a selected face is of the boundary

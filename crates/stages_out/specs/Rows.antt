@@ -1,22 +1,24 @@
 -- The fields of the single stages through the loops, over plain lists, and how a stage ends that has them.
-use Rattle.std.specs.Prelude.{ℕ, ◌-◌, ◌≡◌, refl, Bool, length, get_or, leb}
+use Rattle.std.specs.Prelude.{ℕ, ◌≡◌, refl, Bool, length, get_or}
 use Rattle.std.proofs.Common.{ap}
 use mathlib.Core.List.{List, [], ◌∷◌, flat_map}
 use Rattle.lists.specs.Lists.{below}
-use Rattle.rules.specs.declared.Fault.TheVariants.{NoRoom}
+use Rattle.std.specs.Borrow.{MutBor}
+use Rattle.fields.specs.Wrote.{Wrote}
 use Rattle.rules.specs.declared.Use.{Use}
-use Rattle.fields.specs.declared.Span.{Span}
-use Rattle.fields.specs.Spans.{span_at}
-use Rattle.rules.specs.Outcome.{Outcome, Ok, need}
+use Rattle.rules.specs.Outcome.{Outcome}
 use Rattle.rules.specs.Groups.{label_of}
 use Rattle.rules.specs.Merge.{Merged, merged_faces, merged_face_of}
 use Rattle.rules.specs.Walk.{successor}
 use Rattle.rules.specs.Sew.{Walked, Ends}
 use Rattle.rules.specs.Stage.{group_fields, kept_uses, walk_fields, loop_fields, stage_bytes}
 
--- an output with so much room has room for the bytes needed
-abbrev pub fits : ℕ → ℕ → Outcome (Unit {0})
-fits room needed = need (leb needed room) NoRoom needed (Ok tt)
+-- a writer writes these bytes from the output's start on, and again when it is called after that
+abbrev pub WritesTwice : {F : Type 0} → (F → MutBor (List ℕ) → ℕ → MutBor (List ℕ) → F → Type 0) → F → List ℕ → Type 0
+WritesTwice {F} step put bytes =
+    (before : MutBor (List ℕ)) (end : ℕ) (after : MutBor (List ℕ)) (next : F) → step put before end after next
+    → Wrote before.now 0 bytes after.now end
+    × ((before' : MutBor (List ℕ)) (end' : ℕ) (after' : MutBor (List ℕ)) (last : F) → step next before' end' after' last → Wrote before'.now 0 bytes after'.now end')
 
 -- a stage with these fields: its ending, and what the output holds after it
 abbrev pub Staged : List ℕ → List ℕ → List ℕ → Outcome ℕ → Type 0
@@ -54,7 +56,3 @@ round_rows us numbers ls = flat_map (round_row us numbers) ls
 pub round_rows_lem : (w : Walked) (ls : List (List ℕ)) → round_rows w.uses (merged_faces w.merge) ls ≡ flat_map (loop_fields w) ls
 unfolding round_rows
 round_rows_lem w ls = refl
-
--- the place where the uses of the loops end
-abbrev pub end_of : List Span → ℕ
-end_of stretches = (span_at stretches (length stretches - 1)).end

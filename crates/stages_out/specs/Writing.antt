@@ -1,22 +1,20 @@
 -- Laws of fields written row by row from the output's start on, and of the ending of a stage.
-use Rattle.std.specs.Prelude.{ℕ, ◌+◌, ◌*◌, ◌≤◌, ◌≡◌, refl, Bool, true, false, length, get_or, drop, leb}
+use Rattle.std.specs.Prelude.{ℕ, ◌+◌, ◌*◌, ◌<◌, ◌≤◌, ◌≡◌, refl, false, length, get_or, drop, leb}
 use Rattle.std.proofs.Common.{mul-suc, add-one, sym, ap, subst, ◌∙◌}
 use native.Mathlib.Omega.{arith}
 use mathlib.Core.List.{List, [], ◌∷◌, ◌++◌, flat_map, append-nil}
 use Rattle.std.proofs.lemmas.List.Edits.{sets-eq}
-use Rattle.std.proofs.lemmas.Bool.{leb-true}
+use Rattle.std.proofs.lemmas.Bool.{le-leb}
+use Rattle.std.proofs.lemmas.Bool.Decides.{leb_tells}
 use Rattle.lists.specs.Lists.{from, below}
 use Rattle.lists.specs.Members.{flat_map_append}
 use Rattle.lists.specs.Rows.{rows_more, flat_map_places}
-use Rattle.rules.specs.declared.Refusal.{Refusal}
-use Rattle.rules.specs.Outcome.{Outcome, Ok, Err, ◌>>=◌, need}
-use Rattle.std.specs.Result.{IsErrAnd}
-use Rattle.rules.proofs.OutcomeLaws.{hands_on, need_ok}
+use Rattle.rules.specs.Outcome.{Ok, Err}
+use Rattle.rules.proofs.OutcomeLaws.{need_on, need_stop}
 use Rattle.rules.specs.Fields.{bytes32, field_bytes}
 use Rattle.rules.specs.Sew.{fitting, Ends}
 use Rattle.fields.specs.Wrote.{Wrote, wrote_none, wrote_more}
 use Rattle.fields.specs.Tabled.{length_field_bytes}
-use Rattle.stages_out.specs.Rows.{Staged, fits}
 use Rattle.rules.specs.declared.Fault.TheVariants.{NoRoom}
 
 -- FIELDS
@@ -92,28 +90,14 @@ module _ {A : Type 0} (f : A → List ℕ) (l : List A) (d : A) {most : ℕ} {be
 -- THE ENDING
 
 -- where the bytes needed fit, they are written from the start on; else they are refused with how many they are
-module _ (bytes before : List ℕ) (needed : ℕ) {o : Outcome (Unit {0})} (room : o ≡ fits (length before) needed) (all : needed ≡ length bytes) where
-  ending : {r : Outcome (Unit {0})} → o ≡ r → fitting (length before) bytes ≡ (r >>= λ _. Ok bytes)
-  unfolding need
-  ending e = rw (← all) (fits_then (leb needed (length before)) ∙ ap (λ x. x >>= λ _. Ok bytes) (sym room ∙ e))
-    where
-      fits_then : (b : Bool) → need b NoRoom needed (Ok bytes) ≡ (need b NoRoom needed (Ok (tt {0})) >>= λ _. Ok bytes)
-      fits_then true = refl
-      fits_then false = refl
-
-  pub ends_written : {u : Unit {0}} (after : List ℕ) (p : ℕ) → o ≡ Ok u → Wrote before 0 bytes after p → Ends (fitting (length before) bytes) before after (Ok p)
-  ends_written after p e w =
-      let enough : needed ≤ length before = leb-true _ _ (need_ok _ _ _ _ _ (sym room ∙ e)).0 in
+module _ (bytes before : List ℕ) {needed : ℕ} (all : needed ≡ length bytes) where
+  pub ends_written : {after : List ℕ} {p : ℕ} → needed ≤ length before → Wrote before 0 bytes after p → Ends (fitting (length before) bytes) before after (Ok p)
+  ends_written room w =
       let z : 0 + length bytes ≡ length bytes = omega arith in
-      rw (ending e, w.1, w.0, z) (refl, sets-eq bytes before 0 (omega arith) ∙ ap (λ k. bytes ++ drop k before) z)
+      rw (need_on NoRoom (length bytes) (Ok bytes) (le-leb (length bytes) (length before) (omega arith)), w.1, w.0, z)
+      (refl, sets-eq bytes before 0 (omega arith) ∙ ap (λ k. bytes ++ drop k before) z)
 
-  pub ends_short : {r : Refusal} (answer : Outcome ℕ) → o ≡ Err r → IsErrAnd answer (λ x. x ≡ r) → Ends (fitting (length before) bytes) before before answer
-  ends_short answer e h = rw (ending e) (hands_on answer h, refl)
-
--- the same for fields
-module _ (fs before : List ℕ) (needed : ℕ) {o : Outcome (Unit {0})} (room : o ≡ fits (length before) needed) (four_each : needed ≡ 4 * length fs) where
-  pub staged_written : {u : Unit {0}} (after : List ℕ) (p : ℕ) → o ≡ Ok u → Wrote before 0 (field_bytes fs) after p → Staged fs before after (Ok p)
-  staged_written after p e w = ends_written (field_bytes fs) before needed room (four_each ∙ sym (length_field_bytes fs)) after p e w
-
-  pub staged_short : {r : Refusal} (answer : Outcome ℕ) → o ≡ Err r → IsErrAnd answer (λ x. x ≡ r) → Staged fs before before answer
-  staged_short answer e h = ends_short (field_bytes fs) before needed room (four_each ∙ sym (length_field_bytes fs)) answer e h
+  pub ends_short : length before < needed → Ends (fitting (length before) bytes) before before (Err (record { fault = NoRoom; place = needed }))
+  ends_short less =
+      let no : leb (length bytes) (length before) ≡ false = grind (arith, leb_tells) in
+      rw (need_stop NoRoom (length bytes) (Ok bytes) no, all) (refl, refl)

@@ -3,15 +3,16 @@
 
 #![tactic(auto)]
 
-ghost use Rattle.std.specs.Prelude.{◌≡◌, ◌+◌, ◌*◌, ◌<◌, ◌≤◌, ◌^◌, cond, not, length};
+ghost use Rattle.std.specs.Prelude.{◌≡◌, List, ℕ, ◌+◌, ◌*◌, ◌<◌, ◌≤◌, ◌^◌, cond, not, length};
 ghost use mathlib.Core.List.{[], ◌∷◌, flat_map};
 ghost use Rattle.rules.specs.Fields.{field_bytes};
 ghost use Rattle.rules.specs.Merge.{is_removed};
 ghost use Rattle.rules.specs.Shells.{shell_faces};
 ghost use Rattle.rules.specs.Stage.{use_fields, kept_uses, kept_fields};
+ghost use Rattle.rules.specs.Sew.{fitting, Ends};
 ghost use Rattle.fields.specs.Wrote.{Wrote};
 ghost use Rattle.walk.specs.Walks.{loops_in, Following};
-ghost use Rattle.stages_out.specs.Rows.{Staged, walk_row, walk_rows, pair_rows, round_row, round_rows, end_of, fits};
+ghost use Rattle.stages_out.specs.Rows.{WritesTwice, Staged, walk_row, walk_rows, pair_rows, round_row, round_rows};
 
 use fields::{Span, get, is_set, put_table, put_word};
 use merge_faces::Faces;
@@ -49,15 +50,20 @@ fn put_uses(uses: &[Use], out: &mut [u8]) -> usize
     p
 }
 
-// The output has room for the bytes needed.
-#[tactic(auto, unfolding(rules::specs::Outcome::need))]
-pub fn fits(out: &[u8], needed: usize) -> Result<(), Refusal>
-    ensures { result ≡ fits (length out.now) needed }
+// What a writer writes from the output's start on, or nothing and the refusal `NoRoom` with the bytes needed where the output is
+// too short. The bytes needed are the place after the same bytes written to an output of no bytes, which stores none of them.
+pub fn write_fitting<F: FnMut(&mut [u8]) -> usize>(
+    out: &mut [u8],
+    mut put: F,
+) -> Result<usize, Refusal>
+    requires { F.IsAlwaysCallable put }
+    ensures { (bytes : List ℕ) → WritesTwice F.step put bytes → Ends (fitting (length out.old) bytes) out.old out.new result }
 {
+    let needed = put(&mut []);
     if out.len() < needed {
         return Err(Fault::NoRoom.at(needed));
     }
-    Ok(())
+    Ok(put(out))
 }
 
 // The stage `read`: edge, selected face, sense and old successor of each use.
@@ -65,8 +71,7 @@ pub fn write_read(uses: &[Use], out: &mut [u8]) -> Result<usize, Refusal>
     requires { length uses.now ≤ 2048 }
     ensures { Staged (flat_map use_fields uses.now) out.old out.new result }
 {
-    fits(out, 16 * uses.len())?;
-    Ok(put_uses(uses, out))
+    write_fitting(out, |out| put_uses(uses, out))
 }
 
 // The stage `pair`: the twin of each use.
@@ -74,16 +79,7 @@ pub fn write_twins(twins: &[u32], out: &mut [u8]) -> Result<usize, Refusal>
     requires { length twins.now ≤ 2048 }
     ensures { Staged twins.now out.old out.new result }
 {
-    fits(out, 4 * twins.len())?;
-    Ok(put_table(out, 0, twins))
-}
-
-// How many uses are kept.
-fn kept_count(removed: &[bool]) -> usize
-    requires { length removed.now ≤ 2048 }
-    ensures { (result ≡ length (kept_uses removed.now)) × (result ≤ 2048) }
-{
-    removed.iter().filter(|gone| !**gone).count()
+    write_fitting(out, |out| put_table(out, 0, twins))
 }
 
 // The fields of a kept use at a place, none for a removed one; gives the place after them.
@@ -113,6 +109,7 @@ fn put_walks(removed: &[bool], succ: &[u32], passed: &[u32], out: &mut [u8]) -> 
     ensures { Wrote out.old 0 (field_bytes (walk_rows removed.now succ.now passed.now)) out.new result }
 {
     let mut p = 0;
+    // by number: nothing says that the other tables are as long as the first
     for h in 0..removed.len() {
         p = put_walked(removed, succ, passed, h, out, p);
     }
@@ -129,12 +126,11 @@ pub fn write_walk(
     requires { length removed.now ≤ 2048 }
     ensures { Staged (walk_rows removed.now succ.now passed.now) out.old out.new result }
 {
-    fits(out, 12 * kept_count(removed))?;
-    Ok(put_walks(removed, succ, passed, out))
+    write_fitting(out, |out| put_walks(removed, succ, passed, out))
 }
 
-// The entries of two tables, side by side; gives the place after them. By number, and not over `zip`, since nothing says that
-// the second table is as long as the first.
+// The entries of two tables, side by side; gives the place after them. The second by number, and not over `zip`, since
+// nothing says that it is as long as the first.
 fn put_pairs(boundaries: &[u32], groups: &[u32], out: &mut [u8]) -> usize
     requires { length boundaries.now ≤ 2048 }
     ensures { Wrote out.old 0 (field_bytes (pair_rows boundaries.now groups.now)) out.new result }
@@ -151,8 +147,7 @@ pub fn write_pairs(boundaries: &[u32], groups: &[u32], out: &mut [u8]) -> Result
     requires { length boundaries.now ≤ 2048 }
     ensures { Staged (pair_rows boundaries.now groups.now) out.old out.new result }
 {
-    fits(out, 8 * boundaries.len())?;
-    Ok(put_pairs(boundaries, groups, out))
+    write_fitting(out, |out| put_pairs(boundaries, groups, out))
 }
 
 // The merged face and the point of each kept vertex loop; gives the place after them.
@@ -172,15 +167,7 @@ pub fn write_kept(kept: &[KeptVertexLoop], out: &mut [u8]) -> Result<usize, Refu
     requires { length kept.now ≤ 2048 }
     ensures { Staged (flat_map kept_fields kept.now) out.old out.new result }
 {
-    fits(out, 8 * kept.len())?;
-    Ok(put_kept(kept, out))
-}
-
-// The place where the uses of the loops end.
-fn end_of(stretches: &[Span]) -> usize
-    ensures { (result ≡ end_of stretches.now) × (result < 4294967296) }
-{
-    stretches.last().map_or(0, |last| last.end as usize)
+    write_fitting(out, |out| put_kept(kept, out))
 }
 
 // The fields of one loop at a place; gives the place after them.
@@ -229,8 +216,7 @@ pub fn write_loops(
     requires { Following ways.now stretches.now × (length stretches.now ≤ 2048) × (length ways.now ≤ 2048) }
     ensures { Staged (round_rows uses.now numbers.now (loops_in ways.now stretches.now)) out.old out.new result }
 {
-    fits(out, 8 * stretches.len() + 4 * end_of(stretches))?;
-    Ok(put_loops(uses, numbers, ways, stretches, out))
+    write_fitting(out, |out| put_loops(uses, numbers, ways, stretches, out))
 }
 
 // MERGED FACES OF A BOUNDARY, for the shells

@@ -38,17 +38,17 @@ visited_in h cs e = let r = some_in (λ c. has h (circuit_uses c)) cs e in in_fl
 in_visited : (h : ℕ) (cs : List Circuit) → h ∈ flat_map circuit_uses cs → visited h cs ≡ true
 in_visited h cs m = let r = flat_map_in circuit_uses cs h m in in_some (λ c. has h (circuit_uses c)) r.1 (in_has r.2)
 
-step_skips : (rm : List Bool) (ss : List ℕ) (cs : List Circuit) (h : ℕ) → (is_removed rm h || visited h cs) ≡ true → loop_step rm ss cs h ≡ cs
+pub step_skips : (rm : List Bool) (ss : List ℕ) (cs : List Circuit) (h : ℕ) → (is_removed rm h || visited h cs) ≡ true → loop_step rm ss cs h ≡ cs
 unfolding loop_step
 step_skips rm ss cs h e = cond_true (is_removed rm h || visited h cs) cs (cs ++ (circuit ss (length ss) h h ∷ [])) e
 
-step_starts : (rm : List Bool) (ss : List ℕ) (cs : List Circuit) (h : ℕ) → (is_removed rm h || visited h cs) ≡ false
+pub step_starts : (rm : List Bool) (ss : List ℕ) (cs : List Circuit) (h : ℕ) → (is_removed rm h || visited h cs) ≡ false
     → loop_step rm ss cs h ≡ cs ++ (circuit ss (length ss) h h ∷ [])
 unfolding loop_step
 step_starts rm ss cs h e = cond_false (is_removed rm h || visited h cs) cs (cs ++ (circuit ss (length ss) h h ∷ [])) e
 
 -- what one more loop adds
-uses_snoc : (cs : List Circuit) (c : Circuit) → flat_map circuit_uses (cs ++ (c ∷ [])) ≡ flat_map circuit_uses cs ++ circuit_uses c
+pub uses_snoc : (cs : List Circuit) (c : Circuit) → flat_map circuit_uses (cs ++ (c ∷ [])) ≡ flat_map circuit_uses cs ++ circuit_uses c
 unfolding flat_map
 uses_snoc cs c = flat_map_append circuit_uses cs (c ∷ []) ∙ ap (λ l. flat_map circuit_uses cs ++ l) (append-nil (circuit_uses c))
 
@@ -113,14 +113,16 @@ module _ {n : ℕ} {rm : List Bool} {ss : List ℕ} (S : Permuted n rm ss) where
   step_covers cs h d =
       ⊎_elim
       (λ e. rw (step_skips rm ss cs h e) (visited_in h cs (⊎_elim (λ t. absurd (true≢false (sym t ∙ d.1))) (λ t. t) (or_cases (is_removed rm h) (visited h cs) e))))
-      (λ e. rw (step_starts rm ss cs h e, uses_snoc cs (circuit ss (length ss) h h)) (Memᴰ.append_right (flat_map circuit_uses cs) (rw (circuit_of h d).1 (in_orbit (successor ss) (suc (circuit_of h d).0) 0 h (omega arith)))))
+      (λ e. rw (step_starts rm ss cs h e, uses_snoc cs (circuit ss (length ss) h h))
+      (Memᴰ.append_right (flat_map circuit_uses cs) (rw (circuit_of h d).1 (in_orbit (successor ss) (suc (circuit_of h d).0) 0 h (omega arith)))))
       (both_ways (is_removed rm h || visited h cs))
 
   covers : (l : List ℕ) (cs : List Circuit) (x : ℕ) → Kept n rm x → x ∈ l → x ∈ flat_map circuit_uses (foldl (loop_step rm ss) cs l)
   covers [] cs x d m = absurd (Memᴰ.not-nil m)
   covers (h ∷ l) cs x d m =
       ⊎_elim
-      (λ e. foldl_keeps (loop_step rm ss) (λ s. x ∈ flat_map circuit_uses s) l (loop_step rm ss cs h) (subst (λ y. x ∈ flat_map circuit_uses (loop_step rm ss cs y)) e (step_covers cs x d)) (λ s y _ q. step_keeps s y x q))
+      (λ e. foldl_keeps (loop_step rm ss) (λ s. x ∈ flat_map circuit_uses s) l (loop_step rm ss cs h)
+      (subst (λ y. x ∈ flat_map circuit_uses (loop_step rm ss cs y)) e (step_covers cs x d)) (λ s y _ q. step_keeps s y x q))
       (covers l (loop_step rm ss cs h) x d)
       (Memᴰ.cases_cons m)
 

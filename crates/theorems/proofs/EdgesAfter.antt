@@ -71,7 +71,8 @@ module _ (es : List EdgeData) (v a b : ℕ) (k : TwoEdges es v a b) where
   actives_after e =
       elim (dec_lt e (length es)) [
         | yes h ↦
-            let p = set_two (λ j (d : EdgeData). active_one d + (one_at a j + one_at b j) ≡ active_one (edge_data_at es j)) es a b (retired (edge_data_at es a)) (retired (edge_data_at es b)) no_edge_data
+            let p = set_two (λ j (d : EdgeData). active_one d + (one_at a j + one_at b j) ≡ active_one (edge_data_at es j)) es a b
+            (retired (edge_data_at es a)) (retired (edge_data_at es b)) no_edge_data
             first_in k.inside apart_edges
             (let z = ap (λ c. cond {A = ℕ} c 1 0) (ends_active (edge_data_at es a) v (omega (arith, k.first_once))) in
             omega (arith, one_at_same a a refl, one_at_other b a (λ q. apart_edges (sym q))))

@@ -46,4 +46,6 @@ pub record EdgesHold (j : Job) (w : Walked) : Type 0 where
   pub one_to_one : (h k : ℕ) → KeptUse w h → KeptUse w k → item w h ≡ item w k → h ≡ k
   pub covered : (e : ℕ) (t : Sense) → e < length (first_edges j w) → (h : ℕ) × KeptUse w h × ((item w h).edge ≡ e) × ((item w h).sense ≡ t)
   -- an edge starts and ends at fans of a kept use and its twin
-  pub fans : (e : EdgeData) → e ∈ first_edges j w → (h : ℕ) × KeptUse w h × (e.start ≡ own_start (item w h).sense (fan_at j w h) (fan_at j w (twin w h))) × (e.end ≡ own_end (item w h).sense (fan_at j w h) (fan_at j w (twin w h)))
+  pub fans : (e : EdgeData) → e ∈ first_edges j w → (h : ℕ) × KeptUse w h
+      × (e.start ≡ own_start (item w h).sense (fan_at j w h) (fan_at j w (twin w h)))
+      × (e.end ≡ own_end (item w h).sense (fan_at j w h) (fan_at j w (twin w h)))

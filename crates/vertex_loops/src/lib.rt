@@ -102,6 +102,7 @@ pub fn vertex_loops(
         × IfOk result (λ k. k ≤ length job.now.loops) }
 {
     let mut count = 0;
+    // by number: a loop's parts are read where they stand in the job
     for l in 0..job.loops() {
         count = keep_loop(job, numbers, kept, count, l)?;
     }

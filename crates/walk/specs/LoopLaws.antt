@@ -17,12 +17,13 @@ use Rattle.lists.specs.Members.{flat_map_append, flat_map_in, foldl_append}
 use Rattle.lists.specs.Membership.{get_or_in}
 use Rattle.lists.specs.Orbits.{length_orbit}
 use Rattle.lists.specs.Tables.{length_snoc}
-use Rattle.lists.specs.Appended.{below_split, some_snoc}
+use Rattle.lists.specs.Appended.{some_snoc}
+use Rattle.lists.specs.Prefixes.{below_split}
 use Rattle.lists.specs.Cuts.{start_at, start_none, start_end, start_snoc, start_next, start_within, cuts}
 use Rattle.rules.specs.Merge.{is_removed}
 use Rattle.rules.specs.Walk.{Circuit, closes, never_closes, successor, circuit, circuit_uses, visited, loop_step, circuits, loops_of}
 use Rattle.theorems.specs.Circuits.{Permuted, Closed}
-use Rattle.theorems.proofs.Circuits.{circuits_parting, closed_kept}
+use Rattle.theorems.proofs.Circuits.{circuits_parting, closed_kept, step_skips, step_starts, uses_snoc}
 use Rattle.fields.specs.declared.Span.{Span}
 use Rattle.fields.specs.Spans.{no_span, span_at}
 use Rattle.walk.specs.Walks.{Closes, marked, unvisited, Round, loop_in, loops_in, Following, started, span_of, Held, Walking}
@@ -60,11 +61,6 @@ blank (suc n) zero = refl
 blank (suc n) (suc x) = blank n x
 
 -- ONE LOOP MORE
-
--- the uses of one loop more
-uses_snoc : (cs : List Circuit) (c : Circuit) → flat_map circuit_uses (cs ++ (c ∷ [])) ≡ flat_map circuit_uses cs ++ circuit_uses c
-unfolding flat_map
-uses_snoc cs c = flat_map_append circuit_uses cs (c ∷ []) ∙ ap (λ l. flat_map circuit_uses cs ++ l) (append-nil (circuit_uses c))
 
 module _ (n : ℕ) (cs : List Circuit) (seen : List Bool) (ways : List ℕ) (stretches : List Span) (count at : ℕ) (H : Held n cs seen ways stretches count at) where
   held_more : (c : Circuit) (seen' : List Bool) (ways' : List ℕ) (end : ℕ) → Round (circuit_uses c) seen ways at seen' ways' end → count < n → end ≤ n → ((x : ℕ) → x ∈ circuit_uses c → x < n)
@@ -128,24 +124,16 @@ module _ (rm : List Bool) (ss : List ℕ) where
   started_step h =
       ap (started rm ss) (add-one h) ∙ ap (foldl (loop_step rm ss) []) (below_snoc h) ∙ foldl_append (loop_step rm ss) [] (below h) (h ∷ [])
 
-  step_skips : (cs : List Circuit) (h : ℕ) → (is_removed rm h || visited h cs) ≡ true → loop_step rm ss cs h ≡ cs
-  unfolding loop_step
-  step_skips cs h e = cond_true (is_removed rm h || visited h cs) cs (cs ++ (circuit ss (length ss) h h ∷ [])) e
-
-  step_starts : (cs : List Circuit) (h : ℕ) → (is_removed rm h || visited h cs) ≡ false → loop_step rm ss cs h ≡ cs ++ (circuit ss (length ss) h h ∷ [])
-  unfolding loop_step
-  step_starts cs h e = cond_false (is_removed rm h || visited h cs) cs (cs ++ (circuit ss (length ss) h h ∷ [])) e
-
   -- loops are only added at the end
   grows : (l : List ℕ) (cs : List Circuit) → (more : List Circuit) × (foldl (loop_step rm ss) cs l ≡ cs ++ more)
   grows [] cs = ([], sym (append-nil cs))
   grows (h ∷ l) cs =
       ⊎_elim
-      (λ e. let r = grows l (loop_step rm ss cs h) in (r.0, r.1 ∙ ap (λ d. d ++ r.0) (step_skips cs h e)))
+      (λ e. let r = grows l (loop_step rm ss cs h) in (r.0, r.1 ∙ ap (λ d. d ++ r.0) (step_skips rm ss cs h e)))
       (λ e.
       let r = grows l (loop_step rm ss cs h) in
       let new : Circuit = circuit ss (length ss) h h in
-      ((new ∷ []) ++ r.0, r.1 ∙ ap (λ d. d ++ r.0) (step_starts cs h e) ∙ append_assoc cs (new ∷ []) r.0))
+      ((new ∷ []) ++ r.0, r.1 ∙ ap (λ d. d ++ r.0) (step_starts rm ss cs h e) ∙ append_assoc cs (new ∷ []) r.0))
       (both_ways (is_removed rm h || visited h cs))
 
   all_start : (h : ℕ) → h ≤ length ss → (more : List Circuit) × (circuits rm ss ≡ started rm ss h ++ more)
@@ -172,14 +160,14 @@ module _ (rm : List Bool) (ss : List ℕ) where
         let r = all_start (h + 1) (omega arith) in
         let new : Circuit = circuit ss (length ss) h h in
         (circuits_parting S).closed new
-        (subst (λ cs. new ∈ cs) (sym (r.1 ∙ ap (λ cs. cs ++ r.0) (started_step h ∙ step_starts (started rm ss h) h e)))
+        (subst (λ cs. new ∈ cs) (sym (r.1 ∙ ap (λ cs. cs ++ r.0) (started_step h ∙ step_starts rm ss (started rm ss h) h e)))
         (Memᴰ.append_left r.0 (Memᴰ.append_right (started rm ss h) (Memᴰ.head refl))))
 
     module _ (h : ℕ) (seen : List Bool) (ways : List ℕ) (stretches : List Span) (count at : ℕ) (lt : h < length ss) (W : Walking rm ss h seen ways stretches count at) where
       -- a removed use starts none, nor does one that stands in a loop
       pub walking_skips : (is_removed rm h || get_or seen h false) ≡ true → Walking rm ss (h + 1) seen ways stretches count at
       walking_skips e =
-          let skips : started rm ss (h + 1) ≡ started rm ss h = started_step h ∙ step_skips (started rm ss h) h (ap (λ b. is_removed rm h || b) (sym (W.1.marks h)) ∙ e) in
+          let skips : started rm ss (h + 1) ≡ started rm ss h = started_step h ∙ step_skips rm ss (started rm ss h) h (ap (λ b. is_removed rm h || b) (sym (W.1.marks h)) ∙ e) in
           rw skips (omega (arith, W.0), W.1)
 
       module _ (kept : is_removed rm h ≡ false) (fresh : get_or seen h false ≡ false) where
@@ -190,7 +178,7 @@ module _ (rm : List Bool) (ss : List ℕ) where
         walking_closes = let C = starts_closed h lt starting in C.runs ∙ ap closes (sym (ap circuit_uses C.runs))
 
         opened : started rm ss (h + 1) ≡ started rm ss h ++ (circuit ss (length ss) h h ∷ [])
-        opened = started_step h ∙ step_starts (started rm ss h) h starting
+        opened = started_step h ∙ step_starts rm ss (started rm ss h) h starting
 
         module _ (seen' : List Bool) (ways' : List ℕ) (end : ℕ) (R : Round (circuit_uses (circuit ss (length ss) h h)) seen ways at seen' ways' end) where
           -- there is room for its uses

@@ -26,6 +26,7 @@ fn pass(uses: &[Use], twins: &[u32], removed: &[bool], from: usize) -> Passed
     ensures { Met (length uses.now) (pass_of uses.now twins.now removed.now (length uses.now) from 0) result.at result.passed }
 {
     let mut h = from;
+    // by number: k is how many uses were passed over, of at most so many
     for k in 0..uses.len() {
         if !is_set(removed, h) {
             return Passed { at: h, passed: k };
@@ -66,6 +67,7 @@ pub fn successors(
     ensures { (succ.new ≡ successors_of uses.now twins.now removed.now) × (passed.new ≡ passed_counts uses.now twins.now removed.now) × (result ≡ sum_of (λ k. k) passed.new) }
 {
     let mut total = 0;
+    // by number: a `for` over a zip of the two tables that a turn fills has no table in its invariant (tried)
     for h in 0..uses.len() {
         let p = passing(uses, twins, removed, h);
         put(succ, h, p.at);
@@ -90,6 +92,7 @@ fn walk_loop(succ: &[u32], start: usize, visited: &mut [bool], ways: &mut [u32],
 {
     let end = at + succ.len();
     let mut h = start;
+    // by number: p is where the next use goes, and one more is what is given
     for p in at..end {
         put(ways, p, h);
         put_flag(visited, h, true);
@@ -152,6 +155,7 @@ fn walk_all(
     ensures { (loops_in ways.new (take result stretches.new) ≡ loops_of (circuits removed.now succ.now)) × (result ≤ length succ.now) × Following ways.new (take result stretches.new) }
 {
     let mut so = Reached { count: 0, at: 0 };
+    // by number: a turn reads and writes the tables at other uses than h
     for h in 0..succ.len() {
         so = walk_from(removed, succ, visited, ways, stretches, h, so);
     }

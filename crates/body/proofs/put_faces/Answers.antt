@@ -1,4 +1,5 @@
-use Rattle.std.proofs.Common.{arith, refl, get_or}
+use Rattle.std.proofs.Common.{arith, ap, refl, get_or}
+use Rattle.rules.specs.Join.{Joining}
 use Rattle.members.specs.Group.{leading_at}
 use Rattle.stages_out.specs.Writing.{rowed_start, rowed_step, rowed_as}
 use Rattle.body.specs.FaceLaws.{face_wrote, face_rows}
@@ -10,19 +11,19 @@ loop-f-init c = rowed_start
 pub put_members-r-requires : goal.put_members-r-requires
 put_members-r-requires c = (
   omega arith,
-  record { few = c.groups-groups.ensures.1; lowest = rw c.groups-groups.ensures.0 c.requires.1.lowest; nexts = c.chain.ensures },
-  leading_at _ _ _ (get_or c.members-members.result.now c.loop-f.f 0) (rw (c.members-members.ensures.0, c.groups-groups.ensures.0) c.requires.1.own) c.loop-f-test.true refl,
+  rw (c.new-members.ensures, c.groups-groups.ensures.0)
+      (leading_at _ _ _ (get_or c.members-lowest.result.now c.loop-f.f 0) (rw c.members-lowest.ensures.0 c.requires.1.own) c.loop-f-test.true refl),
 )
 
 pub loop-f-preserved : goal.loop-f-preserved
 loop-f-preserved c =
     rowed_step c.loop-f.invariant
-    (face_wrote _ _ _ _ _ _ _ c.number_edges-count.ensures _ _ _ _ _ _ _ _ _ _ _ _
+    (face_wrote _ _ _ _ _ _ _ (rw (ap (λ (j : Joining). j.edges) c.j.view_is) at c.number_edges-count.ensures) _ _ _ _ _ _ _ _ _ _ _ _
     c.put_face-q.ensures.0 c.put_members-r.ensures.0 c.put_loops-t.ensures.0 c.put_vertex_loops-p.ensures.0)
     (omega arith)
 
 pub returns : goal.returns
 returns c = (
-  rw (← c.members-members.ensures.0, ← c.groups-groups.ensures.0) (rowed_as c.loop-f.invariant (face_rows _ _ _ _ _ _ _ (omega arith))),
-  omega (arith, c.loop-f.invariant.small, c.members-members.ensures.1),
+  rw (← c.members-lowest.ensures.0, ← c.groups-groups.ensures.0, ← c.new-members.ensures) (rowed_as c.loop-f.invariant (face_rows _ _ _ _ _ _ _ (omega arith))),
+  omega (arith, c.loop-f.invariant.small, c.members-lowest.ensures.1),
 )

@@ -1,5 +1,5 @@
-use Rattle.std.proofs.Common.{arith}
-use Rattle.std.proofs.lemmas.Grind.{common_steps}
+use Rattle.std.proofs.Common.{arith, eq-eqb, ne_eqb}
+use Rattle.fields.specs.Wrote.{wrote_none}
 use Rattle.shells.specs.Table.{no_row}
 use Rattle.stages_out.specs.Writing.{rowed_start, rowed_step, rowed_members}
 use Rattle.body.specs.Writing.{wrote_as}
@@ -13,10 +13,10 @@ loop-s-init c = rowed_start
 pub loop-s-preserved : goal.loop-s-preserved
 loop-s-preserved c =
     elim c.if-not-s.branch [
-      | then-not-s+then-s-home w ↦ rw (w.out-is, w.p-is) (rowed_step c.loop-s.invariant (grind (arith, common_steps)) (omega arith))
+      | then-not-s+then-s-home w ↦ rw (w.out-is, w.p-is) (rowed_step c.loop-s.invariant (rw (w.if-not-s.true, eq-eqb _ _ w.if-s-home.true) w.put_shell-p.ensures.0) (omega arith))
       | else-not-s w ↦ rw (w.out-is, w.p-is) (rowed_step c.loop-s.invariant (elim w.else-not-s.branch [
-        | else-not-s-via-then-not-s+else-s-home w' ↦ grind (arith, common_steps)
-        | else-not-s-via-else-not-s w' ↦ grind (arith, common_steps)
+        | else-not-s-via-then-not-s+else-s-home w' ↦ rw (w'.if-not-s.true, ne_eqb _ _ w'.if-s-home.false) (wrote_none c.loop-s.out c.loop-s.p)
+        | else-not-s-via-else-not-s w' ↦ rw w'.if-not-s.false (wrote_none c.loop-s.out c.loop-s.p)
       ]) (omega arith))
     ]
 

@@ -8,4 +8,4 @@ use Rattle.contact.proofs.edges_clear.Given as goal
 abbrev pub invariant-loop-e : goal.invariant-loop-e
 invariant-loop-e l =
     (length l.stamps ≡ 256) × Stale l.stamps l.e × NoneBelow
-    (edge_touches l.linked.uses l.twins l.labels) l.e
+    (edge_touches l.pairs.linked.now.uses l.pairs.twins.now l.pairs.labels.now) l.e

@@ -5,4 +5,4 @@ use Rattle.contact.proofs.pairs_meet.Given as goal
 
 abbrev pub invariant-loop-h : goal.invariant-loop-h
 invariant-loop-h l =
-    (length l.stamps ≡ length l.initial.stamps) × Meeting l.linked.uses l.twins l.labels l.stamps l.e l.h-iterator
+    (length l.stamps ≡ length l.initial.stamps) × Meeting l.pairs.linked.now.uses l.pairs.twins.now l.pairs.labels.now l.stamps l.e l.h-iterator

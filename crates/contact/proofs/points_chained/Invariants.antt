@@ -7,5 +7,5 @@ use Rattle.contact.proofs.points_chained.Given as goal
 abbrev pub invariant-loop-k : goal.invariant-loop-k
 invariant-loop-k l =
     (length l.heads ≡ length l.initial.heads) × (length l.nexts ≡ length l.initial.nexts) ×
-    Bucketed (length l.heads) l.starts l.names l.heads l.nexts l.k × LowestAt l.uses l.starts l.labels
-    l.names l.k l.lowest
+    Bucketed (length l.heads) l.fans.starts.now l.fans.names.now l.heads l.nexts l.k × LowestAt l.fans.uses.now l.fans.starts.now
+    l.fans.labels.now l.fans.names.now l.k l.lowest

@@ -15,15 +15,11 @@ unfolding need
 returns-then-limit_passed c = grind (arith, judged c.requires.0)
 
 pub fields_permitted-requires : goal.fields_permitted-requires
-fields_permitted-requires c = (grind (arith, whole_fields c.args.kind c.args.size), omega (arith, c.requires.0.small, c.requires.0.low))
+fields_permitted-requires c = (grind (arith, whole_fields c.args.header.kind c.args.header.size), omega (arith, c.requires.0.small, c.requires.0.low))
 
-pub is_selected-requires : goal.is_selected-requires
-is_selected-requires c = (
-  c.requires.0,
-  c.requires.1,
-  grind arith,
-  face_room c.args.kind c.args.raw.now.counts (c.args.size / 4) (sym c.limit_passed.ensures ∙ c.if-limit_passed.false),
-)
+pub is_selected-requires-clause-room : goal.is_selected-requires-clause-room
+is_selected-requires-clause-room c =
+    face_room c.args.header.kind c.args.raw.now.counts (c.args.header.size / 4) (sym c.limit_passed.ensures ∙ c.if-limit_passed.false)
 
 pub returns-then-not-fields_permitted : goal.returns-then-not-fields_permitted
 unfolding need

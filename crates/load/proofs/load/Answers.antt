@@ -1,4 +1,4 @@
-use Rattle.std.proofs.Common.{arith, refl, sym, ap, ◌∙◌}
+use Rattle.std.proofs.Common.{arith, sym, ap, ◌∙◌}
 use Rattle.rules.specs.Outcome.{Err}
 use Rattle.rules.proofs.OutcomeLaws.{bind_stop, hands_on}
 use Rattle.load.specs.Follows.{load_long, load_empty, going_start, follows_start, follows_on, follows_refused, follows_done}
@@ -12,7 +12,7 @@ returns-then-is_empty-clause-loads c = ap Err c.at-then-is_empty.ensures ∙ sym
 
 pub loop-at-init : goal.loop-at-init
 loop-at-init c = (
-  going_start c.args.job.now c.args.index.now _ c.nothing-c.result c.requires refl c.nothing-c.ensures c.if-job-gt65536.false,
+  going_start c.args.job.now c.args.index.now _ c.nothing-c.result c.requires c.new-sources.ensures c.nothing-c.ensures c.if-job-gt65536.false,
   follows_start c.args.job.now c.args.index.now c.nothing-c.result c.nothing-c.ensures c.if-job-gt65536.false (grind arith),
 )
 

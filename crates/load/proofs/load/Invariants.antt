@@ -1,7 +1,6 @@
 use Rattle.load.specs.Follows.{Follows}
 use Rattle.load.specs.Going.{Going}
-use lib.ListN.{length}
-use Prim.Native.Nat.{◌-◌}
+use Rattle.std.specs.Prelude.{◌-◌, length}
 use Rattle.load.proofs.load.Given as goal
 
 abbrev pub invariant-loop-at : goal.invariant-loop-at

@@ -16,25 +16,20 @@ returns-in_err-judge-clause-loads c =
 pub keep-requires : goal.keep-requires
 keep-requires c =
     let kind = c.from-kind.ensures ∙ ap kind_of c.half.ensures.0 in
-    let taken = sym c.judge.ensures ∙ bind_on _ c.in_ok-judge.was in (
-      c.requires.0.limited,
-      omega (arith, c.requires.0.small, c.requires.1),
-      faces_some c.requires.0 kind c.word-size.ensures.0 taken,
-      answers_room c.requires.0 kind c.word-size.ensures.0 taken,
-    )
-
-pub keep_source-requires : goal.keep_source-requires
-keep_source-requires c =
-    let kind = c.from-kind.ensures ∙ ap kind_of c.half.ensures.0 in
     let taken = sym c.judge.ensures ∙ bind_on _ c.in_ok-judge.was in
-    (faces_room c.requires.0 kind c.word-size.ensures.0 taken, omega (arith, c.requires.0.small, c.requires.1))
+    record {
+      limited = (c.requires.0.limited, omega (arith, c.requires.0.small, c.requires.1));
+      for_face = faces_room c.requires.0 kind c.word-size.ensures.0 taken;
+      for_loop = faces_some c.requires.0 kind c.word-size.ensures.0 taken;
+      for_answer = answers_room c.requires.0 kind c.word-size.ensures.0 taken;
+    }
 
 pub returns : goal.returns
 returns c =
     let kind = c.from-kind.ensures ∙ ap kind_of c.half.ensures.0 in
     let taken = sym c.judge.ensures ∙ bind_on _ c.in_ok-judge.was in
     let whole = sym c.is_whole.ensures ∙ c.if-not-is_whole.false in
-    rw (c.keep.ensures, c.keep_source.ensures, c.count_record-after.ensures) (record {
+    rw (c.keep.ensures.places, c.keep.ensures.numbers, c.count_record-after.ensures) (record {
       loads = step_taken c.requires.0 kind c.word-size.ensures.0 taken whole;
       goes_on = step_on c.requires.0 kind c.word-size.ensures.0 taken whole;
     })

@@ -1,8 +1,15 @@
-use Rattle.maximal_edges.specs.SweepLaws.{passed_one, idle_corner, tried_still, swept_none, swept_changed, swept_refused}
+use Rattle.maximal_edges.specs.SweepLaws.{passed_one, idle_corner, two_corner, tried_still, swept_none, swept_changed, swept_refused}
 use Rattle.maximal_edges.specs.ScanLaws.{scan_both, scan_on}
+use Rattle.std.proofs.Common.{inl}
 use mathlib.Core.Bool.{not}
 use mathlib.Core.Path.{refl, sym, ap, ◌∙◌}
 use Rattle.maximal_edges.proofs.sweep.Goals as goal
+
+pub edges-init : goal.edges-init
+edges-init c = record {
+  ends = two_corner c.requires.tabled c.requires.inside c.corners-test.true c.get-v.ensures.0 c.corner_at-corner.ensures c.if-corner-eq2.true;
+  at = inl (refl, refl);
+}
 
 pub edges-preserved : goal.edges-preserved
 edges-preserved c = scan_on c.edges.invariant refl c.ends_of-seen.ensures.0 c.if-seen-ne2.true

@@ -1,5 +1,5 @@
-use Rattle.merge_faces.specs.Numbering.{MembersBelow, NumbersBelow}
+use Rattle.merge_faces.specs.Numbering.{Numbered}
 use Rattle.merge_faces.proofs.number.Given as goal
 
 abbrev pub invariant-loop-f : goal.invariant-loop-f
-invariant-loop-f l = MembersBelow l.groups l.members l.count l.f × NumbersBelow l.groups l.numbers l.f
+invariant-loop-f l = Numbered l.groups l.members l.numbers l.count l.f

@@ -1,13 +1,12 @@
 use Rattle.std.proofs.Common.{◌∙◌, rules, tests}
 use Rattle.std.proofs.lemmas.Iterator.Consumers.{YieldsList-from_first}
-use Rattle.std.proofs.lemmas.Iterator.Search.{all_from_yields_List}
 use Rattle.lists.specs.Lists.{has}
 use Rattle.lists.specs.ListEnds.{all_reverse}
-use Rattle.pair.specs.All.{all_is}
+use Rattle.lists.specs.Yielded.{all_yielded}
 use Rattle.pair.proofs.has_all.Goals as goal
 
 pub returns : goal.returns
 returns c =
     let order = c.args.order.now in
-    all_from_yields_List (λ h. has h order) _ _ _ c.all.ensures.ran (YieldsList-from_first (λ h. h) (λ hs. hs) _ c.of.ensures.0) (λ x b q k. search (rules, tests))
-    ∙ all_is _ _ ∙ all_reverse _ _
+    all_yielded (λ h. has h order) _ _ _ c.all.ensures.ran (YieldsList-from_first (λ h. h) (λ hs. hs) _ c.of.ensures.0) (λ x b q k. search (rules, tests))
+    ∙ all_reverse _ _

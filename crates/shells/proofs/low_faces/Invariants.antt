@@ -1,5 +1,9 @@
+use Rattle.std.proofs.Common.{◌≡◌, length}
+use Rattle.shells.specs.Backwards.{LeftOf}
 use Rattle.shells.specs.ShellLaws.{LowFrom}
 use Rattle.shells.proofs.low_faces.Given as goal
 
 abbrev pub invariant-loop-f : goal.invariant-loop-f
-invariant-loop-f l = LowFrom l.boundaries l.members l.lows l.f
+invariant-loop-f l =
+    let it = l.f-iterator.iter in
+    (it.count ≡ 0) × LeftOf l.faces.members it.iter.rest.now × LowFrom l.boundaries l.faces.members l.lows (length it.iter.rest.now)

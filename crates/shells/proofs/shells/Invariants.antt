@@ -5,4 +5,5 @@ use Rattle.shells.proofs.shells.Given as goal
 
 abbrev pub invariant-loop-b : goal.invariant-loop-b
 invariant-loop-b l =
-    LowFaces l.boundaries l.members l.lows × (length l.table ≡ 256) × (l.count ≤ l.b) × ShellsAt l.job.answers l.job.proven l.boundaries l.members (take l.count l.table) l.b
+    LowFaces l.faces.boundaries l.faces.members l.lows × (length l.table ≡ 256) × (l.count ≤ l.b) ×
+    ShellsAt l.job.answers l.job.proven l.faces.boundaries l.faces.members (take l.count l.table) l.b

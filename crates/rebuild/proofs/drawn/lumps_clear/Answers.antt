@@ -5,16 +5,14 @@ use Rattle.progress.specs.Parts.{part_long}
 use Rattle.rebuild.specs.Homes.{labels_low}
 use Rattle.rebuild.specs.Tables.{boundaries_of, members_of}
 use Rattle.rebuild.proofs.FansLaws.{fans_seen, drawn_seen, names_few}
-use Rattle.rebuild.proofs.ShellLaws.{labels_told}
 use Rattle.rules.specs.Sew.{lumps_clear}
 use Rattle.rebuild.proofs.drawn.lumps_clear.Goals as goal
 
 pub lump_labels-requires : goal.lump_labels-requires
 lump_labels-requires c =
     let F = drawn_seen c.w.invariant c.w.view_is c.f.invariant c.f.view_is c.d.view_is in (
-      subst Lowest (sym (c.boundaries-boundaries.ensures.0 ∙ F.walks.boundaries)) F.walks.lowest_boundaries,
-      part_long 0 _ 256 c.boundaries-boundaries.ensures.1,
-      c.boundaries-boundaries.ensures.1,
+      subst Lowest (sym F.walks.boundaries) F.walks.lowest_boundaries,
+      part_long 0 _ 256 c.boundaries-boundaries.ensures.1 ∙ ap length c.boundaries-boundaries.ensures.0,
     )
 
 pub points_clear-requires : goal.points_clear-requires
@@ -25,7 +23,7 @@ clear_edges-requires c =
     let F = drawn_seen c.w.invariant c.w.view_is c.f.invariant c.f.view_is c.d.view_is in (
       c.edges.ensures.1,
       omega (arith, ap length F.walks.uses, F.walks.ground.few),
-      subst LowLabels (sym (labels_told c.args.d.now F c.boundaries-boundaries.ensures.0 c.requires.0 c.lump_labels.ensures))
+      subst LowLabels (sym ((rw F.walks.boundaries at c.lump_labels.ensures) _ c.requires.0))
           (labels_low (boundaries_of c.args.d.now) (members_of c.args.d.now) c.args.table.now c.requires.1),
     )
 
@@ -33,12 +31,12 @@ pub returns-in_err-points_clear : goal.returns-in_err-points_clear
 unfolding lumps_clear
 returns-in_err-points_clear c =
     let F = drawn_seen c.w.invariant c.w.view_is c.f.invariant c.f.view_is c.d.view_is in
-    let labels = labels_told c.args.d.now F c.boundaries-boundaries.ensures.0 c.requires.0 c.lump_labels.ensures in
+    let labels = (rw F.walks.boundaries at c.lump_labels.ensures) _ c.requires.0 in
     grind arith
 
 pub returns : goal.returns
 unfolding lumps_clear
 returns c =
     let F = drawn_seen c.w.invariant c.w.view_is c.f.invariant c.f.view_is c.d.view_is in
-    let labels = labels_told c.args.d.now F c.boundaries-boundaries.ensures.0 c.requires.0 c.lump_labels.ensures in
+    let labels = (rw F.walks.boundaries at c.lump_labels.ensures) _ c.requires.0 in
     grind arith

@@ -3,7 +3,7 @@ use Rattle.std.specs.Prelude.{OnOk}
 use Rattle.shells.specs.Table.{Shelled}
 use Rattle.rebuild.specs.Tables.{boundaries_of, members_of}
 use Rattle.rebuild.proofs.FansLaws.{drawn_seen}
-use Rattle.rebuild.proofs.ShellLaws.{nested_homes}
+use Rattle.rebuild.specs.Homes.{homes_low}
 use Rattle.rebuild.proofs.SolidLaws.{shells_few}
 use Rattle.progress.specs.Chain.{after_shells}
 use Rattle.rebuild.proofs.drawn.on_shelled.Goals as goal
@@ -19,7 +19,7 @@ on_nested-requires g c =
     let told = c.nest.ensures (boundaries_of c.args.d.now) (members_of c.args.d.now) c.requires.1 in (
       c.requires.0,
       subst (λ r. OnOk r (Shelled (boundaries_of c.args.d.now) (members_of c.args.d.now) c.nest.new.table)) c.in_ok-nest.was told.1,
-      nested_homes _ _ _ _ _ F.walks.few_members told.0 c.in_ok-nest.was,
+      homes_low _ _ _ _ _ F.walks.few_members (rw c.in_ok-nest.was at told.0),
     )
 
 pub returns-then-is_asked : goal.returns-then-is_asked

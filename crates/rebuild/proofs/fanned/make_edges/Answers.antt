@@ -2,7 +2,7 @@ use Rattle.std.proofs.Common.{arith, sym, ap, ◌∙◌, ◌≤◌, length, leng
 use Rattle.progress.specs.Parts.{cut_back, back_long}
 use Rattle.progress.specs.KnownLaws.{paired_twins, settled_permuted}
 use Rattle.rebuild.proofs.FansLaws.{fans_seen}
-use Rattle.rebuild.proofs.LinedLaws.{settled_walks, faces_told, made_told, lined}
+use Rattle.rebuild.proofs.LinedLaws.{settled_walks, lined}
 use Rattle.rebuild.proofs.fanned.make_edges.Goals as goal
 
 pub loops-loops-requires : goal.loops-loops-requires
@@ -54,8 +54,8 @@ returns c =
           c.loops-loops.new.ways c.loops-loops.new.stretches _ c.edges-edges.new.rows c.edges-edges.new.owns c.items.new.ways c.loops-loops.result c.edges-edges.result
           c.loops-loops.ensures.0 c.loops-loops.ensures.1 c.loops-loops.ensures.2
           (cut_back _ c.args.faces.now c.loop_faces.new.faces few c.loop_faces.auto.faces
-          ∙ faces_told c.w.inside.uses.now c.loops-loops.new.ways _ c.loop_faces.ensures c.numbers.ensures.0 (sym (length-take-le _ _ few)))
-          (made_told c.edges-edges.ensures c.numbers-2.ensures.0) c.items.ensures
+          ∙ (rw (c.numbers.ensures.0, length-take-le _ _ few) at c.loop_faces.ensures))
+          (rw c.numbers-2.ensures.0 at c.edges-edges.ensures) c.items.ensures
           c.edges-edges.auto.rows c.loops-loops.auto.ways c.loops-loops.auto.stretches
           (back_long _ c.args.faces.now c.loop_faces.new.faces few c.loop_faces.auto.faces),
       omega (arith, c.loops-loops.ensures.1, F.size),
