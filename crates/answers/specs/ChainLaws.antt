@@ -1,9 +1,11 @@
 -- Walks along the chains of answers.
-use Rattle.std.specs.Prelude.{ℕ, ◌+◌, ◌*◌, ◌-◌, ◌<◌, ◌≤◌, ◌≡◌, refl, List, [], ◌∷◌, Bool, true, false, cond, get_or, take, drop, Option, Some, None}
-use Rattle.std.proofs.Common.{mod-lt, sym, subst, ◌∙◌, length-take, get_or-take, get_or-drop}
+use Rattle.std.specs.Prelude.{ℕ, ◌+◌, ◌*◌, ◌-◌, ◌<◌, ◌≤◌, ◌≡◌, refl, List, [], ◌∷◌, Bool, true, false, cond, get_or, take, drop, Some, None}
+use Rattle.std.proofs.Common.{mod-lt, sym, ◌∙◌, length-take, get_or-take, get_or-drop}
 use native.Mathlib.Omega.{arith}
 use Rattle.std.proofs.Math.Path.{ap}
+use mathlib.Core.List.{map}
 use mathlib.Core.List.Memᴰ
+use Rattle.std.specs.List.{find}
 use Rattle.std.proofs.Math.ListN.{get_or-eq_default}
 use Rattle.lists.specs.Lists.{◌∈◌}
 use Rattle.lists.specs.Tests.{cond_true, cond_false}
@@ -15,7 +17,7 @@ use Rattle.answers.specs.declared.Question.{Question}
 use Rattle.answers.specs.Question.{Padded, one_question, question_in, bucket_of, RightAnswer}
 use Rattle.answers.specs.QuestionLaws.{one_question_lem}
 use Rattle.answers.specs.RecordLaws.{question_padded}
-use Rattle.answers.specs.Index.{next_answer, place_on, answers_on, place_for, Place32, Chained, Indexed}
+use Rattle.answers.specs.Index.{next_answer, place_on, answers_on, place_for, Chained, Indexed}
 
 pub bucket_below : (q : Question) → bucket_of q < 1024
 unfolding bucket_of
@@ -54,37 +56,27 @@ module _ (bytes ix : List ℕ) (q : Question) where
       place_first entry f h ∙ cond_false (one_question (question_in bytes (answer_byte ix (entry - 1))) q) _ _ e
       ∙ ap (λ n. place_on bytes ix q (answers_on ix n)) (next_at ix (entry - 1) (omega arith))
 
--- the place found is one that the index can hold
-pub place_fits : (f : Option ℕ) (p : ℕ) → Place32 f → f ≡ Some p → p < 4294967296
-place_fits f p h e = subst Place32 e h
+-- the place of an answer, in the part of the index that has the places
+abbrev pub place_in : List ℕ → ℕ → ℕ
+place_in ix k = get_or (take 2048 (drop 3072 ix)) k 0
 
--- what is to be found is still to be found from an entry on
-abbrev pub Walked : List ℕ → List ℕ → Question → ℕ → Type 0
-Walked bytes ix q entry = (entry ≤ 2048) × (place_for bytes ix q ≡ place_on bytes ix q (answers_on ix entry))
+-- what the list of the answers' places finds
+found_on : (bytes ix : List ℕ) (q : Question) (ks : List ℕ) → ((k : ℕ) → k ∈ ks → k < 2048)
+    → find (λ p. one_question (question_in bytes p) q) (map (place_in ix) ks) ≡ place_on bytes ix q ks
+unfolding place_on
+found_on bytes ix q [] low = refl
+found_on bytes ix q (k ∷ ks) low =
+    let e : place_in ix k ≡ answer_byte ix k = get_or-take 2048 (drop 3072 ix) k 0 (low k (Memᴰ.head refl)) ∙ get_or-drop 3072 ix k 0 in
+    let r = found_on bytes ix q ks (λ j m. low j (Memᴰ.tail m)) in
+    λ t. cond (one_question (question_in bytes (e t)) q) (Some (e t)) (r t)
 
-module _ (bytes ix : List ℕ) (q : Question) (h : Chained ix) where
-  pub walk_start : (b entry : ℕ) → b ≡ bucket_of q → entry ≡ get_or ix b 0 → Walked bytes ix q entry
-  walk_start b entry eb e =
-      let head : entry ≡ get_or ix (bucket_of q) 0 = e ∙ ap (λ x. get_or ix x 0) eb in
-      (omega (arith, h.heads (bucket_of q) (bucket_below q)), ap (λ x. place_on bytes ix q (answers_on ix x)) (sym head))
-
-  pub walk_end : (entry : ℕ) → Walked bytes ix q entry → entry ≤ 0 → None ≡ place_for bytes ix q
-  walk_end entry w l = sym (w.1 ∙ place_end bytes ix q entry l)
-
-  -- one answer looked at, at byte p, whose question is r
-  module _ (entry p : ℕ) (r : Question) (t : Bool) (w : Walked bytes ix q entry) (more : 0 < entry) (ep : p ≡ get_or ix (3072 + (entry - 1)) 0) (er : r ≡ question_in bytes p)
-      (et : t ≡ one_question r q)
-    where
-      test : one_question (question_in bytes (answer_byte ix (entry - 1))) q ≡ t
-      test = sym (et ∙ ap (λ x. one_question x q) (er ∙ ap (question_in bytes) ep))
-
-      pub walk_found : t ≡ true → Some p ≡ place_for bytes ix q
-      walk_found e = sym (w.1 ∙ place_hit bytes ix q entry h.falling more (test ∙ e) ∙ ap Some (sym ep))
-
-      pub walk_on : (after : ℕ) → t ≡ false → after ≡ get_or ix (1024 + (entry - 1)) 0 → Walked bytes ix q after × (after < entry)
-      walk_on after e ea =
-          let falls : after < entry = omega (arith, next_at ix (entry - 1) (omega arith), h.falling (entry - 1)) in
-          ((omega arith, w.1 ∙ place_miss bytes ix q entry h.falling more w.0 (test ∙ e) ∙ ap (λ x. place_on bytes ix q (answers_on ix x)) (sym ea)), falls)
+-- the same along the chain of a question
+pub found_for : (bytes ix : List ℕ) (q : Question) → Chained ix
+    → find (λ p. one_question (question_in bytes p) q) (map (place_in ix) (answers_on ix (get_or ix (bucket_of q) 0))) ≡ place_for bytes ix q
+found_for bytes ix q h =
+    let entry = get_or ix (bucket_of q) 0 in
+    found_on bytes ix q (answers_on ix entry)
+    (λ k m. omega (arith, chain_below (next_answer ix) h.falling entry k m, h.heads (bucket_of q) (bucket_below q)))
 
 -- WHAT IS FOUND
 

@@ -34,11 +34,6 @@ entered bytes ix k at =
     let b = bucket_of (question_in bytes at) in
     set (set (set ix (3072 + k) at) (1024 + k) (get_or ix b 0)) b (k + 1)
 
--- the place is one that the index can hold
-abbrev pub Place32 : Option ℕ → Type 0
-Place32 (Some p) = p < 4294967296
-Place32 None = Unit {0}
-
 -- what the record at a place has after its question
 abbrev pub value_at : List ℕ → Option ℕ → Option (List ℕ)
 value_at bytes (Some p) = Some (drop (question_length (kind_of (le16 bytes (p + 4)))) (fields_at bytes p))

@@ -20,7 +20,7 @@ use Rattle.answers.specs.QuestionLaws.{padded_none, padded_one, padded_two, padd
 -- KINDS
 
 -- so many bytes as n fields have are n fields
-long : (n size : ℕ) → eqb size (4 * n) ≡ true → size / 4 ≡ n
+pub long : (n size : ℕ) → eqb size (4 * n) ≡ true → size / 4 ≡ n
 long n size e = omega (arith, eqb-true size (4 * n) e)
 
 some_fields : (size : ℕ) → (ltb 0 size && eqb (size % 4) 0) ≡ true → 1 ≤ size / 4

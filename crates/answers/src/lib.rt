@@ -9,11 +9,11 @@ ghost use Rattle.rules.specs.Kinds.{kind_of};
 ghost use Rattle.rules.specs.Load.{answered_before};
 ghost use Rattle.job.specs.Lists.{fields_at};
 ghost use Rattle.job.specs.Raw.{answers};
-ghost use Rattle.answers.specs.Question.{Padded, Shaped, about_one, about_two, about_either, question_in, bucket_of, RightAnswer};
-ghost use Rattle.answers.specs.Index.{place_for, Place32, entered, Chained, Indexed};
+ghost use Rattle.answers.specs.Question.{Padded, Shaped, about_one, about_two, about_four, about_either, question_in, bucket_of, RightAnswer};
+ghost use Rattle.answers.specs.Index.{place_for, entered, Chained, Indexed};
 
-use fields::{get, half, put, word};
-use job::{ANSWERS, BUCKETS, CHAIN, RawJob};
+use fields::{Chain, entry, get, half, put, word};
+use job::{ANSWERS, BUCKETS, CHAIN, FACES, INDEX, RawJob};
 use rules::Kind;
 
 // The kind of an answer, and the one, two or four numbers that it is asked about; the rest are 0. All questions have one
@@ -55,6 +55,18 @@ pub fn about_two(kind: Kind, a: usize, b: usize) -> Question
     }
 }
 
+// About four, as where a curve between two faces meets a point.
+pub fn about_four(kind: Kind, a: usize, b: usize, c: usize, d: usize) -> Question
+    ensures { result ≡ about_four kind a b c d }
+{
+    Question {
+        words: 4,
+        c,
+        d,
+        ..about_two(kind, a, b)
+    }
+}
+
 // Points and curves have no order of their two.
 pub fn about_either(kind: Kind, a: usize, b: usize) -> Question
     ensures { result ≡ about_either kind a b }
@@ -80,18 +92,7 @@ pub fn question_at(job: &[u8], at: usize) -> Question
         Kind::Radial | Kind::Surface | Kind::Orientation => about_one(kind, a),
         Kind::Points | Kind::Curves => about_either(kind, a, b),
         Kind::Inside => about_two(kind, a, b),
-        Kind::Singular => {
-            let c = word(job, p + 8);
-            let d = word(job, p + 12);
-            Question {
-                kind,
-                words: 4,
-                a,
-                b,
-                c,
-                d,
-            }
-        }
+        Kind::Singular => about_four(kind, a, b, word(job, p + 8), word(job, p + 12)),
         _ => Question {
             kind,
             words: 0,
@@ -113,22 +114,15 @@ fn bucket(q: Question) -> usize
 }
 
 // The first byte of the record that answers a question.
-#[tactic(auto, using(crate::specs::ChainLaws::walk_start, crate::specs::ChainLaws::walk_end))]
-pub fn find(raw: &RawJob<'_>, q: Question) -> Option<usize>
+pub fn find(raw: &RawJob<'_>, q: Question) -> Option<u32>
     requires { Shaped q × Chained raw.now.index.now }
-    ensures { (result ≡ place_for raw.now.bytes.now raw.now.index.now q) × Place32 result }
+    ensures { result ≡ place_for raw.now.bytes.now raw.now.index.now q }
 {
-    // a `while`: `Chain` needs the entries as a slice of the index, and nothing asked here says that it is long enough (tried)
-    let mut i = get(raw.index, bucket(q));
-    while 0 < i {
-        let k = i - 1;
-        let p = get(raw.index, ANSWERS + k);
-        if question_at(raw.bytes, p) == q {
-            return Some(p);
-        }
-        i = get(raw.index, CHAIN + k);
-    }
-    None
+    let index = raw.index;
+    let places = &index[ANSWERS..FACES];
+    Chain::new(&index[CHAIN..ANSWERS], get(index, bucket(q)))
+        .map(|k| entry(places, k, 0))
+        .find(|p| question_at(raw.bytes, *p as usize) == q)
 }
 
 // The question of the record at a byte is answered before.
@@ -143,7 +137,7 @@ pub fn answered_before(raw: &RawJob<'_>, at: usize) -> bool
 // The answer with number k, whose record stands at a byte, is entered in front of its chain. The parts are lent, as
 // `load::keep` has them: there is no struct of a job that is being read.
 #[tactic(auto, unfolding(crate::specs::Index::entered))]
-pub fn enter(job: &[u8], index: &mut [u32], k: usize, at: usize)
+pub fn enter(job: &[u8], index: &mut [u32; INDEX], k: usize, at: usize)
     requires { (k < 2048) × (at < 4294967296) }
     ensures { index.new ≡ entered job.now index.old k at }
 {

@@ -1,5 +1,5 @@
 -- Laws of the records of loops, members and merged faces.
-use Rattle.std.specs.Prelude.{◌≡◌, refl, ℕ, zero, suc, ◌+◌, ◌*◌, ◌/◌, ◌%◌, ◌<◌, ◌≤◌, cond, length, get_or, eqb}
+use Rattle.std.specs.Prelude.{◌≡◌, refl, ℕ, zero, suc, ◌+◌, ◌*◌, ◌<◌, ◌≤◌, length, get_or}
 use Rattle.std.proofs.Common.{arith, sym, ap, ◌∙◌, append-nil, append_assoc, length-append}
 use mathlib.Core.List.{List, [], ◌∷◌, map, flat_map, ◌++◌}
 use Rattle.std.proofs.lemmas.List.{length-map, map_push}
@@ -9,7 +9,6 @@ use Rattle.lists.specs.Tables.{table_is}
 use Rattle.lists.specs.Rows.{flat_map_map, flat_map_even}
 use Rattle.rules.specs.declared.Face.{Face}
 use Rattle.rules.specs.declared.KeptVertexLoop.{KeptVertexLoop}
-use Rattle.rules.specs.Sense.{sense_of, sense_number}
 use Rattle.rules.specs.Fields.{field_bytes}
 use Rattle.rules.specs.Frame.{framed, framed_all}
 use Rattle.rules.specs.Job.{face_at}
@@ -22,35 +21,16 @@ use Rattle.edges.specs.Table.{item_in}
 use Rattle.body.specs.Solids.{head_record}
 use Rattle.body.specs.Numbers.{Numbering, number_of, renumbered_by, items_by, loops_by, loops_are}
 use Rattle.body.specs.Writing.{records_first, records_more}
+use Rattle.rules.proofs.SizeLaws.{length_body_faces}
 
 -- LOOPS
 
-module _ (t : List ℕ) (count : ℕ) where
-  -- an item, as a number, by the number of its edge and its sense
-  pub item_wrote : (before after : List ℕ) (at q x e : ℕ) → e ≡ number_of t count (x / 2) → Wrote before at (field_bytes (e ∷ x % 2 ∷ [])) after q
-      → Wrote before at (field_bytes (item_fields (renumbered_by t count (item_in x)))) after q
-  item_wrote before after at q x e ee w = wrote_same (e ∷ x % 2 ∷ []) (item_fields (renumbered_by t count (item_in x))) before after at q (λ i. ee i ∷ sym (back (x % 2) (omega arith)) i ∷ []) w
-    where
-      back : (n : ℕ) → n < 2 → sense_number (sense_of n) ≡ n
-      back zero h = refl
-      back (suc zero) h = refl
-      back (suc (suc n)) h = absurd (omega arith)
+module _ (number : ℕ → ℕ) where
+  pub items_are : (part : List ℕ) → flat_map (λ x. item_fields (renumbered_by number (item_in x))) part ≡ flat_map item_fields (items_by number part)
+  items_are part = sym (flat_map_map item_fields (renumbered_by number) (map item_in part) ∙ flat_map_map (λ x. item_fields (renumbered_by number x)) item_in part)
 
-  pub items_are : (part : List ℕ) → flat_map (λ x. item_fields (renumbered_by t count (item_in x))) part ≡ flat_map item_fields (items_by t count part)
-  items_are part = sym (flat_map_map item_fields (renumbered_by t count) (map item_in part) ∙ flat_map_map (λ x. item_fields (renumbered_by t count x)) item_in part)
-
-  pub length_items : (part : List ℕ) → length (flat_map item_fields (items_by t count part)) ≡ 2 * length part
-  length_items part = ap length (sym (items_are part)) ∙ flat_map_even (λ x. item_fields (renumbered_by t count (item_in x))) 2 part (λ x. refl)
-
-  -- a loop, where it is of merged face f
-  abbrev pub loop_row : ℕ → FaceLoop → List ℕ
-  loop_row f l = cond (eqb l.face f) (framed (loop_record (map (renumbered_by t count) l.items))) []
-
--- VERTEX LOOPS
-
--- a vertex loop, where it is of merged face f
-abbrev pub point_row : ℕ → KeptVertexLoop → List ℕ
-point_row f k = cond (eqb k.face f) (framed (vertex_loop_record k.point)) []
+  pub length_items : (part : List ℕ) → length (flat_map item_fields (items_by number part)) ≡ 2 * length part
+  length_items part = ap length (sym (items_are part)) ∙ flat_map_even (λ x. item_fields (renumbered_by number (item_in x))) 2 part (λ x. refl)
 
 -- MEMBERS
 
@@ -92,7 +72,7 @@ module _ (fs : List Face) (groups actives : List ℕ) (ls : List FaceLoop) (ks :
   -- surface and stored sense, then the members, the loops by the table of numbers, and the vertex loops
   pub face_wrote : (t : List ℕ) (count : ℕ) → Numbering actives t count → (before a b d after : List ℕ) (at p q r s f m : ℕ)
       → Wrote before at (framed (head_record (face_at fs m))) a p → Wrote a p (framed (members_record (map (member_at fs) (members_of groups m)))) b q
-      → Wrote b q (framed_all (map loop_record (loops_by t count ls f))) d r → Wrote d r (framed_all (map vertex_loop_record (points_in ks f))) after s
+      → Wrote b q (framed_all (map loop_record (loops_by (number_of t count) ls f))) d r → Wrote d r (framed_all (map vertex_loop_record (points_in ks f))) after s
       → Wrote before at (framed_all (face_records (body_face fs groups actives ls ks f m))) after s
   unfolding face_records body_face
   face_wrote t count n before a b d after at p q r s f m u v w x =
@@ -109,18 +89,13 @@ module _ (fs : List Face) (groups actives : List ℕ) (ls : List FaceLoop) (ks :
       let e : suc f + i ≡ f + suc i = omega arith in
       face_by_number (suc f) more i d (omega arith) ∙ ap (λ k. body_face fs groups actives ls ks k (get_or more i 0)) e
 
-  length_faces : (f : ℕ) (members : List ℕ) → length (body_faces fs groups actives ls ks f members) ≡ length members
-  unfolding body_faces
-  length_faces f [] = refl
-  length_faces f (m ∷ more) = ap suc (length_faces (suc f) more)
-
   pub face_rows : (members : List ℕ) (n : ℕ) → n ≡ length members
       → flat_map (λ f. framed_all (face_records (body_face fs groups actives ls ks f (get_or members f 0)))) (below n)
       ≡ framed_all (flat_map face_records (body_faces fs groups actives ls ks 0 members))
   face_rows members n e =
       let face : ℕ → BodyFace = λ f. body_face fs groups actives ls ks f (get_or members f 0) in
       let by_number : body_faces fs groups actives ls ks 0 members ≡ map face (below (length members)) =
-      table_is face (body_faces fs groups actives ls ks 0 members) (length members) (face 0) (length_faces 0 members)
+      table_is face (body_faces fs groups actives ls ks 0 members) (length members) (face 0) (length_body_faces fs groups actives ls ks 0 members)
       (λ i h. let z : 0 + i ≡ i = omega arith in face_by_number 0 members i (face 0) h ∙ ap (λ k. body_face fs groups actives ls ks k (get_or members i 0)) z) in
       ap (λ k. flat_map (λ f. framed_all (face_records (face f))) (below k)) e
       ∙ sym (ap (λ bs. framed_all (flat_map face_records bs)) by_number ∙ flat_map_flat_map framed face_records (map face (below (length members)))

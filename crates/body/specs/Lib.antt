@@ -1,6 +1,7 @@
 pub mod Numbers
 pub mod Vertices
 pub mod Writing
+pub mod Sizes
 pub mod Solids
 pub mod FaceLaws
 pub mod ShellLaws

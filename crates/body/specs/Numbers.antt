@@ -11,11 +11,11 @@ use Rattle.rules.specs.declared.Edge.{Edge}
 use Rattle.rules.specs.declared.EdgeData.{EdgeData}
 use Rattle.rules.specs.declared.Item.{Item}
 use Rattle.rules.specs.declared.Sense.TheVariants.{Same}
-use Rattle.rules.specs.Frame.{framed}
 use Rattle.rules.specs.Job.{unset}
 use Rattle.rules.specs.Edges.{FaceLoop}
-use Rattle.rules.specs.Body.{vertex_of, with_vertices, edge_record, loops_in}
+use Rattle.rules.specs.Body.{vertex_of, with_vertices, loops_in}
 use Rattle.edges.specs.Table.{item_in}
+use Rattle.body.specs.declared.numbers.Numbers.{Numbers}
 
 -- the entry of v: its number plus one, or none
 abbrev pub Entry : List ℕ → ℕ → ℕ → Type 0
@@ -30,31 +30,31 @@ pub record Numbering (l t : List ℕ) (count : ℕ) : Type 0 where
 unfoldable pub number_of : List ℕ → ℕ → ℕ → ℕ
 number_of t count v = cond (eqb (get_or t v 0) 0) count (get_or t v 0 - 1)
 
--- the vertex of a fan, or none
-unfoldable pub vertex_in : List ℕ → ℕ → ℕ → ℕ
-vertex_in t count v = cond (eqb v unset) unset (number_of t count v)
+-- the same by a table and its count together
+abbrev pub number_in : Numbers → ℕ → ℕ
+number_in n = number_of n.table.now n.count
 
--- an edge between vertices, by such a table
-abbrev pub placed : List ℕ → ℕ → EdgeData → Edge
-placed t count x = record { curve = x.curve; sense = x.sense; start = vertex_in t count x.start; end = vertex_in t count x.end }
+-- the vertex of a fan, or none, by the numbers of the fans
+unfoldable pub vertex_in : (ℕ → ℕ) → ℕ → ℕ
+vertex_in number v = cond (eqb v unset) unset (number v)
+
+-- an edge between vertices, by such numbers
+abbrev pub placed : (ℕ → ℕ) → EdgeData → Edge
+placed number x = record { curve = x.curve; sense = x.sense; start = vertex_in number x.start; end = vertex_in number x.end }
 
 -- what a loop over edges reads past the last
 abbrev pub blank : EdgeData
 blank = record { curve = 0; sense = Same; start = 0; end = 0; faces = []; active = false }
 
--- the record of an edge, where it is active
-abbrev pub edge_row : List ℕ → ℕ → EdgeData → List ℕ
-edge_row t count x = cond x.active (framed (edge_record (placed t count x))) []
+-- an item, the items of a loop, and the loops of merged face f, by the numbers of the edges
+abbrev pub renumbered_by : (ℕ → ℕ) → Item → Item
+renumbered_by number x = record { edge = number x.edge; sense = x.sense }
 
--- an item, the items of a loop, and the loops of merged face f, by such a table
-abbrev pub renumbered_by : List ℕ → ℕ → Item → Item
-renumbered_by t count x = record { edge = number_of t count x.edge; sense = x.sense }
+abbrev pub items_by : (ℕ → ℕ) → List ℕ → List Item
+items_by number part = map (renumbered_by number) (map item_in part)
 
-abbrev pub items_by : List ℕ → ℕ → List ℕ → List Item
-items_by t count part = map (renumbered_by t count) (map item_in part)
-
-abbrev pub loops_by : List ℕ → ℕ → List FaceLoop → ℕ → List (List Item)
-loops_by t count ls f = map (λ l. map (renumbered_by t count) l.items) (keep (λ l. eqb l.face f) ls)
+abbrev pub loops_by : (ℕ → ℕ) → List FaceLoop → ℕ → List (List Item)
+loops_by number ls f = map (λ l. map (renumbered_by number) l.items) (keep (λ l. eqb l.face f) ls)
 
 -- INDICES
 
@@ -105,13 +105,13 @@ module _ (l t : List ℕ) (count : ℕ) (n : Numbering l t count) where
       (n.entries v)
 
   -- so the tables give what the lists give
-  pub placed_is : placed t count ≡ with_vertices l
+  pub placed_is : placed (number_of t count) ≡ with_vertices l
   unfolding vertex_in
   placed_is =
-      let vertex : (v : ℕ) → vertex_in t count v ≡ vertex_of l v = λ v. ap (cond (eqb v unset) unset) (number_is v) in
+      let vertex : (v : ℕ) → vertex_in (number_of t count) v ≡ vertex_of l v = λ v. ap (cond (eqb v unset) unset) (number_is v) in
       λ i x. record { curve = x.curve; sense = x.sense; start = vertex x.start i; end = vertex x.end i }
 
-  pub loops_are : (ls : List FaceLoop) (f : ℕ) → loops_by t count ls f ≡ loops_in l ls f
+  pub loops_are : (ls : List FaceLoop) (f : ℕ) → loops_by (number_of t count) ls f ≡ loops_in l ls f
   loops_are ls f i = map (λ x. map (λ y. record { edge = number_is y.edge i; sense = y.sense }) x.items) (keep (λ x. eqb x.face f) ls)
 
   -- one more

@@ -1,20 +1,17 @@
--- What a body is written from, as the rules have it, and its sizes.
-use Rattle.std.specs.Prelude.{ℕ, ◌≤◌, ◌≡◌, true, List, [], ◌∷◌, length, Option, Some, None}
+-- What a body is written from, as the rules have it.
+use Rattle.std.specs.Prelude.{ℕ, true, List, [], ◌∷◌, Option, Some, None}
 use Rattle.rules.specs.declared.Face.{Face}
 use Rattle.rules.specs.Sense.{sense_number}
 use Rattle.rules.specs.Frame.{Record}
 use Rattle.rules.specs.Read.{stored_sense}
-use Rattle.rules.specs.Groups.{lowest_members, Lowest}
 use Rattle.rules.specs.Join.{active_edges}
-use Rattle.rules.specs.Shells.{Nested, lumps}
+use Rattle.rules.specs.Shells.{lumps}
 use Rattle.rules.specs.Body.{Totals as RulesTotals, BodyFace, Body, rec, body_faces, solid_body, empty_body}
-use Rattle.merge_faces.specs.FaceTables.{FaceTables}
-use Rattle.shells.specs.declared.ShellRow.{ShellRow}
-use Rattle.shells.specs.Table.{nested_in}
+use Rattle.shells.specs.Table.{nested_of}
 use Rattle.body.specs.declared.BodyRecord.{BodyRecord}
 use Rattle.body.specs.declared.BodyRecord.TheVariants.{Body as BodyKind, Vertex, Edge, Face as FaceKind, Loop, VertexLoop, Lump, Shell, Members}
-use Rattle.body.specs.declared.Totals.{Totals}
-use Rattle.body.specs.declared.Solid.{Solid}
+use Rattle.body.specs.declared.solid.Totals.{Totals}
+use Rattle.body.specs.declared.solid.Solid.{Solid}
 
 -- the number of a kind of record
 abbrev pub record_number : BodyRecord → ℕ
@@ -41,18 +38,8 @@ head_record face = rec 24 (face.surface ∷ sense_number (stored_sense face) ∷
 abbrev pub merged_faces : Solid → List BodyFace
 merged_faces s = body_faces s.job.now.faces s.faces.now.groups (active_edges s.joining.now.edges) s.joining.now.loops s.kept.now 0 s.faces.now.members
 
--- the shells with the outer shells of their lumps
-abbrev pub nested_by : FaceTables → List ShellRow → List Nested
-nested_by m rows = nested_in m.boundaries m.members rows
-
+-- the body
 abbrev pub body_in : Solid → Body
 body_in s =
     solid_body (totals_in (Some s.totals)) s.job.now.faces s.faces.now.groups s.starts.now s.joining.now.edges s.joining.now.loops s.faces.now.members s.kept.now
-    (lumps (nested_by s.faces.now s.shells.now))
-
--- the merged faces are those of the groups, and there are no more vertex loops and shells than a job can have
-pub record Sized (s : Solid) : Type 0 where
-  pub lowest : Lowest s.faces.now.groups
-  pub own : s.faces.now.members ≡ lowest_members s.faces.now.groups
-  pub few_kept : length s.kept.now ≤ 1024
-  pub few_shells : length s.shells.now ≤ 256
+    (lumps (nested_of s.shells.now))

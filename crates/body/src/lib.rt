@@ -3,32 +3,37 @@
 
 #![tactic(auto)]
 
-ghost use Rattle.std.specs.Prelude.{◌≡◌, ℕ, ◌+◌, ◌*◌, ◌<◌, ◌≤◌, ◌^◌, true, length};
+ghost use Rattle.std.specs.Prelude.{◌≡◌, ℕ, ◌+◌, ◌*◌, ◌<◌, ◌≤◌, ◌^◌, ◌++◌, true, length};
 ghost use mathlib.Core.List.{List, [], ◌∷◌, map, flat_map};
-ghost use Rattle.rules.specs.Fields.{field_bytes};
+ghost use Rattle.rules.specs.Fields.{bytes16, bytes32, field_bytes};
 ghost use Rattle.rules.specs.Frame.{framed, framed_all};
 ghost use Rattle.rules.specs.Join.{active_edges};
 ghost use Rattle.rules.specs.Job.{face_at};
 ghost use Rattle.rules.specs.Shells.{shell_faces, voids_of, lump_of, lumps};
-ghost use Rattle.rules.specs.Groups.{members_of, Lowest};
+ghost use Rattle.rules.specs.Groups.{members_of};
 ghost use Rattle.rules.specs.Body.{rec, still_active, meet, met_fans, points_in, member_at, member_fields, members_record, item_fields, loop_record};
 ghost use Rattle.rules.specs.Body.{vertex_loop_record, edge_record, face_records, lump_records, totals_record, body_records, empty_body};
 ghost use Rattle.rules.specs.Sew.{fitting, Ends};
 ghost use Rattle.fields.specs.Wrote.{Wrote};
 ghost use Rattle.members.specs.Group.{Leading};
-ghost use Rattle.shells.specs.Table.{nested_one};
-ghost use Rattle.body.specs.Numbers.{Numbering, number_of, vertex_in, placed, items_by, loops_by};
+ghost use Rattle.shells.specs.Table.{nested_row, nested_of};
+ghost use Rattle.body.specs.Numbers.{Numbering, number_in, vertex_in, placed, items_by, loops_by};
 ghost use Rattle.body.specs.Vertices.{EndOk, EdgeOk, EndsOk, Meeting};
-ghost use Rattle.body.specs.Solids.{record_number, totals_in, head_record, merged_faces, nested_by, body_in, Sized};
+ghost use Rattle.body.specs.Solids.{record_number, totals_in, head_record, merged_faces, body_in};
 
-use edges::Joining;
-use fields::{UNSET, get, put, put_head, put_word};
+mod numbers;
+mod solid;
+
+use edges::{Joining, item_in};
+use fields::{get, put, put_entry, put_fields, put_word};
 use loaded::Loaded;
 use members::Members;
 use merge_faces::Faces;
-use rules::{EdgeData, KeptVertexLoop, Refusal};
-use shells::ShellRow;
-use stages_out::{count_shell_faces, put_shell_faces, put_two, write_fitting};
+use numbers::Numbers;
+use rules::{EdgeData, KeptVertexLoop, MOST_FACES, Refusal, UNSET};
+use shells::{ShellRow, Shells};
+pub use solid::{Solid, Totals};
+use stages_out::{count_shell_faces, put_shell_faces, write_fitting};
 
 // The kinds of a body's records.
 #[derive(Clone, Copy)]
@@ -52,30 +57,20 @@ impl BodyRecord {
     }
 }
 
-// How many uses, removed uses, uses passed over, joins, rings and face joins there were.
-#[derive(Clone, Copy)]
-pub struct Totals {
-    pub uses: usize,
-    pub removed: usize,
-    pub passed: usize,
-    pub joins: usize,
-    pub rings: usize,
-    pub merges: usize,
-}
-
-// What a body is written from: the tables of the stages before it.
-#[derive(Clone, Copy)]
-pub struct Solid<'a> {
-    pub totals: Totals,
-    pub job: &'a Loaded<'a>,
-    pub faces: &'a Faces,
-    pub starts: &'a [u32],
-    pub joining: &'a Joining<'a>,
-    pub kept: &'a [KeptVertexLoop],
-    pub shells: &'a [ShellRow],
-}
-
 // RECORDS
+
+// A record's header at a place: payload length of so many fields, and kind; gives the place of its payload.
+#[tactic(auto, using(fields::specs::Wrote::two_stores, fields::specs::Wrote::wrote_more), unfolding(rules::specs::Fields::bytes32))]
+fn put_head(out: &mut [u8], at: usize, kind: BodyRecord, fields: usize) -> usize
+    requires { (at < 2 ^ 60) × (fields < 2 ^ 60) }
+    ensures { Wrote out.old at (bytes32 (4 * fields) ++ bytes16 (record_number kind)) out.new result }
+{
+    let p = put_word(out, at, 4 * fields);
+    let [low, high, ..] = kind.number().to_le_bytes();
+    put_entry(out, p, low);
+    put_entry(out, p + 1, high);
+    p + 2
+}
 
 // A record of some fields at a place; gives the place after it, as each function here does that writes at a place.
 fn put_record<const N: usize>(
@@ -87,11 +82,8 @@ fn put_record<const N: usize>(
     requires { (at < 2 ^ 59) × (N ≤ 7) }
     ensures { Wrote out.old at (framed (rec (record_number kind) fields.now)) out.new result × (result ≡ at + 6 + 4 * N) }
 {
-    let mut p = put_head(out, at, kind.number(), N);
-    for field in fields {
-        p = put_word(out, p, *field);
-    }
-    p
+    let p = put_head(out, at, kind, N);
+    put_fields(out, p, fields)
 }
 
 // The totals of a solid, or of the empty body, at the output's start.
@@ -106,19 +98,6 @@ fn put_totals(out: &mut [u8], totals: Option<Totals>) -> usize
 }
 
 // NUMBERS
-
-// The number of v in a table that has each number plus one, and 0 for none; without a number, how many numbers there are.
-// Table and count are two parameters here and below: a record of both, with its borrow, would have two moments in `ensures`.
-#[tactic(auto, unfolding(crate::specs::Numbers::number_of))]
-fn number_of(numbers: &[u32], count: usize, v: usize) -> usize
-    ensures { result ≡ number_of numbers.now count v }
-{
-    let n = get(numbers, v);
-    if n == 0 {
-        return count;
-    }
-    n - 1
-}
 
 // Active edges are renumbered from 0, in a table that has 0 for the others. Gives how many there are.
 fn number_edges(rows: &[EdgeData], numbers: &mut [u32]) -> usize
@@ -138,29 +117,30 @@ fn number_edges(rows: &[EdgeData], numbers: &mut [u32]) -> usize
 
 // VERTICES
 
-// Fan v takes the next number, with its record, unless it is none or has a number. The records stand from
-// `at` on, so the count gives the place. Gives how many fans have numbers then.
-fn meet_fan(
-    starts: &[u32],
-    vertices: &mut [u32],
-    count: usize,
-    v: usize,
-    out: &mut [u8],
-    at: usize,
-) -> usize
-    requires { (at < 2 ^ 58) × (count < 8192) }
+// Where the fans' records start: after the totals.
+const VERTICES: usize = 34;
+
+// Fan v takes the next number, with its record, unless it is none or has a number. The records stand one after the other,
+// so the count gives the place. Gives how many fans have numbers then.
+fn meet_fan(starts: &[u32], vertices: &mut [u32], count: usize, v: usize, out: &mut [u8]) -> usize
+    requires { count < 8192 }
     ensures { (result ≤ count + 1)
-        × ((before met : List ℕ) → EndOk (length vertices.old) v → Meeting starts.now before at met vertices.old out.old count
-        → Meeting starts.now before at (meet met v) vertices.new out.new result) }
+        × ((before met : List ℕ) → EndOk (length vertices.old) v → Meeting starts.now before 34 met vertices.old out.old count
+        → Meeting starts.now before 34 (meet met v) vertices.new out.new result) }
 {
-    if v == UNSET {
+    if v == UNSET as usize {
         return count;
     }
     if get(vertices, v) != 0 {
         return count;
     }
     put(vertices, v, count + 1);
-    put_record(out, at + 10 * count, BodyRecord::Vertex, &[get(starts, v)]);
+    put_record(
+        out,
+        VERTICES + 10 * count,
+        BodyRecord::Vertex,
+        &[get(starts, v)],
+    );
     count + 1
 }
 
@@ -171,34 +151,27 @@ fn meet_ends(
     count: usize,
     edge: EdgeData,
     out: &mut [u8],
-    at: usize,
 ) -> usize
-    requires { (at < 2 ^ 58) × (count < 8190) × EdgeOk (length vertices.old) edge }
+    requires { (count < 8190) × EdgeOk (length vertices.old) edge }
     ensures { (result ≤ count + 2)
-        × ((before met : List ℕ) → Meeting starts.now before at met vertices.old out.old count
-        → Meeting starts.now before at (meet (meet met edge.start) edge.end) vertices.new out.new result) }
+        × ((before met : List ℕ) → Meeting starts.now before 34 met vertices.old out.old count
+        → Meeting starts.now before 34 (meet (meet met edge.start) edge.end) vertices.new out.new result) }
 {
-    let n = meet_fan(starts, vertices, count, edge.start as usize, out, at);
-    meet_fan(starts, vertices, n, edge.end as usize, out, at)
+    let n = meet_fan(starts, vertices, count, edge.start as usize, out);
+    meet_fan(starts, vertices, n, edge.end as usize, out)
 }
 
 // The points of the fans first met over active edges, start then end; each fan's number in a table that has 0
 // for the others. Gives how many there are.
-fn put_vertices(
-    rows: &[EdgeData],
-    starts: &[u32],
-    vertices: &mut [u32],
-    out: &mut [u8],
-    at: usize,
-) -> usize
-    requires { (at < 2 ^ 58) × (length rows.now ≤ 2048) × EndsOk (length vertices.old) rows.now }
-    ensures { (result ≤ 4096) × Meeting starts.now out.old at (met_fans (still_active rows.now)) vertices.new out.new result }
+fn put_vertices(rows: &[EdgeData], starts: &[u32], vertices: &mut [u32], out: &mut [u8]) -> usize
+    requires { (length rows.now ≤ 2048) × EndsOk (length vertices.old) rows.now }
+    ensures { (result ≤ 4096) × Meeting starts.now out.old 34 (met_fans (still_active rows.now)) vertices.new out.new result }
 {
     vertices.fill(0);
     let mut count = 0;
     for edge in rows {
         if edge.active {
-            count = meet_ends(starts, vertices, count, *edge, out, at);
+            count = meet_ends(starts, vertices, count, *edge, out);
         }
     }
     count
@@ -208,23 +181,23 @@ fn put_vertices(
 
 // The vertex of fan v, or none.
 #[tactic(auto, unfolding(crate::specs::Numbers::vertex_in))]
-fn vertex_of(vertices: &[u32], count: usize, v: usize) -> usize
-    ensures { result ≡ vertex_in vertices.now count v }
+fn vertex_of(vertices: &Numbers<'_>, v: usize) -> usize
+    ensures { result ≡ vertex_in (number_in vertices.now) v }
 {
-    if v == UNSET {
-        return UNSET;
+    if v == UNSET as usize {
+        return UNSET as usize;
     }
-    number_of(vertices, count, v)
+    vertices.of(v)
 }
 
 // An edge between vertices.
-fn put_edge(edge: EdgeData, vertices: &[u32], count: usize, out: &mut [u8], at: usize) -> usize
+fn put_edge(edge: EdgeData, vertices: &Numbers<'_>, out: &mut [u8], at: usize) -> usize
     requires { at < 2 ^ 58 }
-    ensures { Wrote out.old at (framed (edge_record (placed vertices.now count edge))) out.new result × (result ≡ at + 22) }
+    ensures { Wrote out.old at (framed (edge_record (placed (number_in vertices.now) edge))) out.new result × (result ≡ at + 22) }
 {
     let sense = usize::from(edge.sense);
-    let start = vertex_of(vertices, count, edge.start as usize);
-    let end = vertex_of(vertices, count, edge.end as usize);
+    let start = vertex_of(vertices, edge.start as usize);
+    let end = vertex_of(vertices, edge.end as usize);
     put_record(
         out,
         at,
@@ -234,14 +207,14 @@ fn put_edge(edge: EdgeData, vertices: &[u32], count: usize, out: &mut [u8], at: 
 }
 
 // The active edges.
-fn put_edges(rows: &[EdgeData], vertices: &[u32], count: usize, out: &mut [u8], at: usize) -> usize
+fn put_edges(rows: &[EdgeData], vertices: &Numbers<'_>, out: &mut [u8], at: usize) -> usize
     requires { (at < 2 ^ 57) × (length rows.now ≤ 2048) }
-    ensures { Wrote out.old at (framed_all (map edge_record (map (placed vertices.now count) (still_active rows.now)))) out.new result × (result ≤ at + 45056) }
+    ensures { Wrote out.old at (framed_all (map edge_record (map (placed (number_in vertices.now)) (still_active rows.now)))) out.new result × (result ≤ at + 45056) }
 {
     let mut p = at;
     for edge in rows {
         if edge.active {
-            p = put_edge(*edge, vertices, count, out, p);
+            p = put_edge(*edge, vertices, out, p);
         }
     }
     p
@@ -250,45 +223,38 @@ fn put_edges(rows: &[EdgeData], vertices: &[u32], count: usize, out: &mut [u8], 
 // FACES
 
 // The items of a loop: each one's edge by its number, and its sense.
-fn put_items(part: &[u32], numbers: &[u32], count: usize, out: &mut [u8], at: usize) -> usize
+fn put_items(part: &[u32], numbers: &Numbers<'_>, out: &mut [u8], at: usize) -> usize
     requires { (at < 2 ^ 57) × (length part.now ≤ 2048) }
-    ensures { Wrote out.old at (field_bytes (flat_map item_fields (items_by numbers.now count part.now))) out.new result × (result ≤ at + 16384) }
+    ensures { Wrote out.old at (field_bytes (flat_map item_fields (items_by (number_in numbers.now) part.now))) out.new result × (result ≤ at + 16384) }
 {
     let mut p = at;
     for x in part {
-        let item = *x as usize;
-        let e = number_of(numbers, count, item / 2);
-        p = put_two(out, p, e, item % 2);
+        let item = item_in(*x);
+        let e = numbers.of(item.edge as usize);
+        p = put_fields(out, p, &[e, usize::from(item.sense)]);
     }
     p
 }
 
 // A loop of these items.
-fn put_loop(part: &[u32], numbers: &[u32], count: usize, out: &mut [u8], at: usize) -> usize
+fn put_loop(part: &[u32], numbers: &Numbers<'_>, out: &mut [u8], at: usize) -> usize
     requires { (at < 2 ^ 56) × (length part.now ≤ 2048) }
-    ensures { Wrote out.old at (framed (loop_record (items_by numbers.now count part.now))) out.new result × (result ≤ at + 16390) }
+    ensures { Wrote out.old at (framed (loop_record (items_by (number_in numbers.now) part.now))) out.new result × (result ≤ at + 16390) }
 {
-    let p = put_head(out, at, BodyRecord::Loop.number(), 2 * part.len());
-    put_items(part, numbers, count, out, p)
+    let p = put_head(out, at, BodyRecord::Loop, 2 * part.len());
+    put_items(part, numbers, out, p)
 }
 
 // The loops of merged face f.
-fn put_loops(
-    j: &Joining<'_>,
-    numbers: &[u32],
-    count: usize,
-    f: usize,
-    out: &mut [u8],
-    at: usize,
-) -> usize
+fn put_loops(j: &Joining<'_>, numbers: &Numbers<'_>, f: usize, out: &mut [u8], at: usize) -> usize
     requires { at < 2 ^ 55 }
-    ensures { Wrote out.old at (framed_all (map loop_record (loops_by numbers.now count j.now.loops f))) out.new result × (result ≤ at + 33566720) }
+    ensures { Wrote out.old at (framed_all (map loop_record (loops_by (number_in numbers.now) j.now.loops f))) out.new result × (result ≤ at + 33566720) }
 {
     let faces = j.loop_faces();
     let mut p = at;
     for (k, face) in faces.iter().enumerate() {
         if *face as usize == f {
-            p = put_loop(j.loop_items(k), numbers, count, out, p);
+            p = put_loop(j.loop_items(k), numbers, out, p);
         }
     }
     p
@@ -324,7 +290,7 @@ fn put_member(job: &Loaded<'_>, i: usize, out: &mut [u8], at: usize) -> usize
     ensures { Wrote out.old at (field_bytes (member_fields (member_at job.now.faces i))) out.new result × (result ≤ at + 8) }
 {
     let face = job.face(i);
-    put_two(out, at, face.body as usize, face.source as usize)
+    put_fields(out, at, &[face.body as usize, face.source as usize])
 }
 
 // Body and source face of each member of the merged group with label m, ascending.
@@ -339,7 +305,7 @@ fn put_members(
     ensures { Wrote out.old at (framed (members_record (map (member_at job.now.faces) (members_of members.now m)))) out.new result × (result ≤ at + 2054) }
 {
     let size = members.count(m);
-    let mut p = put_head(out, at, BodyRecord::Members.number(), 2 * size);
+    let mut p = put_head(out, at, BodyRecord::Members, 2 * size);
     for i in members.of(m) {
         p = put_member(job, i, out, p);
     }
@@ -348,13 +314,17 @@ fn put_members(
 
 // The merged faces, each with its members and its loops after it, vertex loops last.
 fn put_faces(s: &Solid<'_>, numbers: &mut [u32], out: &mut [u8], at: usize) -> usize
-    requires { (at < 2 ^ 53) × Sized s.now × (length s.now.joining.now.edges ≤ length numbers.old) }
+    requires { (at < 2 ^ 53) × (length s.now.joining.now.edges ≤ length numbers.old) }
     ensures { Wrote out.old at (framed_all (flat_map face_records (merged_faces s.now))) out.new result × (result ≤ at + 8596231168) }
 {
     let j = s.joining;
     let count = number_edges(j.edges, numbers);
+    let numbers = Numbers {
+        table: numbers,
+        count,
+    };
     let groups = s.faces.groups();
-    let mut room = [0u32; 256];
+    let mut room = [0u32; MOST_FACES];
     let members = Members::new(groups, &mut room[..groups.len()]);
     let lowest = s.faces.members();
     let mut p = at;
@@ -362,7 +332,7 @@ fn put_faces(s: &Solid<'_>, numbers: &mut [u32], out: &mut [u8], at: usize) -> u
         let m = *m as usize;
         let q = put_face(s.job, m, out, p);
         let r = put_members(s.job, &members, m, out, q);
-        let t = put_loops(j, numbers, count, f, out, r);
+        let t = put_loops(j, &numbers, f, out, r);
         p = put_vertex_loops(s.kept, f, out, t);
     }
     p
@@ -376,44 +346,43 @@ fn put_shell(faces: &Faces, b: usize, out: &mut [u8], at: usize) -> usize
     ensures { Wrote out.old at (framed (rec 28 (shell_faces faces.now.boundaries faces.now.members b))) out.new result × (result ≤ at + 1030) }
 {
     let size = count_shell_faces(faces, b);
-    let p = put_head(out, at, BodyRecord::Shell.number(), size);
+    let p = put_head(out, at, BodyRecord::Shell, size);
     put_shell_faces(faces, b, out, p)
 }
 
 // The voids of the lump whose outer shell has the lowest merged face `home`.
-fn put_voids(faces: &Faces, shells: &[ShellRow], home: u32, out: &mut [u8], at: usize) -> usize
-    requires { (at < 2 ^ 55) × (length shells.now ≤ 256) }
-    ensures { Wrote out.old at (framed_all (map (rec 28) (voids_of (nested_by faces.now shells.now) home))) out.new result × (result ≤ at + 263680) }
+fn put_voids(shells: &Shells<'_>, home: u32, out: &mut [u8], at: usize) -> usize
+    requires { at < 2 ^ 55 }
+    ensures { Wrote out.old at (framed_all (map (rec 28) (voids_of (nested_of shells.now) home))) out.new result × (result ≤ at + 263680) }
 {
     let mut p = at;
-    for s in shells {
-        if !s.outer && s.home == home {
-            p = put_shell(faces, s.boundary as usize, out, p);
+    for s in shells.rows {
+        if s.is_void_of(home) {
+            p = put_shell(shells.faces, s.boundary as usize, out, p);
         }
     }
     p
 }
 
 // The lump of an outer shell; the shell, then its voids.
-fn put_lump(faces: &Faces, shells: &[ShellRow], outer: ShellRow, out: &mut [u8], at: usize) -> usize
-    requires { (at < 2 ^ 54) × (length shells.now ≤ 256) }
-    ensures { Wrote out.old at (framed_all (lump_records (lump_of (nested_by faces.now shells.now) (nested_one faces.now.boundaries faces.now.members outer)))) out.new result
-        × (result ≤ at + 264716) }
+fn put_lump(shells: &Shells<'_>, outer: ShellRow, out: &mut [u8], at: usize) -> usize
+    requires { at < 2 ^ 54 }
+    ensures { Wrote out.old at (framed_all (lump_records (lump_of (nested_of shells.now) (nested_row shells.now outer)))) out.new result × (result ≤ at + 264716) }
 {
     let p = put_record(out, at, BodyRecord::Lump, &[]);
-    let q = put_shell(faces, outer.boundary as usize, out, p);
-    put_voids(faces, shells, outer.home, out, q)
+    let q = put_shell(shells.faces, outer.boundary as usize, out, p);
+    put_voids(shells, outer.home, out, q)
 }
 
 // The lumps.
-fn put_lumps(faces: &Faces, shells: &[ShellRow], out: &mut [u8], at: usize) -> usize
-    requires { (at < 2 ^ 53) × (length shells.now ≤ 256) }
-    ensures { Wrote out.old at (framed_all (flat_map lump_records (lumps (nested_by faces.now shells.now)))) out.new result }
+fn put_lumps(shells: &Shells<'_>, out: &mut [u8], at: usize) -> usize
+    requires { at < 2 ^ 53 }
+    ensures { Wrote out.old at (framed_all (flat_map lump_records (lumps (nested_of shells.now)))) out.new result }
 {
     let mut p = at;
-    for s in shells {
+    for s in shells.rows {
         if s.outer {
-            p = put_lump(faces, shells, *s, out, p);
+            p = put_lump(shells, *s, out, p);
         }
     }
     p
@@ -423,15 +392,19 @@ fn put_lumps(faces: &Faces, shells: &[ShellRow], out: &mut [u8], at: usize) -> u
 
 // All records of a body; `numbers` and `vertices` are spare tables.
 fn put_records(s: &Solid<'_>, numbers: &mut [u32], vertices: &mut [u32], out: &mut [u8]) -> usize
-    requires { Sized s.now × (length s.now.joining.now.edges ≤ length numbers.old) × EndsOk (length vertices.old) s.now.joining.now.edges }
+    requires { (length s.now.joining.now.edges ≤ length numbers.old) × EndsOk (length vertices.old) s.now.joining.now.edges }
     ensures { Wrote out.old 0 (framed_all (body_records (body_in s.now))) out.new result }
 {
     put_totals(out, Some(s.totals));
     let j = s.joining;
-    let count = put_vertices(j.edges, s.starts, vertices, out, 34);
-    let p = put_edges(j.edges, vertices, count, out, 34 + 10 * count);
+    let count = put_vertices(j.edges, s.starts, vertices, out);
+    let vertices = Numbers {
+        table: vertices,
+        count,
+    };
+    let p = put_edges(j.edges, &vertices, out, VERTICES + 10 * count);
     let q = put_faces(s, numbers, out, p);
-    put_lumps(s.faces, s.shells, out, q)
+    put_lumps(s.shells, out, q)
 }
 
 // The body of a job without selected faces: one record, or refusal 40 with the bytes needed.
@@ -450,7 +423,7 @@ pub fn put_body(
     vertices: &mut [u32],
     out: &mut [u8],
 ) -> Result<usize, Refusal>
-    requires { Sized s.now × (length s.now.joining.now.edges ≤ length numbers.old) × EndsOk (length vertices.old) s.now.joining.now.edges }
+    requires { (length s.now.joining.now.edges ≤ length numbers.old) × EndsOk (length vertices.old) s.now.joining.now.edges }
     ensures { Ends (fitting (length out.old) (framed_all (body_records (body_in s.now)))) out.old out.new result }
 {
     write_fitting(out, |out| put_records(s, numbers, vertices, out))

@@ -23,15 +23,13 @@ use Rattle.contact.specs.Buckets.{stands_with, point_at, Bucketed, touches_earli
 
 -- ALL EARLIER FANS
 
-pub bucketed_none : (w : ℕ) (starts names heads nexts : List ℕ) → heads ≡ replicate (length heads) 0 → nexts ≡ replicate (length nexts) 0
-    → Bucketed w starts names heads nexts 0
-bucketed_none w starts names heads nexts eh en = record {
-  falling = λ k. omega (arith, ap (λ l. get_or l k 0) en, get_or_constant (length nexts) zero k);
-  entries = λ b. omega (arith, ap (λ l. get_or l b 0) eh, get_or_constant (length heads) zero b);
+pub bucketed_none : (w : ℕ) (starts names : List ℕ) (chains fans : ℕ) → Bucketed w starts names (replicate chains 0) (replicate fans 0) 0
+bucketed_none w starts names chains fans = record {
+  entries = λ b. omega (arith, get_or_constant chains zero b);
   holds = λ j h. absurd (omega arith);
 }
 
-module _ (w : ℕ) (starts names heads nexts : List ℕ) (k : ℕ) (s : Bucketed w starts names heads nexts k) where
+module _ (w : ℕ) (starts names heads nexts : List ℕ) (k : ℕ) (s : Bucketed w starts names heads nexts k) (falling : Falling (next_in nexts)) where
   -- the chain of a point has each earlier fan that touches; the code's numbers are fan v at place k, its point p, face and label l
   pub chain_touches : (us : List Use) (labels : List ℕ) (v p face l entry : ℕ) → k < length names → v ≡ get_or names k 0 → p ≡ fan_point starts v → face ≡ face_of_use us v → l ≡ label_of labels face
       → entry ≡ get_or heads (p % w) 0
@@ -66,7 +64,7 @@ module _ (w : ℕ) (starts names heads nexts : List ℕ) (k : ℕ) (s : Bucketed
       there t =
           let r = some_in test (chain (next_in nexts) entry) t in
           let j : ℕ = r.0 in
-          let lj : j < k = omega (arith, chain_below (next_in nexts) s.falling entry j r.1, ee, s.entries (p % w)) in
+          let lj : j < k = omega (arith, chain_below (next_in nexts) falling entry j r.1, ee, s.entries (p % w)) in
           let m : get_or (take k names) j 0 ∈ take k names = get_or_in (take k names) j 0 (omega (arith, length-take-le k names (omega arith))) in
           in_some meet (Memᴰ.cast (sym (get_or-take k names j 0 lj)) m) (sym (agree (get_or names j 0)) ∙ r.2)
 
@@ -93,12 +91,12 @@ module _ (w : ℕ) (starts names heads nexts : List ℕ) (k : ℕ) (s : Bucketed
     bucket : p % w < length heads
     bucket = omega (arith, mod-lt p some_chains, wide)
 
-    falls : Falling (next_in nexts')
-    falls j = set_each (λ i x. x ≤ i) nexts k entry 0 room (omega (arith, s.entries (p % w))) j (λ n. s.falling j)
+    pub falls : Falling (next_in nexts')
+    falls j = set_each (λ i x. x ≤ i) nexts k entry 0 room (omega (arith, s.entries (p % w))) j (λ n. falling j)
 
     kept : (b : ℕ) → chain (next_in nexts) (get_or heads b 0) ≡ chain (next_in nexts') (get_or heads b 0)
     kept b =
-        chain_same (next_in nexts) (next_in nexts') s.falling (get_or heads b 0)
+        chain_same (next_in nexts) (next_in nexts') falling (get_or heads b 0)
         (λ j h. let n : j ≢ k = (λ (q : j ≡ k). omega (arith, s.entries b)) in sym (get_or-set_other nexts k j entry 0 n))
 
     front : chain (next_in nexts') (get_or heads' (p % w) 0) ≡ k ∷ chain (next_in nexts) (get_or heads (p % w) 0)
@@ -127,7 +125,6 @@ module _ (w : ℕ) (starts names heads nexts : List ℕ) (k : ℕ) (s : Bucketed
 
     pub bucketed_more : (heads'' nexts'' : List ℕ) → nexts'' ≡ set nexts k entry → heads'' ≡ set heads (p % w) (k + 1) → Bucketed w starts names heads'' nexts'' (k + 1)
     bucketed_more heads'' nexts'' en eh = rw (en, eh) (record {
-      falling = falls;
       entries = λ b. set_each (λ i x. x ≤ k + 1) heads (p % w) (k + 1) 0 bucket (omega arith) b (λ n. omega (arith, s.entries b));
       holds = held;
     })

@@ -4,7 +4,7 @@ use Rattle.lists.specs.Lists.{◌∈◌, some}
 use Rattle.rules.specs.declared.Use.{Use}
 use Rattle.rules.specs.Fans.{fan_point}
 use Rattle.rules.specs.Contact.{use_label, touches}
-use Rattle.fields.specs.Chains.{chain, next_in, Falling}
+use Rattle.fields.specs.Chains.{chain, next_in}
 
 -- fan g stands at point p and has label l
 unfoldable pub stands_with : List Use → List ℕ → List ℕ → ℕ → ℕ → ℕ → Bool
@@ -16,7 +16,6 @@ point_at starts names k = fan_point starts (get_or names k 0)
 
 -- each of the first k fans is on the chain of its point, one of w chains
 pub record Bucketed (w : ℕ) (starts names heads nexts : List ℕ) (k : ℕ) : Type 0 where
-  pub falling : Falling (next_in nexts)
   pub entries : (b : ℕ) → get_or heads b 0 ≤ k
   pub holds : (j : ℕ) → j < k → j ∈ chain (next_in nexts) (get_or heads (point_at starts names j % w) 0)
 

@@ -19,7 +19,7 @@ use Rattle.rules.specs.Groups.{label_of}
 use Rattle.rules.specs.Fans.{fan_point}
 use Rattle.rules.specs.Contact.{use_label, touches, contact_points, points_clear}
 use Rattle.contact.specs.ClearLaws.{clear_none, clear_least}
-use Rattle.fields.specs.Chains.{chain, next_in}
+use Rattle.fields.specs.Chains.{chain, next_in, Falling}
 use Rattle.contact.specs.Buckets.{stands_with, point_at, Bucketed, touches_earlier, is_lower, lowered}
 use Rattle.contact.specs.BucketLaws.{chain_touches}
 
@@ -164,11 +164,11 @@ module _ (us : List Use) (starts labels names : List ℕ) (k f p : ℕ) (lowest 
   not_lower e = rw (← point_at_lem, e)
 
   -- lower than the lowest so far: t says whether some fan on the chain of its point stands there with its label l
-  module _ (w : ℕ) (heads nexts : List ℕ) (s : Bucketed w starts names heads nexts k) (within : k < length names) (lt : is_lower p lowest ≡ true) (face l entry : ℕ) (t : Bool)
-      (eface : face ≡ face_of_use us f) (el : l ≡ label_of labels face) (ee : entry ≡ get_or heads (p % w) 0)
+  module _ (w : ℕ) (heads nexts : List ℕ) (s : Bucketed w starts names heads nexts k) (falling : Falling (next_in nexts)) (within : k < length names)
+      (lt : is_lower p lowest ≡ true) (face l entry : ℕ) (t : Bool) (eface : face ≡ face_of_use us f) (el : l ≡ label_of labels face) (ee : entry ≡ get_or heads (p % w) 0)
       (et : t ≡ some (λ j. stands_with us starts labels p l (get_or names j 0)) (chain (next_in nexts) entry)) where
     earlier : touches_earlier us starts labels names k ≡ t
-    earlier = sym (et ∙ chain_touches w starts names heads nexts k s us labels f p face l entry within ef ep eface el ee)
+    earlier = sym (et ∙ chain_touches w starts names heads nexts k s falling us labels f p face l entry within ef ep eface el ee)
 
     pub lower_touches : t ≡ true → Some p ≡ lowered us starts labels names k lowest
     unfolding lowered

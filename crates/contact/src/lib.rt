@@ -3,7 +3,7 @@
 
 #![tactic(auto)]
 
-ghost use Rattle.std.specs.Prelude.{◌≡◌, ◌+◌, ◌≤◌, ◌<◌, length, get_or, replicate};
+ghost use Rattle.std.specs.Prelude.{◌≡◌, ◌+◌, ◌%◌, ◌≤◌, ◌<◌, length, get_or};
 ghost use Rattle.lists.specs.Lists.{repeats, some};
 ghost use Rattle.rules.specs.Pair.{uses_of_edge};
 ghost use Rattle.rules.specs.Contact.{is_lower_use, pair_labels, edge_touches, edges_clear, points_clear};
@@ -14,17 +14,20 @@ ghost use Rattle.contact.specs.Buckets.{stands_with, Bucketed, is_lower, lowered
 
 use edge_uses::EdgeUses;
 use fields::{Chain, get, put};
-use rules::{Fault, Refusal, Use};
+use rules::{FEW, Fault, MOST_FACES, MOST_USES, Refusal, Use};
 use uses::use_face;
 
 // EDGES
 
-// Pairs of uses by edge: the uses on the chains of their edges, the twin of each use, and a label for each face.
+// Pairs of uses by edge: the uses on the chains of their edges, of which a job has so many at most, the twin of each use, and
+// a label for each face, for which the table of stamps has a place.
 #[derive(Drop)]
 pub struct LabelledPairs<'a> {
     pub linked: &'a EdgeUses<'a>,
     pub twins: &'a [u32],
     pub labels: &'a [u32],
+    ghost low: { LowLabels labels.now },
+    ghost few: { linked.now.edges ≤ 1024 },
 }
 
 // Use h is the lower of its pair.
@@ -37,7 +40,7 @@ fn is_lower_use(twins: &[u32], h: usize) -> bool
 // Use h is the lower of its pair, and its label was met before at edge e. `stamps` has e + 1 at each label met.
 #[tactic(auto, unfolding(crate::specs::Stamps::meets, crate::specs::Stamps::stamped_by))]
 fn meet(pairs: &LabelledPairs<'_>, stamps: &mut [u32], e: usize, h: usize) -> bool
-    requires { e < 1024 }
+    requires { e < pairs.now.linked.now.edges }
     ensures { (result ≡ meets pairs.now.linked.now.uses pairs.now.twins.now pairs.now.labels.now stamps.old e h)
         × (stamps.new ≡ stamped_by pairs.now.linked.now.uses pairs.now.twins.now pairs.now.labels.now stamps.old e h) }
 {
@@ -51,8 +54,8 @@ fn meet(pairs: &LabelledPairs<'_>, stamps: &mut [u32], e: usize, h: usize) -> bo
 }
 
 // Two pairs of edge e have one label.
-fn pairs_meet(pairs: &LabelledPairs<'_>, stamps: &mut [u32], e: usize) -> bool
-    requires { LowLabels pairs.now.labels.now × (e < pairs.now.linked.now.edges) × (e < 1024) × (length stamps.old ≡ 256) × Stale stamps.old e }
+fn pairs_meet(pairs: &LabelledPairs<'_>, stamps: &mut [u32; MOST_FACES], e: usize) -> bool
+    requires { (e < pairs.now.linked.now.edges) × Stale stamps.old e }
     ensures { (result ≡ repeats (pair_labels pairs.now.linked.now.uses pairs.now.twins.now pairs.now.labels.now (uses_of_edge pairs.now.linked.now.uses e)))
         × Stale stamps.new (e + 1) }
 {
@@ -67,8 +70,8 @@ fn pairs_meet(pairs: &LabelledPairs<'_>, stamps: &mut [u32], e: usize) -> bool
 
 // Edge e has more than two uses, and two of its pairs have one label.
 #[tactic(auto, using(crate::specs::StampLaws::stale_on), unfolding(rules::specs::Contact::edge_touches))]
-fn edge_touches(pairs: &LabelledPairs<'_>, stamps: &mut [u32], e: usize) -> bool
-    requires { LowLabels pairs.now.labels.now × (e < pairs.now.linked.now.edges) × (e < 1024) × (length stamps.old ≡ 256) × Stale stamps.old e }
+fn edge_touches(pairs: &LabelledPairs<'_>, stamps: &mut [u32; MOST_FACES], e: usize) -> bool
+    requires { (e < pairs.now.linked.now.edges) × Stale stamps.old e }
     ensures { (result ≡ edge_touches pairs.now.linked.now.uses pairs.now.twins.now pairs.now.labels.now e) × Stale stamps.new (e + 1) }
 {
     let n = pairs.linked.count(e);
@@ -81,14 +84,13 @@ fn edge_touches(pairs: &LabelledPairs<'_>, stamps: &mut [u32], e: usize) -> bool
 // Pairs: the lowest edge with more than two uses of which two pairs have one label.
 #[tactic(auto, using(crate::specs::ClearLaws::none_done))]
 pub fn edges_clear(fault: Fault, pairs: &LabelledPairs<'_>) -> Result<(), Refusal>
-    requires { LowLabels pairs.now.labels.now × (pairs.now.linked.now.edges ≤ 1024) }
     ensures { result ≡ edges_clear fault pairs.now.linked.now.uses pairs.now.twins.now pairs.now.labels.now pairs.now.linked.now.edges }
 {
-    let mut stamps = [0u32; 256];
+    let mut stamps = [0u32; MOST_FACES];
     // by number: of an edge only its number is looked at, and a `find` would have to write the stamps from its closure
     for e in 0..pairs.linked.edges() {
         if edge_touches(pairs, &mut stamps, e) {
-            return Err(Refusal { fault, place: e });
+            return Err(fault.at(e));
         }
     }
     Ok(())
@@ -113,12 +115,28 @@ fn stands_with(fans: &LabelledFans<'_>, p: usize, l: usize, g: usize) -> bool
     p == get(fans.starts, g) && l == get(fans.labels, use_face(fans.uses, g))
 }
 
-// One of the fans on a chain stands at point p and has label l. A chain's entries are places in `names` plus one.
-fn one_stands(fans: &LabelledFans<'_>, nexts: &[u32], entry: usize, p: usize, l: usize) -> bool
-    requires { Falling (next_in nexts.now) }
-    ensures { result ≡ some (λ k. stands_with fans.now.uses.now fans.now.starts.now fans.now.labels.now p l (get_or fans.now.names.now k 0)) (chain (next_in nexts.now) entry) }
+// Fans on chains by their points: the head of each chain, and the entry after each fan. An entry is a fan's place in `names`
+// plus one, and 0 ends a chain. There is a chain, and along each the places fall.
+#[derive(Drop)]
+struct Buckets<const HEADS: usize, const FANS: usize> {
+    heads: [u32; HEADS],
+    nexts: [u32; FANS],
+    ghost chains: { 0 < HEADS },
+    ghost falling: { Falling (next_in nexts) },
+}
+
+// One of the fans on the chain of point p stands there and has label l.
+fn one_stands<const HEADS: usize, const FANS: usize>(
+    fans: &LabelledFans<'_>,
+    buckets: &Buckets<HEADS, FANS>,
+    p: usize,
+    l: usize,
+) -> bool
+    ensures { result ≡ some (λ k. stands_with fans.now.uses.now fans.now.starts.now fans.now.labels.now p l (get_or fans.now.names.now k 0))
+        (chain (next_in buckets.now.nexts) (get_or buckets.now.heads (p % HEADS) 0)) }
 {
-    Chain::new(nexts, entry).any(|k| stands_with(fans, p, l, get(fans.names, k)))
+    let entry = get(&buckets.heads, p % HEADS);
+    Chain::new(&buckets.nexts, entry).any(|k| stands_with(fans, p, l, get(fans.names, k)))
 }
 
 // Point p is lower than the lowest point so far.
@@ -129,14 +147,13 @@ fn is_lower(p: usize, lowest: Option<usize>) -> bool
 }
 
 // The lowest point so far, or the point of the fan at place k where that is lower and the fan touches an earlier one.
-fn lower(
+fn lower<const HEADS: usize, const FANS: usize>(
     fans: &LabelledFans<'_>,
-    heads: &[u32],
-    nexts: &[u32],
+    buckets: &Buckets<HEADS, FANS>,
     k: usize,
     lowest: Option<usize>,
 ) -> Option<usize>
-    requires { (k < length fans.now.names.now) × (0 < length heads.now) × Bucketed (length heads.now) fans.now.starts.now fans.now.names.now heads.now nexts.now k }
+    requires { (k < length fans.now.names.now) × Bucketed HEADS fans.now.starts.now fans.now.names.now buckets.now.heads buckets.now.nexts k }
     ensures { result ≡ lowered fans.now.uses.now fans.now.starts.now fans.now.labels.now fans.now.names.now k lowest }
 {
     let f = get(fans.names, k);
@@ -144,53 +161,31 @@ fn lower(
     if !is_lower(p, lowest) {
         return lowest;
     }
-    let entry = get(heads, p % heads.len());
     let l = get(fans.labels, use_face(fans.uses, f));
-    if one_stands(fans, nexts, entry, p, l) {
+    if one_stands(fans, buckets, p, l) {
         return Some(p);
     }
     lowest
 }
 
 // The fan at place k on the chain of its point.
-fn enter(fans: &LabelledFans<'_>, heads: &mut [u32], nexts: &mut [u32], k: usize)
-    requires { (k < length nexts.old) × (k < 2048) × (0 < length heads.old) × Bucketed (length heads.old) fans.now.starts.now fans.now.names.now heads.old nexts.old k }
-    ensures { Bucketed (length heads.old) fans.now.starts.now fans.now.names.now heads.new nexts.new (k + 1) }
+fn enter<const HEADS: usize, const FANS: usize>(
+    fans: &LabelledFans<'_>,
+    buckets: &mut Buckets<HEADS, FANS>,
+    k: usize,
+)
+    requires { (k < FANS) × (k < 2048) × Bucketed HEADS fans.now.starts.now fans.now.names.now buckets.old.heads buckets.old.nexts k }
+    ensures { Bucketed HEADS fans.now.starts.now fans.now.names.now buckets.new.heads buckets.new.nexts (k + 1) }
 {
     let p = get(fans.starts, get(fans.names, k));
-    let b = p % heads.len();
-    let entry = get(heads, b);
-    put(nexts, k, entry);
-    put(heads, b, k + 1);
+    let b = p % HEADS;
+    let entry = get(&buckets.heads, b);
+    put(&mut buckets.nexts, k, entry);
+    put(&mut buckets.heads, b, k + 1);
 }
 
-// Fans: the lowest point at which two fans have one label, with the fans chained in blank tables.
+// Fans: the lowest point at which two fans have one label, by `HEADS` chains of up to `FANS` fans.
 #[tactic(auto, using(crate::specs::ContactLaws::lowest_more, crate::specs::ContactLaws::lowest_found, crate::specs::ContactLaws::lowest_nowhere))]
-fn points_chained(
-    fault: Fault,
-    fans: &LabelledFans<'_>,
-    heads: &mut [u32],
-    nexts: &mut [u32],
-) -> Result<(), Refusal>
-    requires room { (0 < length heads.old) × (length fans.now.names.now ≤ length nexts.old) × (length nexts.old ≤ 2048) }
-    requires blank { (heads.old ≡ replicate (length heads.old) 0) × (nexts.old ≡ replicate (length nexts.old) 0) }
-    ensures { result ≡ points_clear fault fans.now.uses.now fans.now.starts.now fans.now.labels.now fans.now.names.now }
-{
-    // a copy of its own: what is stored in the chains cannot be a part of it, so that it is not read anew for each fan
-    let own = *fans;
-    let mut lowest = None;
-    // by number: the chains have places in `names`, and a turn looks at earlier ones
-    for k in 0..own.names.len() {
-        lowest = lower(&own, heads, nexts, k, lowest);
-        enter(&own, heads, nexts, k);
-    }
-    if let Some(place) = lowest {
-        return Err(Refusal { fault, place });
-    }
-    Ok(())
-}
-
-// In tables of `HEADS` chains for up to `FANS` fans.
 fn points_in<const HEADS: usize, const FANS: usize>(
     fault: Fault,
     fans: &LabelledFans<'_>,
@@ -198,9 +193,22 @@ fn points_in<const HEADS: usize, const FANS: usize>(
     requires { (0 < HEADS) × (HEADS ≤ FANS) × (length fans.now.names.now ≤ FANS) × (FANS ≤ 2048) }
     ensures { result ≡ points_clear fault fans.now.uses.now fans.now.starts.now fans.now.labels.now fans.now.names.now }
 {
-    let mut heads = [0u32; HEADS];
-    let mut nexts = [0u32; FANS];
-    points_chained(fault, fans, &mut heads, &mut nexts)
+    // a copy of its own: what is stored in the chains cannot be a part of it, so that it is not read anew for each fan
+    let own = *fans;
+    let mut buckets = Buckets {
+        heads: [0u32; HEADS],
+        nexts: [0u32; FANS],
+    };
+    let mut lowest = None;
+    // by number: the chains have places in `names`, and a turn looks at earlier ones
+    for k in 0..own.names.len() {
+        lowest = lower(&own, &buckets, k, lowest);
+        enter(&own, &mut buckets, k);
+    }
+    if let Some(place) = lowest {
+        return Err(fault.at(place));
+    }
+    Ok(())
 }
 
 // In the tables that the fans need: clearing those for 2,048 fans costs more than all else of a small part. These fans
@@ -210,8 +218,8 @@ pub fn points_clear(fault: Fault, fans: &LabelledFans<'_>) -> Result<(), Refusal
     requires { length fans.now.names.now ≤ 2048 }
     ensures { result ≡ points_clear fault fans.now.uses.now fans.now.starts.now fans.now.labels.now fans.now.names.now }
 {
-    if fans.names.len() <= 64 {
-        return points_in::<64, 64>(fault, fans);
+    if fans.names.len() <= FEW {
+        return points_in::<FEW, FEW>(fault, fans);
     }
-    points_in::<512, 2048>(fault, fans)
+    points_in::<512, MOST_USES>(fault, fans)
 }

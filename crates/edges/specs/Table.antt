@@ -6,6 +6,7 @@ use Rattle.lists.specs.Lists.{below}
 use Rattle.lists.specs.Stretches.{stretch}
 use Rattle.rules.specs.declared.EdgeData.{EdgeData}
 use Rattle.rules.specs.declared.Item.{Item}
+use Rattle.rules.specs.declared.Sense.{Sense}
 use Rattle.rules.specs.declared.Use.{Use}
 use Rattle.rules.specs.Sense.{sense_of, sense_number}
 use Rattle.rules.specs.Read.{use_at}
@@ -16,9 +17,13 @@ use Rattle.rules.specs.Edges.{FaceLoop}
 abbrev pub item_in : ℕ → Item
 item_in x = record { edge = x / 2; sense = sense_of (x % 2) }
 
+-- the number of the item of an edge in a sense
+abbrev pub item_number : ℕ → Sense → ℕ
+item_number e s = 2 * e + sense_number s
+
 -- a use as such a number, from the table of the uses' edges
 unfoldable pub item_code : List Use → List ℕ → ℕ → ℕ
-item_code us owns h = 2 * get_or owns h 0 + sense_number (use_at us h).sense
+item_code us owns h = item_number (get_or owns h 0) (use_at us h).sense
 
 -- the loop in a stretch of a list
 abbrev pub loop_at : List ℕ → Span → List ℕ

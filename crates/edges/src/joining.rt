@@ -47,7 +47,6 @@ impl<'a> Joining<'a> {
         requires { k < length self.now.loops }
         ensures { (map item_in result.now ≡ (face_loop_at self.now.loops k).items) × (length result.now ≤ 2048) }
     {
-        let s = span_at(self.stretches, k);
-        &self.items[s.start as usize..s.end as usize]
+        &self.items[span_at(self.stretches, k).range()]
     }
 }

@@ -7,7 +7,7 @@ ghost use Rattle.std.specs.Prelude.{◌≡◌, ℕ, ◌<◌, ◌≤◌, min, max
 ghost use Rattle.rules.specs.Join.{edge_data_at};
 ghost use Rattle.lists.specs.Lists.{below};
 ghost use Rattle.rules.specs.Edges.{lower_kept, face_pair, fan_or_none, own_start, own_end, edge_data};
-ghost use Rattle.edges.specs.Table.{item_code, loop_at, loop_face};
+ghost use Rattle.edges.specs.Table.{item_in, item_number, item_code, loop_at, loop_face};
 ghost use Rattle.edges.specs.Made.{OneEdge, Made};
 
 mod joining;
@@ -15,8 +15,8 @@ mod joining;
 use fields::{Span, entry, get, is_set, put, put_entry, span_at};
 pub use joining::Joining;
 use loaded::Loaded;
-use rules::{Edge, EdgeData, Sense, Use};
-use uses::{use_at, use_face, use_sense};
+use rules::{Edge, EdgeData, Item, Sense, UNSET, Use};
+use uses::{use_at, use_face};
 
 // THE TABLE
 
@@ -24,8 +24,8 @@ use uses::{use_at, use_face, use_sense};
 pub const NO_EDGE: EdgeData = EdgeData {
     curve: 0,
     sense: Sense::Same,
-    start: u32::MAX,
-    end: u32::MAX,
+    start: UNSET,
+    end: UNSET,
     faces: [0, 0],
     active: false,
 };
@@ -35,27 +35,6 @@ pub fn edge_at(rows: &[EdgeData], e: usize) -> EdgeData
     ensures { result ≡ edge_data_at rows.now e }
 {
     entry(rows, e, NO_EDGE)
-}
-
-// Where edge e starts.
-pub fn edge_start(rows: &[EdgeData], e: usize) -> usize
-    ensures { (result ≡ (edge_data_at rows.now e).start) × (result < 4294967296) }
-{
-    edge_at(rows, e).start as usize
-}
-
-// Where edge e ends.
-pub fn edge_end(rows: &[EdgeData], e: usize) -> usize
-    ensures { (result ≡ (edge_data_at rows.now e).end) × (result < 4294967296) }
-{
-    edge_at(rows, e).end as usize
-}
-
-// No join has taken edge e.
-pub fn edge_active(rows: &[EdgeData], e: usize) -> bool
-    ensures { result ≡ (edge_data_at rows.now e).active }
-{
-    edge_at(rows, e).active
 }
 
 // THE EDGE OF A KEPT PAIR
@@ -68,19 +47,18 @@ fn is_lower(twins: &[u32], removed: &[bool], h: usize) -> bool
 }
 
 // Two numbers as a pair, the lower first.
-fn ascending(a: usize, b: usize) -> [u32; 2]
-    requires { (a < 4294967296) × (b < 4294967296) }
+fn ascending(a: u32, b: u32) -> [u32; 2]
     ensures { result ≡ min a b ∷ max a b ∷ [] }
 {
-    [a.min(b) as u32, a.max(b) as u32]
+    [a.min(b), a.max(b)]
 }
 
 // The merged faces beside use h.
 fn faces_beside(uses: &[Use], twins: &[u32], numbers: &[u32], h: usize) -> [u32; 2]
     ensures { result ≡ face_pair uses.now twins.now numbers.now h }
 {
-    let a = get(numbers, use_face(uses, h));
-    let b = get(numbers, use_face(uses, get(twins, h)));
+    let a = entry(numbers, use_face(uses, h), 0);
+    let b = entry(numbers, use_face(uses, get(twins, h)), 0);
     ascending(a, b)
 }
 
@@ -89,9 +67,9 @@ fn fan_or_none(edge: Edge, fans: &[u32], h: usize) -> u32
     ensures { result ≡ fan_or_none edge fans.now h }
 {
     if edge.is_ring() {
-        return u32::MAX;
+        return UNSET;
     }
-    get(fans, h) as u32
+    entry(fans, h, 0)
 }
 
 // Of two ends given along a use, the edge's own start and its own end.
@@ -104,10 +82,11 @@ fn own_ends(sense: Sense, here: u32, there: u32) -> (u32, u32)
     }
 }
 
-// What the edges are made of: the uses; the twin, the successor and the fan of each, and which are removed; and the merged
-// face of each selected face.
+// What the edges are made of: the job and its uses; the twin, the successor and the fan of each, and which are removed;
+// and the merged face of each selected face.
 #[derive(Drop)]
 pub struct Sides<'a> {
+    pub job: &'a Loaded<'a>,
     pub uses: &'a [Use],
     pub twins: &'a [u32],
     pub removed: &'a [bool],
@@ -118,11 +97,12 @@ pub struct Sides<'a> {
 
 // The edge of the kept pair with lower use h.
 #[tactic(auto, unfolding(rules::specs::Edges::edge_data))]
-fn edge_of(job: &Loaded<'_>, s: &Sides<'_>, h: usize) -> EdgeData
+fn edge_of(s: &Sides<'_>, h: usize) -> EdgeData
     requires { h < length s.now.succ.now }
-    ensures { result ≡ edge_data job.now.edges s.now.uses.now s.now.twins.now s.now.numbers.now s.now.succ.now s.now.fans.now h }
+    ensures { result ≡ edge_data s.now.job.now.edges s.now.uses.now s.now.twins.now s.now.numbers.now s.now.succ.now s.now.fans.now h }
 {
     let u = use_at(s.uses, h);
+    let job = s.job;
     let edge = job.edge(u.edge as usize);
     let here = fan_or_none(edge, s.fans, h);
     let there = fan_or_none(edge, s.fans, get(s.succ, h));
@@ -140,20 +120,13 @@ fn edge_of(job: &Loaded<'_>, s: &Sides<'_>, h: usize) -> EdgeData
 
 // Where use h is kept and the lower of its pair, the edge of the pair is stored as number `count`, for both uses. Gives
 // the number of edges then.
-fn add_edge(
-    job: &Loaded<'_>,
-    s: &Sides<'_>,
-    rows: &mut [EdgeData],
-    owns: &mut [u32],
-    h: usize,
-    count: usize,
-) -> usize
+fn add_edge(s: &Sides<'_>, rows: &mut [EdgeData], owns: &mut [u32], h: usize, count: usize) -> usize
     requires { (h < length s.now.succ.now) × (count < 2048) }
-    ensures { OneEdge s.now.twins.now s.now.removed.now (edge_data job.now.edges s.now.uses.now s.now.twins.now s.now.numbers.now s.now.succ.now s.now.fans.now h) h
+    ensures { OneEdge s.now.twins.now s.now.removed.now (edge_data s.now.job.now.edges s.now.uses.now s.now.twins.now s.now.numbers.now s.now.succ.now s.now.fans.now h) h
         count rows.old owns.old rows.new owns.new result }
 {
     if is_lower(s.twins, s.removed, h) {
-        let x = edge_of(job, s, h);
+        let x = edge_of(s, h);
         put_entry(rows, count, x);
         put(owns, h, count);
         put(owns, get(s.twins, h), count);
@@ -164,16 +137,38 @@ fn add_edge(
 
 // The edges, one for each kept pair by ascending lower use, and for each kept use the number of its pair's edge. Gives
 // how many edges there are.
-pub fn edges(job: &Loaded<'_>, s: &Sides<'_>, rows: &mut [EdgeData], owns: &mut [u32]) -> usize
+pub fn edges(s: &Sides<'_>, rows: &mut [EdgeData], owns: &mut [u32]) -> usize
     requires { (length s.now.twins.now ≤ 2048) × (length s.now.succ.now ≡ length s.now.twins.now) × (length owns.old ≡ length s.now.twins.now) × (length s.now.twins.now ≤ length rows.old) }
-    ensures { Made job.now.edges s.now.uses.now s.now.twins.now s.now.removed.now s.now.numbers.now s.now.succ.now s.now.fans.now owns.old rows.new owns.new result }
+    ensures { Made s.now.job.now.edges s.now.uses.now s.now.twins.now s.now.removed.now s.now.numbers.now s.now.succ.now s.now.fans.now owns.old rows.new owns.new result }
 {
     let mut count: usize = 0;
     // by number: a use is looked up in all the tables of `Sides`, by itself or by its twin's number
     for h in 0..s.twins.len() {
-        count = add_edge(job, s, rows, owns, h, count);
+        count = add_edge(s, rows, owns, h, count);
     }
     count
+}
+
+// ITEMS AS NUMBERS
+
+// The number of the item of edge e in a sense.
+#[inline(always)]
+pub fn item_number(e: usize, sense: Sense) -> usize
+    requires { e < 2147483648 }
+    ensures { (result ≡ item_number e sense) × (result < 4294967296) }
+{
+    2 * e + usize::from(sense)
+}
+
+// The item with number x.
+#[inline(always)]
+pub fn item_in(x: u32) -> Item
+    ensures { result ≡ item_in x }
+{
+    Item {
+        edge: x / 2,
+        sense: Sense::from((x % 2) as usize),
+    }
 }
 
 // THE LOOPS
@@ -184,9 +179,7 @@ fn item_of(uses: &[Use], owns: &[u32], h: usize) -> usize
     requires { (k : ℕ) → get_or owns.now k 0 ≤ 2048 }
     ensures { (result ≡ item_code uses.now owns.now h) × (result < 4294967296) }
 {
-    let e = get(owns, h);
-    let s = usize::from(use_sense(uses, h));
-    2 * e + s
+    item_number(get(owns, h), use_at(uses, h).sense)
 }
 
 // The uses of the loops become items in their places.
@@ -222,6 +215,6 @@ pub fn loop_faces(
 {
     for (k, face) in faces.iter_mut().enumerate() {
         let h = first_use(ways, span_at(stretches, k));
-        *face = get(numbers, use_face(uses, h)) as u32;
+        *face = entry(numbers, use_face(uses, h), 0);
     }
 }

@@ -1,11 +1,15 @@
 -- Bytes written at a place of the output, and the place after them.
 use Rattle.std.specs.Prelude.{ℕ, suc, ◌+◌, ◌≡◌, refl, List, [], ◌∷◌, ◌++◌, length, set}
-use Rattle.std.proofs.Common.{add-one, arith, ap, ◌∙◌, length-append}
+use Rattle.std.proofs.Common.{add-one, arith, ap, subst, ◌∙◌, length-append}
 use Rattle.std.proofs.Math.Numerals.{add-two, add-three}
 use Rattle.std.proofs.lemmas.List.Edits.{sets}
 
 abbrev pub Wrote : List ℕ → ℕ → List ℕ → List ℕ → ℕ → Type 0
 Wrote before at bytes after next = (after ≡ sets before at bytes) × (next ≡ at + length bytes)
+
+-- the same bytes by another name
+pub wrote_as : (before after xs ys : List ℕ) (at q : ℕ) → xs ≡ ys → Wrote before at xs after q → Wrote before at ys after q
+wrote_as before after xs ys at q e w = subst (λ bs. Wrote before at bs after q) e w
 
 -- nothing written
 pub wrote_none : (l : List ℕ) (at : ℕ) → Wrote l at [] l at

@@ -3,26 +3,24 @@
 
 #![tactic(auto)]
 
-ghost use Rattle.std.specs.Prelude.{◌≡◌, ◌+◌, ◌*◌, ◌<◌, ◌^◌, ◌++◌, false, length, get_or, set};
+ghost use Rattle.std.specs.Prelude.{◌≡◌, ◌+◌, ◌*◌, ◌<◌, ◌^◌, false, length, get_or, set};
 ghost use Rattle.std.proofs.lemmas.List.Edits.{sets};
-ghost use Rattle.rules.specs.Fields.{le16, le32, bytes16, bytes32, field_bytes};
+ghost use Rattle.rules.specs.Fields.{le16, le32, bytes32, field_bytes};
 ghost use Rattle.fields.specs.Wrote.{Wrote};
-ghost use Rattle.fields.specs.Spans.{span_at};
+ghost use Rattle.fields.specs.Spans.{span_at, place_after};
 ghost use Rattle.fields.specs.Chains.{chain, next_in, Falling};
 
-use std::marker::Model;
+mod filled;
 
-// The mark for no vertex, no fan, no twin.
-pub const UNSET: usize = 4294967295;
+pub use filled::Filled;
+use std::marker::Model;
+use std::ops::Range;
 
 // The entry at a place of a table; past its end, another.
 pub fn entry<T: Copy>(t: &[T], i: usize, none: T) -> T
     ensures { result ≡ get_or t.now i none }
 {
-    match t.get(i) {
-        Some(x) => *x,
-        None => none,
-    }
+    t.get(i).copied().unwrap_or(none)
 }
 
 // An entry stored at a place of a table; past its end nothing is.
@@ -34,36 +32,26 @@ pub fn put_entry<T: Copy>(t: &mut [T], i: usize, x: T)
     }
 }
 
-// The byte at a place.
-pub fn byte(s: &[u8], at: usize) -> usize
-    ensures { (result ≡ get_or s.now at 0) × (result < 256) }
-{
-    entry(s, at, 0) as usize
-}
-
 // The two-byte field at a place.
+#[tactic(auto, unfolding(rules::specs::Fields::le16))]
 pub fn half(s: &[u8], at: usize) -> usize
     requires { at < 2 ^ 60 }
     ensures { (result ≡ le16 s.now at) × (result < 65536) }
 {
-    let a = byte(s, at);
-    let b = byte(s, at + 1);
-    a + 256 * b
+    u16::from_le_bytes([entry(s, at, 0), entry(s, at + 1, 0)]) as usize
 }
 
 // A four-byte field that lies inside: its bytes need no test each, so it is read at once.
+#[tactic(auto, unfolding(rules::specs::Fields::le32))]
 fn whole_word(s: &[u8], at: usize) -> usize
     requires { (at < 2 ^ 60) × (at + 3 < length s.now) }
     ensures { (result ≡ le32 s.now at) × (result < 4294967296) }
 {
-    let low = s[at] as usize;
-    let second = s[at + 1] as usize;
-    let third = s[at + 2] as usize;
-    let high = s[at + 3] as usize;
-    low + 256 * second + 65536 * third + 16777216 * high
+    u32::from_le_bytes([s[at], s[at + 1], s[at + 2], s[at + 3]]) as usize
 }
 
 // The four-byte field at a place.
+#[tactic(auto, unfolding(rules::specs::Fields::le32))]
 pub fn word(s: &[u8], at: usize) -> usize
     requires { at < 2 ^ 60 }
     ensures { (result ≡ le32 s.now at) × (result < 4294967296) }
@@ -71,25 +59,23 @@ pub fn word(s: &[u8], at: usize) -> usize
     if at + 3 < s.len() {
         return whole_word(s, at);
     }
-    let a = byte(s, at);
-    let b = byte(s, at + 1);
-    let c = byte(s, at + 2);
-    let d = byte(s, at + 3);
-    a + 256 * b + 65536 * c + 16777216 * d
+    let low = entry(s, at, 0);
+    let second = entry(s, at + 1, 0);
+    let third = entry(s, at + 2, 0);
+    u32::from_le_bytes([low, second, third, entry(s, at + 3, 0)]) as usize
 }
 
 // A number as four bytes that lie inside: stored at once.
+#[tactic(auto, using(lists::specs::StoreRuns::sets_part), unfolding(rules::specs::Fields::bytes32))]
 fn put_whole_word(out: &mut [u8], at: usize, v: usize)
     requires { (at < 2 ^ 60) × (at + 3 < length out.old) }
     ensures { out.new ≡ sets out.old at (bytes32 v) }
 {
-    out[at] = (v % 256) as u8;
-    out[at + 1] = (v / 256 % 256) as u8;
-    out[at + 2] = (v / 65536 % 256) as u8;
-    out[at + 3] = (v / 16777216 % 256) as u8;
+    out[at..at + 4].copy_from_slice(&v.to_le_bytes()[..4]);
 }
 
 // A number as four bytes at a place; gives the place after them.
+#[tactic(auto, using(crate::specs::Wrote::four_stores), unfolding(rules::specs::Fields::bytes32))]
 pub fn put_word(out: &mut [u8], at: usize, v: usize) -> usize
     requires { at < 2 ^ 60 }
     ensures { Wrote out.old at (bytes32 v) out.new result }
@@ -98,19 +84,12 @@ pub fn put_word(out: &mut [u8], at: usize, v: usize) -> usize
         put_whole_word(out, at, v);
         return at + 4;
     }
-    put_byte(out, at, v % 256);
-    put_byte(out, at + 1, v / 256 % 256);
-    put_byte(out, at + 2, v / 65536 % 256);
-    put_byte(out, at + 3, v / 16777216 % 256);
+    let [low, second, third, high, ..] = v.to_le_bytes();
+    put_entry(out, at, low);
+    put_entry(out, at + 1, second);
+    put_entry(out, at + 2, third);
+    put_entry(out, at + 3, high);
     at + 4
-}
-
-// A byte stored at a place.
-pub fn put_byte(out: &mut [u8], at: usize, b: usize)
-    requires { b < 256 }
-    ensures { out.new ≡ set out.old at b }
-{
-    put_entry(out, at, b as u8);
 }
 
 // The entry of a table.
@@ -135,13 +114,6 @@ pub fn is_set(t: &[bool], i: usize) -> bool
     entry(t, i, false)
 }
 
-// A flag stored in a table.
-pub fn put_flag(t: &mut [bool], i: usize, v: bool)
-    ensures { t.new ≡ set t.old i v }
-{
-    put_entry(t, i, v);
-}
-
 // STRETCHES
 
 // A stretch of a list, from one place up to another: where a loop lies among the uses or the items of all loops.
@@ -149,6 +121,16 @@ pub fn put_flag(t: &mut [bool], i: usize, v: bool)
 pub struct Span {
     pub start: u32,
     pub end: u32,
+}
+
+impl Span {
+    // The places of the stretch.
+    #[inline(always)]
+    pub fn range(self) -> Range<usize>
+        ensures { (result.start ≡ self.start) × (result.end ≡ self.end) }
+    {
+        self.start as usize..self.end as usize
+    }
 }
 
 // An empty stretch, which a table holds before it is filled.
@@ -159,6 +141,18 @@ pub fn span_at(spans: &[Span], k: usize) -> Span
     ensures { result ≡ span_at spans.now k }
 {
     entry(spans, k, NO_SPAN)
+}
+
+// The place after one in the stretch from `start` to `end`: after its last, where it starts.
+#[tactic(auto, unfolding(crate::specs::Spans::place_after))]
+pub fn place_after(start: usize, end: usize, i: usize) -> usize
+    requires { (start < 4294967296) × (i < end) × (end < 4294967296) }
+    ensures { (result ≡ place_after start end i) × (result < 4294967296) }
+{
+    if i + 1 == end {
+        return start;
+    }
+    i + 1
 }
 
 // CHAINS
@@ -214,18 +208,6 @@ impl<'a> Iterator for Chain<'a> {
 
 // RECORDS
 
-// A record's header at a place: payload length of so many fields, and kind; gives the place of its payload. The kind is a
-// number: those of a body's records are an enum of `body`, which stands above.
-pub fn put_head(out: &mut [u8], at: usize, kind: usize, fields: usize) -> usize
-    requires { (at < 2 ^ 60) × (fields < 2 ^ 60) }
-    ensures { Wrote out.old at (bytes32 (4 * fields) ++ bytes16 kind) out.new result }
-{
-    let p = put_word(out, at, 4 * fields);
-    put_byte(out, p, kind % 256);
-    put_byte(out, p + 1, kind / 256 % 256);
-    p + 2
-}
-
 // The numbers of a table as four-byte fields at a place; gives the place after them.
 pub fn put_table(out: &mut [u8], at: usize, t: &[u32]) -> usize
     requires { at + 4 * length t.now < 2 ^ 60 }
@@ -234,6 +216,19 @@ pub fn put_table(out: &mut [u8], at: usize, t: &[u32]) -> usize
     let mut p = at;
     for x in t {
         p = put_word(out, p, *x as usize);
+    }
+    p
+}
+
+// So many numbers as four-byte fields at a place; gives the place after them. Always inlined: the array is then never made.
+#[inline(always)]
+pub fn put_fields<const N: usize>(out: &mut [u8], at: usize, fields: &[usize; N]) -> usize
+    requires { at + 4 * N < 2 ^ 60 }
+    ensures { Wrote out.old at (field_bytes fields.now) out.new result × (result ≡ at + 4 * N) }
+{
+    let mut p = at;
+    for field in fields {
+        p = put_word(out, p, *field);
     }
     p
 }

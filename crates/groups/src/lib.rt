@@ -9,6 +9,8 @@ ghost use Rattle.rules.specs.Groups.{alone as alone_of, label_of};
 ghost use Rattle.groups.specs.Parents.{Ordered, Stands, Rooted, JoinedIn, SeparateIn, padded};
 
 use fields::{get, put};
+use rules::MOST_FACES;
+use std::marker::Model;
 
 // Each number is alone.
 pub fn alone(parents: &mut [u32])
@@ -67,42 +69,50 @@ pub fn settle(parents: &mut [u32])
 
 // GROUPS LENT WITH THEIR PARENTS INSIDE
 
-// Groups of at most 256 numbers.
-#[derive(Clone, Copy)]
+// Groups of at most 256 numbers. No parent lies above its number.
+#[derive(Drop)]
 pub struct Groups {
-    pub parents: [u32; 256],
+    parents: [u32; MOST_FACES],
+}
+
+impl Model for Groups {
+    ghost use Rattle.std.specs.Prelude.{List, ℕ};
+    ghost use Rattle.groups.specs.Parents.{Ordered};
+
+    ghost Value = { List ℕ };
+
+    ghost view = { λ g. g.parents };
+
+    ghost invariant = { λ g. Ordered g.parents };
 }
 
 // Each of n numbers alone; past them every number is in the group of 0.
 pub fn new(n: usize) -> Groups
     requires { n ≤ 256 }
-    ensures { Stands result.parents (padded (256 - n) (alone_of n)) }
+    ensures { Stands result (padded (256 - n) (alone_of n)) }
 {
-    let mut parents = [0u32; 256];
+    let mut parents = [0u32; MOST_FACES];
     alone(&mut parents[..n]);
     Groups { parents }
 }
 
 // The label of a number.
 pub fn root(g: &mut Groups, i: usize) -> usize
-    requires { Ordered g.old.parents }
-    ensures { Rooted g.old.parents g.new.parents i result }
+    ensures { Rooted g.old g.new i result }
 {
     root_in(&mut g.parents, i)
 }
 
 // The groups of a and b become one. Answers whether they were separate.
 pub fn join(g: &mut Groups, a: usize, b: usize) -> bool
-    requires { Ordered g.old.parents }
-    ensures { JoinedIn g.old.parents g.new.parents a b × SeparateIn g.old.parents a b result }
+    ensures { JoinedIn g.old g.new a b × SeparateIn g.old a b result }
 {
     join_in(&mut g.parents, a, b)
 }
 
 // Each number's label.
 pub fn labels_of(mut g: Groups, labels: &mut [u32])
-    requires { Ordered g.parents }
-    ensures { (ls : List ℕ) → Stands g.parents ls → labels.new ≡ map (label_of ls) (below (length labels.old)) }
+    ensures { (ls : List ℕ) → Stands g ls → labels.new ≡ map (label_of ls) (below (length labels.old)) }
 {
     for (i, label) in labels.iter_mut().enumerate() {
         *label = root(&mut g, i) as u32;

@@ -1,10 +1,10 @@
 -- The fields of a record as they stand in the bytes.
-use Rattle.std.specs.Prelude.{ℕ, zero, suc, ◌+◌, ◌*◌, ◌-◌, ◌/◌, ◌<◌, ◌≤◌, ◌≡◌, refl, List, ◌∷◌, get_or, take, drop}
-use Rattle.std.proofs.Common.{arith, sym, ap, ◌∙◌, drop-drop}
+use Rattle.std.specs.Prelude.{ℕ, zero, suc, ◌+◌, ◌*◌, ◌-◌, ◌/◌, ◌<◌, ◌≤◌, ◌≡◌, refl, List, [], ◌∷◌, get_or, take, drop}
+use Rattle.std.proofs.Common.{not-suc-le-zero, sub-one, arith, sym, ap, ◌∙◌, drop-drop}
 use Rattle.rules.specs.Sense.{sense_of}
 use Rattle.rules.specs.Fields.{le32, field, fields_in}
 use Rattle.rules.specs.Load.{face_of}
-use Rattle.rules.proofs.FieldLaws.{field_in}
+use Rattle.rules.proofs.FieldLaws.{fields_first, field_in}
 use Rattle.job.specs.Lists.{fields_at, face_in}
 
 -- the first fields, and those after them
@@ -22,6 +22,16 @@ drop_fields (suc m) (suc n) s =
     let e : n - m ≡ suc n - suc m = omega arith in
     let d : 4 + 4 * m ≡ 4 * suc m = omega arith in
     drop_fields m n (drop 4 s) ∙ ap (fields_in (n - m)) (drop-drop (4 * m) 4 s) ∙ (λ i. fields_in (e i) (drop (d i) s))
+
+-- one field, then the others
+pub fields_more : (n : ℕ) (s : List ℕ) (p : ℕ) → 0 < n → fields_in n (drop p s) ≡ le32 s p ∷ fields_in (n - 1) (drop (p + 4) s)
+fields_more zero s p h = absurd (not-suc-le-zero h)
+fields_more (suc n) s p h = rw sub-one (fields_first n s p)
+
+pub fields_none : (n : ℕ) (s : List ℕ) → n ≤ 0 → fields_in n s ≡ []
+unfolding fields_in
+fields_none zero s h = refl
+fields_none (suc n) s h = absurd (not-suc-le-zero h)
 
 -- field i of the record at a byte
 pub field_at : (bytes : List ℕ) (at i : ℕ) → i < le32 bytes at / 4 → get_or (fields_at bytes at) i 0 ≡ le32 bytes (at + 6 + 4 * i)

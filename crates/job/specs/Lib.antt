@@ -3,3 +3,4 @@ pub mod Lists
 pub mod Raw
 pub mod ListLaws
 pub mod FieldLaws
+pub mod ItemLaws

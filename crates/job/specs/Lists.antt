@@ -4,8 +4,9 @@ use Rattle.lists.specs.Lists.{below}
 use Rattle.rules.specs.declared.Counts.{Counts}
 use Rattle.rules.specs.declared.Edge.{Edge}
 use Rattle.rules.specs.declared.Face.{Face}
+use Rattle.rules.specs.declared.Item.{Item}
 use Rattle.rules.specs.Sense.{sense_of}
-use Rattle.rules.specs.Fields.{le16, le32, fields_in}
+use Rattle.rules.specs.Fields.{le16, le32, fields_in, field}
 use Rattle.rules.specs.Job.{of_items, at_vertex, Loop, Stretch, Answer, Job, items_of}
 use Rattle.rules.specs.Kinds.{kind_of, number_of}
 use Rattle.rules.specs.Load.{answer_of}
@@ -41,6 +42,10 @@ answer_byte ix k = get_or ix (3072 + k) 0
 -- the fields of the record at a byte
 unfoldable pub fields_at : List ℕ → ℕ → List ℕ
 fields_at bytes p = fields_in (le32 bytes p / 4) (drop (p + 6) bytes)
+
+-- item k of fields, of two of them
+unfoldable pub item_in : List ℕ → ℕ → Item
+item_in fs k = record { edge = field fs (2 * k); sense = sense_of (field fs (2 * k + 1)) }
 
 -- the face whose record stands at a byte
 unfoldable pub face_in : List ℕ → ℕ → Face

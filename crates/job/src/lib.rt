@@ -10,8 +10,11 @@ ghost use Rattle.rules.specs.Kinds.{kind_of};
 ghost use Rattle.job.specs.Lists.{edge_in, face_in, loop_byte, item_count};
 ghost use Rattle.job.specs.Raw.{points, edges, faces};
 
+mod stored;
+
 use fields::{get, half, word};
-use rules::{Counts, Edge, Face, Kind, Sense};
+use rules::{Counts, Edge, Face, Kind, Sense, UNSET};
+pub use stored::Fields;
 
 // The index: heads of the chains of answers, the chains, places of answers, of faces and of loops, the loops' faces. One
 // array of numbers, which is cleared and lent as a whole.
@@ -33,7 +36,7 @@ pub const OWNERS: usize = 6400;
 #[derive(Clone, Copy)]
 pub struct RawJob<'a> {
     pub bytes: &'a [u8],
-    pub index: &'a [u32],
+    pub index: &'a [u32; INDEX],
     pub counts: Counts,
 }
 
@@ -69,16 +72,25 @@ pub fn face_in(job: &[u8], at: usize) -> Face
 }
 
 impl RawJob<'_> {
+    // The number that the index has at a place.
+    #[inline(always)]
+    pub fn entry(&self, i: usize) -> usize
+        ensures { (result ≡ get_or self.now.index.now i 0) × (result < 4294967296) }
+    {
+        let index = self.index;
+        get(index, i)
+    }
+
     // VERTICES, EDGES, FACES
 
     // The point of a vertex.
     #[inline(always)]
-    pub fn point(&self, v: usize) -> usize
+    pub fn point(&self, v: usize) -> u32
         requires { self.now.counts.vertices ≤ 1024 }
-        ensures { (result ≡ get_or (points self.now) v 0) × (result < 4294967296) }
+        ensures { result ≡ get_or (points self.now) v 0 }
     {
         if v < self.counts.vertices {
-            return word(self.bytes, 16 + 10 * v);
+            return word(self.bytes, 16 + 10 * v) as u32;
         }
         0
     }
@@ -96,8 +108,8 @@ impl RawJob<'_> {
         Edge {
             curve: 0,
             sense: Sense::Same,
-            start: u32::MAX,
-            end: u32::MAX,
+            start: UNSET,
+            end: UNSET,
         }
     }
 
@@ -109,7 +121,7 @@ impl RawJob<'_> {
         ensures { result ≡ face_at (faces self.now) f }
     {
         if f < self.counts.faces {
-            return face_in(self.bytes, get(self.index, FACES + f));
+            return face_in(self.bytes, self.entry(FACES + f));
         }
         Face {
             surface: 0,
@@ -123,32 +135,32 @@ impl RawJob<'_> {
     // LOOPS
 
     // The face of loop l, its kind, the first byte of its payload, its payload's length.
-    pub fn loop_face(&self, l: usize) -> usize
+    pub fn loop_face(&self, l: usize) -> u32
         requires { l < 1024 }
-        ensures { (result ≡ get_or self.now.index.now (6400 + l) 0) × (result < 4294967296) }
+        ensures { result ≡ get_or self.now.index.now (6400 + l) 0 }
     {
-        get(self.index, OWNERS + l)
+        self.entry(OWNERS + l) as u32
     }
 
     pub fn loop_kind(&self, l: usize) -> Kind
         requires { l < 1024 }
         ensures { result ≡ kind_of (le16 self.now.bytes.now (loop_byte self.now.index.now l + 4)) }
     {
-        Kind::from(half(self.bytes, get(self.index, LOOPS + l) + 4))
+        Kind::from(half(self.bytes, self.entry(LOOPS + l) + 4))
     }
 
     pub fn loop_start(&self, l: usize) -> usize
         requires { l < 1024 }
         ensures { (result ≡ loop_byte self.now.index.now l + 6) × (result < 4294967302) }
     {
-        get(self.index, LOOPS + l) + 6
+        self.entry(LOOPS + l) + 6
     }
 
     pub fn loop_size(&self, l: usize) -> usize
         requires { l < 1024 }
         ensures { (result ≡ le32 self.now.bytes.now (loop_byte self.now.index.now l)) × (result < 4294967296) }
     {
-        word(self.bytes, get(self.index, LOOPS + l))
+        word(self.bytes, self.entry(LOOPS + l))
     }
 
     // How many items loop l has; a vertex loop has none.

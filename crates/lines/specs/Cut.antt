@@ -1,6 +1,6 @@
 -- Items cut one after the other from the front of some bytes.
-use Prim.Native.Nat.{ℕ, zero, suc, ◌+◌, ◌*◌, ◌<◌, ◌≤◌}
-use Rattle.std.proofs.Common.{not-suc-le-zero, le_refl, arith, ◌∙◌, drop_of_length-le, drop-drop, drop_at}
+use Prim.Native.Nat.{ℕ, zero, suc, ◌+◌, ◌*◌, ◌-◌, ◌^◌, ◌<◌, ◌≤◌}
+use Rattle.std.proofs.Common.{not-suc-le-zero, le_refl, arith, ◌∙◌, drop_at}
 use Rattle.std.specs.Prelude.{◌≡◌}
 use Rattle.std.proofs.Math.Path.{refl, sym, ap}
 use mathlib.Core.List.Memᴰ
@@ -68,35 +68,37 @@ module _ {A : Type 0} (item : List ℕ → A) (size : List ℕ → ℕ) (some : 
 -- A TEXT FOR EACH ITEM
 
 module _ {A : Type 0} (item : List ℕ → A) (size : List ℕ → ℕ) (text : A → List ℕ) (before : List ℕ) (at : ℕ) (bytes : List ℕ) where
-  -- the items before a place are written, those from it on are left
-  pub record Going (after : List ℕ) (p from : ℕ) : Type 0 where
+  -- the items before the rest are written, those of the rest are left; no item has more than six characters for each byte, and the
+  -- last one may claim more bytes than there are
+  pub record Going (rest after : List ℕ) (p : ℕ) : Type 0 where
     pub done : List ℕ
     pub wrote : Wrote before at done after p
-    pub whole : flat_map text (cut_all item size bytes) ≡ done ++ flat_map text (cut_all item size (drop from bytes))
-    pub few : p ≤ at + 6 * from
+    pub whole : flat_map text (cut_all item size bytes) ≡ done ++ flat_map text (cut_all item size rest)
+    pub few : 0 < length rest → p + 6 * length rest ≤ at + 6 * length bytes
+    pub most : p ≤ at + 6 * length bytes + 6 * 2 ^ 36
 
-  pub going_start : Going before at 0
-  going_start = record { done = []; wrote = wrote_none before at; whole = refl; few = omega arith }
+  pub going_start : Going bytes before at
+  going_start = record { done = []; wrote = wrote_none before at; whole = refl; few = λ h. le_refl _; most = omega arith }
 
-  pub going_step : ((rest : List ℕ) → 1 ≤ size rest) → ((rest : List ℕ) → length (text (item rest)) ≤ 6 * size rest) → (mid after : List ℕ) (p q from next : ℕ) → Going mid p from
-      → from < length bytes → next ≡ from + size (drop from bytes) → Wrote mid p (text (item (drop from bytes))) after q → Going after q next
+  pub going_step : ((rest : List ℕ) → 1 ≤ size rest) → ((rest : List ℕ) → length (text (item rest)) ≤ 6 * size rest) → (rest next mid after : List ℕ) (p q n : ℕ) → Going rest mid p
+      → 0 < length rest → n ≡ size rest → n ≤ 2 ^ 36 → next ≡ drop n rest → Wrote mid p (text (item rest)) after q → Going next after q
   unfolding flat_map
-  going_step some short mid after p q from next G lt e w =
-      let rest : List ℕ = drop from bytes in
+  going_step some short rest next mid after p q n G lt en small e w =
       let here : List ℕ = text (item rest) in
-      let on : cut_all item size rest ≡ item rest ∷ cut_all item size (drop next bytes) =
-      cut_more item size some rest (omega (arith, length-drop from bytes))
-      ∙ ap {B = List A} (λ l. item rest ∷ cut_all item size l) (drop-drop (size rest) from bytes ∙ ap (λ n. drop n bytes) (sym e)) in
+      let left : length next ≡ length rest - n = ap length e ∙ length-drop n rest in
+      let on : cut_all item size rest ≡ item rest ∷ cut_all item size next =
+      cut_more item size some rest lt ∙ ap {B = List A} (λ l. item rest ∷ cut_all item size l) (ap (λ k. drop k rest) (sym en) ∙ sym e) in
       record {
         done = G.done ++ here;
         wrote = wrote_more before mid after G.done here at p q G.wrote w;
-        whole = G.whole ∙ ap (λ l. G.done ++ flat_map text l) on ∙ sym (append_assoc G.done here (flat_map text (cut_all item size (drop next bytes))));
-        few = omega (arith, G.few, short rest, w.1, e);
+        whole = G.whole ∙ ap (λ l. G.done ++ flat_map text l) on ∙ sym (append_assoc G.done here (flat_map text (cut_all item size next)));
+        few = λ h. omega (arith, G.few lt, short rest, w.1, left, en, h);
+        most = omega (arith, G.few lt, short rest, w.1, en, small);
       }
 
-  pub going_end : (after : List ℕ) (p from : ℕ) → Going after p from → length bytes ≤ from → Wrote before at (flat_map text (cut_all item size bytes)) after p
+  pub going_end : (rest after : List ℕ) (p : ℕ) → Going rest after p → length rest ≤ 0 → Wrote before at (flat_map text (cut_all item size bytes)) after p
   unfolding flat_map cut_from
-  going_end after p from G le =
-      let all : flat_map text (cut_all item size bytes) ≡ G.done =
-      G.whole ∙ ap (λ l. G.done ++ flat_map text (cut_all item size l)) (drop_of_length-le bytes le) ∙ append-nil G.done in
+  going_end [] after p G h =
+      let all : flat_map text (cut_all item size bytes) ≡ G.done = G.whole ∙ append-nil G.done in
       (G.wrote.0 ∙ ap (sets before at) (sym all), G.wrote.1 ∙ ap (λ l. at + length l) (sym all))
+  going_end (b ∷ bs) after p G h = absurd (not-suc-le-zero h)

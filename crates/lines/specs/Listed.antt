@@ -13,12 +13,11 @@ use Rattle.rules.specs.Rules.{Table, full_table, ordinary}
 use Rattle.rules.specs.Body.{Body, body_records}
 use Rattle.rules.specs.Sew.{rebuild, fitting, sewn, Ends}
 use Rattle.rules.specs.Listing.{listing_of, sewn_records, listing}
-use Rattle.fields.specs.Wrote.{Wrote}
+use Rattle.fields.specs.Wrote.{Wrote, wrote_as}
 use Rattle.theorems.specs.Demand3.{with_table}
 use Rattle.theorems.specs.Narrow.{Below}
 use Rattle.theorems.proofs.Narrow.{rebuilt_narrow}
 use Rattle.lines.specs.Text.{recorded}
-use Rattle.lines.specs.Writing.{wrote_same}
 use Rattle.lines.specs.Exact.{Fits, AllFit, framed_length, room_listing, listing_is, Printed, prints}
 use Rattle.lines.specs.Room.{Within, listed_small, sewn_within}
 
@@ -71,5 +70,5 @@ pub lists : (job before after page printed : List ℕ) (q : ℕ) (e : Outcome �
 lists job before after page printed q e bytes n E w =
     let fit = all_fit full_table job 65536 bytes (omega arith) in
     prints (listing ordinary job) page printed 196608 q
-    (wrote_same page printed (listing_of (recorded after e)) (listing ordinary job) 0 q (listing_is ordinary job before after e fit n E) w)
+    (wrote_as page printed (listing_of (recorded after e)) (listing ordinary job) 0 q (listing_is ordinary job before after e fit n E) w)
     (listed_small (sewn_records ordinary job 65536) fit (sewn_within ordinary job 65536))

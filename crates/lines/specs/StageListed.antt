@@ -18,14 +18,13 @@ use Rattle.rules.specs.Rows.{stage_listing}
 use Rattle.rules.specs.declared.Stage.{Stage}
 use Rattle.rules.specs.declared.Stage.TheVariants.{Read, Pair, Merge, VertexLoops, Walk, Loops, Fans, Edges, Joining, Shells, Lumps}
 use Rattle.rules.specs.Operation.{operation}
-use Rattle.fields.specs.Wrote.{Wrote, wrote_none}
+use Rattle.fields.specs.Wrote.{Wrote, wrote_as, wrote_none}
 use Rattle.fields.specs.Tabled.{length_field_bytes}
 use Rattle.theorems.specs.Narrow.{Below}
 use Rattle.theorems.specs.Shapes.{Shaped, AllShaped, Laid}
 use Rattle.theorems.proofs.Shapes.{read_shaped, pair_shaped, merge_shaped, vertex_loops_shaped, walk_shaped}
 use Rattle.theorems.proofs.Shapes.{loops_shaped, fans_shaped, edges_laid, joining_laid, shells_shaped, lumps_shaped}
-use Rattle.lines.specs.Text.{rows_in, joining_rows, fixed_of, counted_of, stage_rows, stage_text}
-use Rattle.lines.specs.Writing.{wrote_same}
+use Rattle.lines.specs.Text.{rows_in, joining_rows, stage_rows, stage_text}
 use Rattle.lines.specs.Exact.{rows_back, Printed, prints}
 use Rattle.lines.specs.Room.{row_eleven, refusal_short}
 use Rattle.lines.specs.StageBytes.{row_bytes, read_bytes, pair_bytes, merge_bytes, vertex_loop_bytes, walk_bytes, loop_bytes, fan_bytes_lem, edge_bytes, joining_bytes, shell_bytes_lem, lump_bytes}
@@ -100,7 +99,7 @@ pub record Known (stage : Stage) (job : List ℕ) (room : ℕ) : Type 0 where
 
 -- every stage, of a job of bytes
 pub stage_known : (stage : Stage) → (job : List ℕ) → Below 256 job → (room : ℕ) → Known stage job room
-unfolding stage_listing stage_rows fixed_of counted_of
+unfolding stage_listing stage_rows
 stage_known Read job b room = record {
   rows = staged_rows read_rows ordinary job room;
   lines = refl;
@@ -229,7 +228,7 @@ pub lists_stage : (stage : Stage) (job before after page printed : List ℕ) (q 
 lists_stage stage job before after page printed q e b n E w =
     let text : List ℕ = stage_listing (Some stage) ordinary job 131072 in
     let is : stage_text stage after e ≡ text = stage_text_lem stage job before after e b E ∙ ap (stage_listing (Some stage) ordinary job) n in
-    prints text page printed 360448 q (wrote_same page printed (stage_text stage after e) text 0 q is w) (stage_small stage job b)
+    prints text page printed 360448 q (wrote_as page printed (stage_text stage after e) text 0 q is w) (stage_small stage job b)
 
 -- nothing is put where there is no stage
 pub lists_none : (job page : List ℕ) → StageLists None job page page 0

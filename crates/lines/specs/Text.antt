@@ -1,5 +1,5 @@
 -- The text of an answer, from the bytes that the output holds: the lines of a body's records and of a stage's rows.
-use Rattle.std.specs.Prelude.{ℕ, ◌+◌, ◌*◌, ◌/◌, Bool, cond, take, drop, eqb, ltb, Option}
+use Rattle.std.specs.Prelude.{ℕ, ◌+◌, ◌*◌, ◌/◌, cond, take, drop, eqb, ltb, Option}
 use Rattle.std.specs.List.{find}
 use mathlib.Core.List.{List, [], ◌∷◌, ◌++◌, flat_map}
 use Rattle.lists.specs.Lists.{same}
@@ -13,9 +13,9 @@ use Rattle.rules.specs.Listing.{field_text, vertex_text, listing_of}
 use Rattle.rules.specs.Rows.{row_text}
 use Rattle.lines.specs.Cut.{cut_all}
 
--- a field after a blank; where it is a vertex, `-` for none
-abbrev pub field_text_in : Bool → ℕ → List ℕ
-field_text_in vertex v = cond vertex (vertex_text v) (field_text v)
+-- the text of fields: as many as are plain are numbers, the others vertices
+abbrev pub parted_text : ℕ → List ℕ → List ℕ
+parted_text plain fs = flat_map field_text (take plain fs) ++ flat_map vertex_text (drop plain fs)
 
 -- how many of a record's fields are no vertices: of an edge's the first two
 unfoldable pub plain_of : ℕ → ℕ → ℕ
@@ -60,46 +60,19 @@ joining_rows bytes =
     let end = 28 * le32 bytes 8 in
     rows_in 3 0 (take 12 bytes) ++ rows_in 7 0 (take end rest) ++ rows_in 2 2 (drop end rest)
 
--- the fields of a stage's row
-unfoldable pub fixed_of : Stage → ℕ
-fixed_of Read = 4
-fixed_of Pair = 1
-fixed_of Merge = 2
-fixed_of VertexLoops = 2
-fixed_of Walk = 3
-fixed_of Loops = 2
-fixed_of Fans = 3
-fixed_of Edges = 2
-fixed_of Joining = 2
-fixed_of Shells = 2
-fixed_of Lumps = 2
-
--- whether the second one counts further ones
-unfoldable pub counted_of : Stage → ℕ
-counted_of Read = 0
-counted_of Pair = 0
-counted_of Merge = 0
-counted_of VertexLoops = 0
-counted_of Walk = 0
-counted_of Loops = 1
-counted_of Fans = 0
-counted_of Edges = 0
-counted_of Joining = 0
-counted_of Shells = 1
-counted_of Lumps = 1
-
+-- a stage's rows, by how many fields each has and how many more its second one counts
 unfoldable pub stage_rows : Stage → List ℕ → List (List ℕ)
-stage_rows Read bytes = rows_in (fixed_of Read) (counted_of Read) bytes
-stage_rows Pair bytes = rows_in (fixed_of Pair) (counted_of Pair) bytes
-stage_rows Merge bytes = rows_in (fixed_of Merge) (counted_of Merge) bytes
-stage_rows VertexLoops bytes = rows_in (fixed_of VertexLoops) (counted_of VertexLoops) bytes
-stage_rows Walk bytes = rows_in (fixed_of Walk) (counted_of Walk) bytes
-stage_rows Loops bytes = rows_in (fixed_of Loops) (counted_of Loops) bytes
-stage_rows Fans bytes = rows_in (fixed_of Fans) (counted_of Fans) bytes
+stage_rows Read bytes = rows_in 4 0 bytes
+stage_rows Pair bytes = rows_in 1 0 bytes
+stage_rows Merge bytes = rows_in 2 0 bytes
+stage_rows VertexLoops bytes = rows_in 2 0 bytes
+stage_rows Walk bytes = rows_in 3 0 bytes
+stage_rows Loops bytes = rows_in 2 1 bytes
+stage_rows Fans bytes = rows_in 3 0 bytes
 stage_rows Edges bytes = joining_rows bytes
 stage_rows Joining bytes = joining_rows bytes
-stage_rows Shells bytes = rows_in (fixed_of Shells) (counted_of Shells) bytes
-stage_rows Lumps bytes = rows_in (fixed_of Lumps) (counted_of Lumps) bytes
+stage_rows Shells bytes = rows_in 2 1 bytes
+stage_rows Lumps bytes = rows_in 2 1 bytes
 
 -- the answer of a stage as text, by its ending and the output
 abbrev pub stage_text : Stage → List ℕ → Outcome ℕ → List ℕ

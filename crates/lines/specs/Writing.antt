@@ -3,24 +3,20 @@ use Prim.Native.Nat.{ℕ, zero, suc, ◌+◌, ◌*◌, ◌-◌, ◌/◌, ◌%◌
 use Rattle.std.proofs.Common.{not-suc-le-zero, add-one, subst, ◌∙◌, ⊎_elim, length-append, length-set, length-drop}
 use Rattle.std.proofs.Common.{drop_of_length-le, take-suc, take_all, length-take-le, drop_at, drop-drop, lt-ltb, le-ltb}
 use native.Mathlib.Omega.{arith}
-use Rattle.std.specs.Prelude.{◌≡◌, refl, Bool, true, false, cond, length, get_or, set, take, eqb, ltb}
+use Rattle.std.specs.Prelude.{◌≡◌, cond, length, get_or, set, take, eqb, ltb}
 use Rattle.std.proofs.Math.Path.{sym, ap}
-use mathlib.Core.List.{List, [], ◌∷◌, ◌++◌, flat_map, append-nil}
+use mathlib.Core.List.{List, [], ◌∷◌, ◌++◌, flat_map, append-nil, append_assoc}
 use Rattle.std.proofs.Math.ListN.{drop}
 use Rattle.std.proofs.lemmas.List.Edits.{sets}
-use Rattle.std.proofs.lemmas.List.{set_split}
+use Rattle.std.proofs.lemmas.List.{set_split, take-append-le, drop-append-le, length-take}
 use Rattle.lists.specs.Tests.{both_ways, cond_true, cond_false}
 use Rattle.lists.specs.Members.{flat_map_append}
 use Rattle.rules.specs.Job.{unset}
 use Rattle.rules.specs.Fields.{le32, fields_in}
-use Rattle.rules.proofs.FieldLaws.{le32_here}
-use Rattle.rules.specs.Listing.{digits_before, decimal, field_text}
-use Rattle.fields.specs.Wrote.{Wrote, sets_append}
-use Rattle.lines.specs.Text.{field_text_in}
-
--- another text that is equal
-pub wrote_same : (before after xs ys : List ℕ) (at q : ℕ) → xs ≡ ys → Wrote before at xs after q → Wrote before at ys after q
-wrote_same before after xs ys at q e w = subst (λ bs. Wrote before at bs after q) e w
+use Rattle.rules.proofs.FieldLaws.{le32_here, length_fields}
+use Rattle.rules.specs.Listing.{digits_before, decimal, field_text, vertex_text}
+use Rattle.fields.specs.Wrote.{Wrote, wrote_as, wrote_more, sets_append}
+use Rattle.lines.specs.Text.{parted_text}
 
 -- ONE BYTE MORE
 
@@ -73,7 +69,7 @@ spelled_end v digits (suc i) rest h S = absurd (not-suc-le-zero h)
 pub number_wrote : (before after digits : List ℕ) (at q r v : ℕ) → length digits ≡ 20 → drop r digits ≡ decimal v
     → Wrote before at (take (20 - r) (drop r digits)) after q → Wrote before at (decimal v) after q
 number_wrote before after digits at q r v n e w =
-    wrote_same before after (take (20 - r) (drop r digits)) (decimal v) at q (take_all (20 - r) (drop r digits) (omega (arith, length-drop r digits, n)) ∙ e) w
+    wrote_as before after (take (20 - r) (drop r digits)) (decimal v) at q (take_all (20 - r) (drop r digits) (omega (arith, length-drop r digits, n)) ∙ e) w
 
 -- a number has at most twenty digits
 few_digits : (most n : ℕ) (text : List ℕ) → length (digits_before most n text) ≤ most + length text
@@ -93,9 +89,11 @@ decimal_short v = few_digits 20 v []
 
 -- A FIELD
 
-pub field_short : (vertex : Bool) (v : ℕ) → length (field_text_in vertex v) ≤ 21
-field_short false v = omega (arith, decimal_short v)
-field_short true v =
+pub number_short : (v : ℕ) → length (field_text v) ≤ 21
+number_short v = omega (arith, decimal_short v)
+
+pub vertex_short : (v : ℕ) → length (vertex_text v) ≤ 21
+vertex_short v =
     ⊎_elim
     (λ e. omega (arith, ap length (cond_true (eqb v unset) (32 ∷ 45 ∷ []) (field_text v) e)))
     (λ e. omega (arith, ap length (cond_false (eqb v unset) (32 ∷ 45 ∷ []) (field_text v) e), decimal_short v))
@@ -112,23 +110,73 @@ fields_append (suc m) n s =
     ap (λ k. fields_in k s) e
     ∙ ap {B = List ℕ} (λ l. le32 s 0 ∷ l) (fields_append m n (drop 4 s) ∙ ap (λ l. fields_in m (drop 4 s) ++ fields_in n l) (drop-drop (4 * m) 4 s ∙ ap (λ k. drop k s) f))
 
-pub fields_short : (vertex : Bool) (n : ℕ) (s : List ℕ) → length (flat_map (field_text_in vertex) (fields_in n s)) ≤ 21 * n
-unfolding fields_in flat_map
-fields_short vertex zero s = omega arith
-fields_short vertex (suc n) s =
-    omega (arith, length-append (field_text_in vertex (le32 s 0)) (flat_map (field_text_in vertex) (fields_in n (drop 4 s))), field_short vertex (le32 s 0), fields_short vertex n (drop 4 s))
+-- one field more
+fields_more : (i : ℕ) (s : List ℕ) → fields_in (i + 1) s ≡ fields_in i s ++ (le32 s (4 * i) ∷ [])
+unfolding fields_in
+fields_more i s = fields_append i 1 s ∙ ap (λ v. fields_in i s ++ (v ∷ [])) (le32_here (4 * i) s)
 
-pub fields_none : (vertex : Bool) (s : List ℕ) → flat_map (field_text_in vertex) (fields_in 0 s) ≡ []
-unfolding flat_map fields_in
-fields_none vertex s = refl
+-- where all are plain
+pub parted_all : (plain : ℕ) (fs : List ℕ) → length fs ≤ plain → parted_text plain fs ≡ flat_map field_text fs
+unfolding flat_map
+parted_all plain fs h =
+    (λ i. flat_map field_text (take_all plain fs h i) ++ flat_map vertex_text (drop_of_length-le fs {i = plain} h i)) ∙ append-nil (flat_map field_text fs)
 
--- the text of the first fields, then of one more
-pub fields_more : (vertex : Bool) (bytes : List ℕ) (from i : ℕ)
-    → flat_map (field_text_in vertex) (fields_in (i + 1) (drop from bytes)) ≡ flat_map (field_text_in vertex) (fields_in i (drop from bytes)) ++ field_text_in vertex (le32 bytes (from + 4 * i))
+each_short : (text : ℕ → List ℕ) → ((v : ℕ) → length (text v) ≤ 21) → (fs : List ℕ) → length (flat_map text fs) ≤ 21 * length fs
+unfolding flat_map
+each_short text short [] = omega arith
+each_short text short (f ∷ fs) = omega (arith, length-append (text f) (flat_map text fs), short f, each_short text short fs)
+
+pub parted_short : (plain n : ℕ) (s : List ℕ) → length (parted_text plain (fields_in n s)) ≤ 21 * n
+parted_short plain n s =
+    let fs : List ℕ = fields_in n s in
+    omega (
+      arith,
+      length-append (flat_map field_text (take plain fs)) (flat_map vertex_text (drop plain fs)),
+      each_short field_text number_short (take plain fs),
+      each_short vertex_text vertex_short (drop plain fs),
+      length-take plain fs,
+      length-drop plain fs,
+      length_fields n s,
+    )
+
+pub parted_none : (plain : ℕ) (s : List ℕ) → parted_text plain (fields_in 0 s) ≡ []
 unfolding flat_map fields_in
-fields_more vertex bytes from i =
-    let text : ℕ → List ℕ = field_text_in vertex in
-    let s : List ℕ = drop from bytes in
-    let here : le32 (drop (4 * i) s) 0 ≡ le32 bytes (from + 4 * i) = ap (λ l. le32 l 0) (drop-drop (4 * i) from bytes) ∙ le32_here (from + 4 * i) bytes in
-    ap (flat_map text) (fields_append i 1 s) ∙ flat_map_append text (fields_in i s) (fields_in 1 (drop (4 * i) s))
-    ∙ ap (λ l. flat_map text (fields_in i s) ++ l) (append-nil (text (le32 (drop (4 * i) s) 0)) ∙ ap text here)
+parted_none plain s = parted_all plain [] (omega arith)
+
+-- one field more: a plain one, or a vertex
+parted_plain : (plain i : ℕ) (s : List ℕ) → i < plain → parted_text plain (fields_in (i + 1) s) ≡ parted_text plain (fields_in i s) ++ field_text (le32 s (4 * i))
+unfolding flat_map
+parted_plain plain i s lt =
+    let fs : List ℕ = fields_in i s in
+    let v : ℕ = le32 s (4 * i) in
+    let n : length (fields_in (i + 1) s) ≡ i + 1 = length_fields (i + 1) s in
+    parted_all plain (fields_in (i + 1) s) (omega (arith, n, lt)) ∙ ap (flat_map field_text) (fields_more i s) ∙ flat_map_append field_text fs (v ∷ [])
+    ∙ (λ t. sym (parted_all plain fs (omega (arith, length_fields i s, lt))) t ++ append-nil (field_text v) t)
+
+parted_vertex : (plain i : ℕ) (s : List ℕ) → plain ≤ i → parted_text plain (fields_in (i + 1) s) ≡ parted_text plain (fields_in i s) ++ vertex_text (le32 s (4 * i))
+unfolding flat_map
+parted_vertex plain i s le =
+    let fs : List ℕ = fields_in i s in
+    let v : ℕ = le32 s (4 * i) in
+    let h : plain ≤ length fs = omega (arith, length_fields i s, le) in
+    ap (parted_text plain) (fields_more i s)
+    ∙ (λ t. flat_map field_text (take-append-le plain fs (v ∷ []) h t) ++ flat_map vertex_text (drop-append-le plain fs (v ∷ []) h t))
+    ∙ ap (λ l. flat_map field_text (take plain fs) ++ l) (flat_map_append vertex_text (drop plain fs) (v ∷ []) ∙ ap (λ l. flat_map vertex_text (drop plain fs) ++ l) (append-nil (vertex_text v)))
+    ∙ sym (append_assoc (flat_map field_text (take plain fs)) (flat_map vertex_text (drop plain fs)) (vertex_text v))
+
+-- the text of the fields so far, then that of one more
+pub plain_wrote : (before mid new after s : List ℕ) (at p r q plain i v : ℕ) → Wrote before at (parted_text plain (fields_in i s)) mid p → i < plain → v ≡ le32 s (4 * i)
+    → Wrote mid p (field_text v) new r → after ≡ new → q ≡ r → Wrote before at (parted_text plain (fields_in (i + 1) s)) after q
+plain_wrote before mid new after s at p r q plain i v f lt ev w ea eq =
+    let text : List ℕ = parted_text plain (fields_in i s) in
+    wrote_as before after (text ++ field_text v) (parted_text plain (fields_in (i + 1) s)) at q
+    (ap (λ u. text ++ field_text u) ev ∙ sym (parted_plain plain i s lt))
+    (wrote_more before mid after text (field_text v) at p q f (ea ∙ w.0, eq ∙ w.1))
+
+pub vertex_wrote : (before mid new after s : List ℕ) (at p r q plain i v : ℕ) → Wrote before at (parted_text plain (fields_in i s)) mid p → plain ≤ i → v ≡ le32 s (4 * i)
+    → Wrote mid p (vertex_text v) new r → after ≡ new → q ≡ r → Wrote before at (parted_text plain (fields_in (i + 1) s)) after q
+vertex_wrote before mid new after s at p r q plain i v f le ev w ea eq =
+    let text : List ℕ = parted_text plain (fields_in i s) in
+    wrote_as before after (text ++ vertex_text v) (parted_text plain (fields_in (i + 1) s)) at q
+    (ap (λ u. text ++ vertex_text u) ev ∙ sym (parted_vertex plain i s le))
+    (wrote_more before mid after text (vertex_text v) at p q f (ea ∙ w.0, eq ∙ w.1))

@@ -6,13 +6,13 @@
 ghost use Rattle.std.specs.Prelude.{◌≡◌, ◌+◌, ◌*◌, ◌<◌, ◌≤◌, ◌^◌, length, take, drop, set};
 ghost use mathlib.Core.List.{flat_map};
 ghost use Rattle.rules.specs.Fields.{fields_in};
-ghost use Rattle.rules.specs.Listing.{decimal, word_of, line_of, refusal_line, listing_of};
+ghost use Rattle.rules.specs.Listing.{decimal, word_of, field_text, vertex_text, line_of, refusal_line, listing_of};
 ghost use Rattle.fields.specs.Wrote.{Wrote};
 ghost use Rattle.rules.specs.Rows.{row_text};
-ghost use Rattle.lines.specs.Text.{field_text_in, plain_of, record_at, records_in, recorded, rows_in, joining_rows, stage_rows, stage_text, fixed_of, counted_of, stage_name, stage_named};
+ghost use Rattle.lines.specs.Text.{parted_text, plain_of, record_at, records_in, recorded, rows_in, joining_rows, stage_rows, stage_text, stage_name, stage_named};
 
-use fields::{UNSET, half, put_entry, word};
-use rules::{Refusal, Stage};
+use fields::{half, put_entry, word};
+use rules::{Refusal, Stage, UNSET};
 
 // BYTES AND NUMBERS
 
@@ -72,35 +72,41 @@ pub fn put_number(page: &mut [u8], at: usize, v: usize) -> usize
     put_text(page, at, &digits[first..])
 }
 
-// A field after a blank; where it is a vertex, `-` for none.
-fn put_field(page: &mut [u8], at: usize, v: usize, vertex: bool) -> usize
+// A field after a blank.
+fn put_field(page: &mut [u8], at: usize, v: usize) -> usize
     requires { at < 2 ^ 58 }
-    ensures { Wrote page.old at (field_text_in vertex v) page.new result }
+    ensures { Wrote page.old at (field_text v) page.new result }
 {
-    if vertex && v == UNSET {
-        return put_text(page, at, b" -");
-    }
     let p = put_text(page, at, b" ");
     put_number(page, p, v)
 }
 
-// The fields at a place of some bytes, so many.
-#[tactic(auto, using(crate::specs::Writing::fields_none, crate::specs::Writing::fields_short))]
-fn put_fields(
-    page: &mut [u8],
-    at: usize,
-    bytes: &[u8],
-    from: usize,
-    n: usize,
-    vertex: bool,
-) -> usize
-    requires { (at < 2 ^ 50) × (from < 2 ^ 50) × (n < 2 ^ 50) }
-    ensures { Wrote page.old at (flat_map (field_text_in vertex) (fields_in n (drop from bytes.now))) page.new result }
+// A field that is a vertex after a blank, `-` for none.
+fn put_vertex(page: &mut [u8], at: usize, v: usize) -> usize
+    requires { at < 2 ^ 58 }
+    ensures { Wrote page.old at (vertex_text v) page.new result }
+{
+    if v == UNSET as usize {
+        return put_text(page, at, b" -");
+    }
+    put_field(page, at, v)
+}
+
+// The fields at the front of some bytes, so many: the first ones, as many as are plain, are numbers, the others vertices.
+#[tactic(auto, using(crate::specs::Writing::parted_none, crate::specs::Writing::parted_short))]
+fn put_fields(page: &mut [u8], at: usize, bytes: &[u8], n: usize, plain: usize) -> usize
+    requires { (at < 2 ^ 50) × (n < 2 ^ 50) }
+    ensures { Wrote page.old at (parted_text plain (fields_in n bytes.now)) page.new result }
 {
     let mut p = at;
     // by number: the fields stand in the bytes at every fourth place, and past the end they are read as 0
     for i in 0..n {
-        p = put_field(page, p, word(bytes, from + 4 * i), vertex);
+        let v = word(bytes, 4 * i);
+        p = if i < plain {
+            put_field(page, p, v)
+        } else {
+            put_vertex(page, p, v)
+        };
     }
     p
 }
@@ -139,19 +145,17 @@ fn plain_fields(kind: usize, n: usize) -> usize
     n
 }
 
-// The line of the record at a byte of the body.
-#[tactic(auto, using(crate::specs::LineLaws::name_short, crate::specs::Writing::fields_short))]
-fn put_line(page: &mut [u8], at: usize, body: &[u8], from: usize) -> usize
-    requires { (at < 2 ^ 40) × (from < 4294967296) }
-    ensures { Wrote page.old at (line_of (record_at (drop from body.now))) page.new result }
+// The line of the record at the front of some bytes.
+#[tactic(auto, using(crate::specs::LineLaws::name_short, crate::specs::Writing::parted_short))]
+fn put_line(page: &mut [u8], at: usize, bytes: &[u8]) -> usize
+    requires { at < 2 ^ 40 }
+    ensures { Wrote page.old at (line_of (record_at bytes.now)) page.new result }
 {
-    let kind = half(body, from + 4);
-    let n = word(body, from) / 4;
-    let plain = plain_fields(kind, n);
+    let kind = half(bytes, 4);
+    let n = word(bytes, 0) / 4;
     let p = put_name(page, at, kind);
-    let q = put_fields(page, p, body, from + 6, plain, false);
-    let r = put_fields(page, q, body, from + 6 + 4 * plain, n - plain, true);
-    put_text(page, r, b"\n")
+    let q = put_fields(page, p, back(bytes, 6), n, plain_fields(kind, n));
+    put_text(page, q, b"\n")
 }
 
 // A line for each record of a body. Where the next record begins is known only once this one's length is read.
@@ -160,21 +164,22 @@ pub fn put_lines(page: &mut [u8], body: &[u8]) -> usize
     ensures { Wrote page.old 0 (flat_map line_of (records_in body.now)) page.new result }
 {
     let mut p: usize = 0;
-    let mut from: usize = 0;
-    while from < body.len() {
-        p = put_line(page, p, body, from);
-        from += 6 + word(body, from);
+    let mut rest = body;
+    while !rest.is_empty() {
+        p = put_line(page, p, rest);
+        rest = back(rest, 6 + word(rest, 0));
     }
     p
 }
 
 // The line of a refusal, by its number: callers of the C interface have no other.
+#[tactic(auto, using(crate::specs::Writing::number_short))]
 pub fn put_refusal(page: &mut [u8], number: usize, place: usize) -> usize
     ensures { Wrote page.old 0 (refusal_line number place) page.new result }
 {
     let p = put_text(page, 0, b"refused");
-    let q = put_field(page, p, number, false);
-    let r = put_field(page, q, place, false);
+    let q = put_field(page, p, number);
+    let r = put_field(page, q, place);
     put_text(page, r, b"\n")
 }
 
@@ -192,14 +197,14 @@ pub fn put_listing(page: &mut [u8], out: &[u8], ending: Result<usize, Refusal>) 
 
 // THE ROWS OF A STAGE
 
-// A row of so many fields, at least one, with a blank between two.
-#[tactic(auto, using(crate::specs::Writing::decimal_short, crate::specs::Writing::fields_short))]
-fn put_row(page: &mut [u8], at: usize, bytes: &[u8], from: usize, n: usize) -> usize
-    requires { (at < 2 ^ 44) × (from < 4294967296) × (0 < n) × (n < 2 ^ 40) }
-    ensures { Wrote page.old at (row_text (fields_in n (drop from bytes.now))) page.new result }
+// The row at the front of some bytes, of so many fields, at least one, with a blank between two.
+#[tactic(auto, using(crate::specs::Writing::decimal_short, crate::specs::Writing::parted_short))]
+fn put_row(page: &mut [u8], at: usize, row: &[u8], n: usize) -> usize
+    requires { (at < 2 ^ 44) × (0 < n) × (n < 2 ^ 40) }
+    ensures { Wrote page.old at (row_text (fields_in n row.now)) page.new result }
 {
-    let p = put_number(page, at, word(bytes, from));
-    let q = put_fields(page, p, bytes, from + 4, n - 1, false);
+    let p = put_number(page, at, word(row, 0));
+    let q = put_fields(page, p, back(row, 4), n - 1, n - 1);
     put_text(page, q, b"\n")
 }
 
@@ -211,11 +216,11 @@ fn put_rows(page: &mut [u8], at: usize, bytes: &[u8], fixed: usize, counted: usi
     ensures { Wrote page.old at (flat_map row_text (rows_in fixed counted bytes.now)) page.new result × (result < at + 2 ^ 40) }
 {
     let mut p = at;
-    let mut from: usize = 0;
-    while from < bytes.len() {
-        let n = fixed + counted * word(bytes, from + 4);
-        p = put_row(page, p, bytes, from, n);
-        from += 4 * n;
+    let mut rest = bytes;
+    while !rest.is_empty() {
+        let n = fixed + counted * word(rest, 4);
+        p = put_row(page, p, rest, n);
+        rest = back(rest, 4 * n);
     }
     p
 }
@@ -235,32 +240,19 @@ fn put_joining(page: &mut [u8], bytes: &[u8]) -> usize
     put_rows(page, q, loops, 2, 2)
 }
 
-// How many fields a row of a stage has at least, and how many more for each that its second field counts.
-#[tactic(auto, unfolding(crate::specs::Text::fixed_of, crate::specs::Text::counted_of))]
-fn row_fields(stage: Stage) -> (usize, usize)
-    ensures { (result.0 ≡ fixed_of stage) × (result.1 ≡ counted_of stage) × (0 < result.0) × (result.0 ≤ 7) × (result.1 ≤ 2) }
-{
-    match stage {
-        Stage::Read => (4, 0),
-        Stage::Pair => (1, 0),
-        Stage::Walk | Stage::Fans => (3, 0),
-        Stage::Loops | Stage::Shells | Stage::Lumps => (2, 1),
-        _ => (2, 0),
-    }
-}
-
 // A line for each row of a stage.
-#[tactic(auto, using(crate::specs::LineLaws::stage_edges, crate::specs::LineLaws::stage_other))]
+#[tactic(auto, using(crate::specs::LineLaws::stage_edges), unfolding(crate::specs::Text::stage_rows))]
 fn put_stage_rows(page: &mut [u8], stage: Stage, bytes: &[u8]) -> usize
     requires { length bytes.now < 4294967296 }
     ensures { Wrote page.old 0 (flat_map row_text (stage_rows stage bytes.now)) page.new result }
 {
     match stage {
         Stage::Edges | Stage::Joining => put_joining(page, bytes),
-        _ => {
-            let (fixed, counted) = row_fields(stage);
-            put_rows(page, 0, bytes, fixed, counted)
-        }
+        Stage::Read => put_rows(page, 0, bytes, 4, 0),
+        Stage::Pair => put_rows(page, 0, bytes, 1, 0),
+        Stage::Merge | Stage::VertexLoops => put_rows(page, 0, bytes, 2, 0),
+        Stage::Walk | Stage::Fans => put_rows(page, 0, bytes, 3, 0),
+        Stage::Loops | Stage::Shells | Stage::Lumps => put_rows(page, 0, bytes, 2, 1),
     }
 }
 
@@ -312,7 +304,7 @@ const STAGES: [Stage; 11] = [
 ];
 
 // The stage of a name, if there is one.
-#[tactic(auto, using(crate::specs::LineLaws::pointwise_same), unfolding(crate::specs::Text::stage_named))]
+#[tactic(auto, using(lists::specs::SameLists::pointwise_same), unfolding(crate::specs::Text::stage_named))]
 pub fn stage_named(name: &[u8]) -> Option<Stage>
     ensures { result ≡ stage_named name.now }
 {

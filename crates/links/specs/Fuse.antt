@@ -53,9 +53,6 @@ module _ (t : LinkTables) (y p k bound : ℕ) (s : Span) (can : Fusable t y) (ep
   lent_nexts : bound ≤ length t.nexts
   lent_nexts = omega (arith, here_can.held.nexts_hold)
 
-  lent_head : k + 1 ≤ length t.heads
-  lent_head = omega (arith, here_can.held.room)
-
   slot_after : start ≤ p
   slot_after = omega (arith, start_is, here_can.own.from_start)
 
@@ -71,10 +68,10 @@ module _ (t : LinkTables) (y p k bound : ℕ) (s : Span) (can : Fusable t y) (ep
       ]
 
   -- what stands in the tables when the lent parts are back, where the stretches are the first of a table
-  pub fuse_is : (x n : ℕ) (codes nexts head spots : List ℕ) (table stretches : List Span) → t.stretches ≡ take n table → Turned (stretch t.codes start bound) (stretch t.nexts start bound)
-      (stretch t.heads k (k + 1)) start p x codes nexts head
+  pub fuse_is : (x n : ℕ) (codes nexts : List ℕ) (head : ℕ) (spots : List ℕ) (table stretches : List Span) → t.stretches ≡ take n table
+      → Turned (stretch t.codes start bound) (stretch t.nexts start bound) start p x codes nexts head
       → spots ≡ set t.spots x p → stretches ≡ set table k (shorter s)
-      → links_of (put_mid start (bound - start) t.codes codes) (put_mid start (bound - start) t.nexts nexts) (put_mid k ((k + 1) - k) t.heads head) t.owners spots (take n stretches) ≡ fused_at t y x
+      → links_of (put_mid start (bound - start) t.codes codes) (put_mid start (bound - start) t.nexts nexts) (set t.heads k head) t.owners spots (take n stretches) ≡ fused_at t y x
   unfolding fused_in
   fuse_is x n codes nexts head spots table stretches first w es' et =
       let below : k < n = omega (arith, is_loop, ap length first, length-take n table) in
@@ -88,10 +85,7 @@ module _ (t : LinkTables) (y p k bound : ℕ) (s : Span) (can : Fusable t y) (ep
       let en : put_mid start (bound - start) t.nexts nexts ≡ set t.nexts p (get_or t.nexts (get_or t.nexts p 0) 0) =
       part_set t.nexts nexts start bound p (get_or t.nexts (get_or t.nexts p 0) 0) slot_after (omega (arith, here_can.own.to_end)) lent_nexts
       (w.links ∙ ap (set (stretch t.nexts start bound) (p - start)) after) in
-      let z : 0 ≡ k - k = omega arith in
-      let eh : put_mid k ((k + 1) - k) t.heads head ≡ set t.heads k p =
-      part_set t.heads head k (k + 1) k p (omega arith) (omega arith) lent_head (w.front ∙ ap (λ i. set (stretch t.heads k (k + 1)) i p) z) in
-      (λ i. links_of (ec i) (en i) (eh i) t.owners (es' i) (shorter_now i))
+      (λ i. links_of (ec i) (en i) (set t.heads k (w.front i)) t.owners (es' i) (shorter_now i))
       ∙ (λ i. fused_in t ((ek ∙ ap (λ z. get_or t.owners z 0) ep) i) (ep i) x)
 
 -- loop k with one item for the first two, and every other loop as it was

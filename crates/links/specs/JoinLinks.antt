@@ -14,7 +14,7 @@ use Rattle.rules.specs.declared.Item.{Item}
 use Rattle.rules.specs.declared.EdgeData.{EdgeData}
 use Rattle.rules.specs.Sense.{sense_of, sense_number}
 use Rattle.rules.specs.Join.{edge_data_at, place_in}
-use Rattle.edges.specs.Table.{item_in, Laid}
+use Rattle.edges.specs.Table.{item_in, item_number, Laid}
 use Rattle.edges.specs.LoopLaws.{item_is}
 use Rattle.theorems.specs.Linked.{LoopsSound}
 use Rattle.theorems.specs.Ends.{ends_one, TwoEdges}
@@ -36,7 +36,7 @@ loops_of t = map (loop_of t) (below (length t.stretches))
 
 -- the number of the item of edge a that ends at fan v
 unfoldable pub in_code : List EdgeData → ℕ → ℕ → ℕ
-in_code es v a = 2 * a + sense_number (in_sense v (edge_data_at es a))
+in_code es v a = item_number a (in_sense v (edge_data_at es a))
 
 in_code_lem : (es : List EdgeData) (v a : ℕ) → item_in (in_code es v a) ≡ in_item es v a
 unfolding in_code
@@ -48,15 +48,11 @@ sense_number_lem zero h = refl
 sense_number_lem (suc zero) h = refl
 sense_number_lem (suc (suc n)) h = absurd (omega arith)
 
-item_number : (x : ℕ) → 2 * (item_in x).edge + sense_number (item_in x).sense ≡ x
-item_number x = let r : x % 2 < 2 = omega arith in omega (arith, sense_number_lem (x % 2) r)
+item_back : (x : ℕ) → item_number (item_in x).edge (item_in x).sense ≡ x
+item_back x = let r : x % 2 < 2 = omega arith in omega (arith, sense_number_lem (x % 2) r)
 
 item_one : (x y : ℕ) → item_in x ≡ item_in y → x ≡ y
-item_one x y e = sym (item_number x) ∙ ap (λ (i : Item). 2 * i.edge + sense_number i.sense) e ∙ item_number y
-
--- the new edge's items
-new_same : (n : ℕ) → item_in (2 * n) ≡ record { edge = n; sense = Same }
-new_same n = let z : 2 * n ≡ 2 * n + 0 = omega arith in ap item_in z ∙ item_is n Same
+item_one x y e = sym (item_back x) ∙ ap (λ (i : Item). item_number i.edge i.sense) e ∙ item_back y
 
 -- a sum that is not 0 has a term that is not 0
 sum_there : {A : Type 0} (f : A → ℕ) (l : List A) → 1 ≤ sum_of f l → (x : A) × (x ∈ l) × (1 ≤ f x)
@@ -158,13 +154,13 @@ module _ (es : List EdgeData) (v a b : ℕ) (two : TwoEdges es v a b) (t : LinkT
       omega (arith, ap (λ j. times_of (in_item es v b) (loop_of t j)) e)
 
   abbrev once : LinkTables
-  once = fused_at t (in_code es v a) (2 * length es)
+  once = fused_at t (in_code es v a) (item_number (length es) Same)
 
-  first_fused : Fused t once ka (2 * length es) first_at.others
+  first_fused : Fused t once ka (item_number (length es) Same) first_at.others
   first_fused =
       let w : At t ka (in_code es v a) first_loop.2.rest = first_at in
-      let e : 2 * length es / 2 ≡ length es = omega arith in
-      fused t linked ka w.is w.at (in_code es v a) w.next w.others w.shape (2 * length es) (omega arith) (absent (2 * length es) e)
+      let e : (item_number (length es) Same) / 2 ≡ length es = omega arith in
+      fused t linked ka w.is w.at (in_code es v a) w.next w.others w.shape (item_number (length es) Same) (omega arith) (absent (item_number (length es) Same) e)
 
   -- the other loop is as it was
   other_ring : ring_at once kb ≡ ring_at t kb
@@ -176,33 +172,33 @@ module _ (es : List EdgeData) (v a b : ℕ) (two : TwoEdges es v a b) (t : LinkT
   still_is : IsLoop once.stretches kb
   still_is = let q = second_at.is in omega (arith, first_fused.loops)
 
-  still_absent : (j : ℕ) → IsLoop once.stretches j → (2 * length es + 1) ∈ ring_at once j → ⊥
+  still_absent : (j : ℕ) → IsLoop once.stretches j → (item_number (length es) Reversed) ∈ ring_at once j → ⊥
   still_absent j q m =
       let w : At t ka (in_code es v a) first_loop.2.rest = first_at in
-      let x : ℕ = 2 * length es + 1 in
+      let x : ℕ = item_number (length es) Reversed in
       let e : x / 2 ≡ length es = omega arith in
       let q₀ : IsLoop t.stretches j = omega (arith, first_fused.loops) in
       elim (ℕ_discrete j ka) [
         | yes p ↦
-            ⊎_elim (λ (h : x ≡ 2 * length es). omega arith)
+            ⊎_elim (λ (h : x ≡ item_number (length es) Same). omega arith)
             (λ h. absent x e ka w.is (turn_in w.at (ring_at t ka) x (subst (λ l. x ∈ l) (sym w.shape) (Memᴰ.tail (Memᴰ.tail h)))))
             (Memᴰ.cases_cons (subst (λ l. x ∈ l) (ap (ring_at once) p ∙ first_fused.own) m))
         | no p ↦ absent x e j q₀ (subst (λ l. x ∈ l) (first_fused.others j q₀ p) m)
       ]
 
   abbrev twice : LinkTables
-  twice = fused_at once (in_code es v b) (2 * length es + 1)
+  twice = fused_at once (in_code es v b) (item_number (length es) Reversed)
 
-  second_fused : Fused once twice kb (2 * length es + 1) second_at.others
+  second_fused : Fused once twice kb (item_number (length es) Reversed) second_at.others
   second_fused =
-      fused once first_fused.linked kb still_is second_at.at (in_code es v b) second_at.next second_at.others still_at (2 * length es + 1) (omega (arith, first_fused.room)) still_absent
+      fused once first_fused.linked kb still_is second_at.at (in_code es v b) second_at.next second_at.others still_at (item_number (length es) Reversed) (omega (arith, first_fused.room)) still_absent
 
   -- each loop after the join
   first_now : loop_of twice ka ≡ joined_items es v a b (loop_of t ka)
   unfolding ka
   first_now =
       ap (map item_in) (second_fused.others ka (omega (arith, first_fused.loops, first_at.is)) (λ e. differ (sym e)) ∙ first_fused.own)
-      ∙ (λ i. new_same (length es) i ∷ first_at.are i)
+      ∙ (λ i. item_is (length es) Same i ∷ first_at.are i)
       ∙ sym (joined_found es v a b (loop_of t ka) (in_item es v a) (out_item es v b) first_loop.2 ∙ ap (λ h. new_item es (cond h Same Reversed) ∷ first_loop.2.rest) (eq-eqb a a refl))
 
   second_now : loop_of twice kb ≡ joined_items es v a b (loop_of t kb)
@@ -226,7 +222,7 @@ module _ (es : List EdgeData) (v a b : ℕ) (two : TwoEdges es v a b) (t : LinkT
       (place_cases es v a b two (loop_of t j) (sound_at j q)))
 
   -- both places replaced
-  pub joined_twice : Joined es v a b t (fused_at (fused_at t (in_code es v a) (2 * length es)) (in_code es v b) (2 * length es + 1))
+  pub joined_twice : Joined es v a b t (fused_at (fused_at t (in_code es v a) (item_number (length es) Same)) (in_code es v b) (item_number (length es) Reversed))
   joined_twice = record {
     linked = second_fused.linked;
     loops = λ j q.
@@ -249,7 +245,7 @@ module _ (es : List EdgeData) (v a b : ℕ) (two : TwoEdges es v a b) (t : LinkT
       let w : At t ka (in_code es v a) first_loop.2.rest = first_at in
       can_fuse t linked ka w.is w.at (in_code es v a) w.next w.others w.shape
 
-  pub second_can : Fusable (fused_at t (in_code es v a) (2 * length es)) (in_code es v b)
+  pub second_can : Fusable (fused_at t (in_code es v a) (item_number (length es) Same)) (in_code es v b)
   second_can = can_fuse once first_fused.linked kb still_is second_at.at (in_code es v b) second_at.next second_at.others still_at
 
 -- what a join needs: sound loops, the two edges that end at the corner, and room for the new edge's items
@@ -261,19 +257,24 @@ pub record Joinable (es : List EdgeData) (v a b new : ℕ) (t : LinkTables) : Ty
   pub room : 2 * new + 1 < length t.spots
   pub few : new < 2147483647
 
-module _ (es : List EdgeData) (v a b new : ℕ) (t : LinkTables) (j : Joinable es v a b new t) (x y : ℕ) (ex : x ≡ in_code es v a) (ey : y ≡ in_code es v b) where
+module _ (es : List EdgeData) (v a b new : ℕ) (t : LinkTables) (j : Joinable es v a b new t) (x y : ℕ) (ex : x ≡ in_code es v a) (ey : y ≡ in_code es v b) (n m : ℕ)
+    (en : n ≡ item_number new Same) (em : m ≡ item_number new Reversed) where
   rooms : 2 * length es + 1 < length t.spots
   rooms = omega (arith, j.room, j.number)
 
   pub fuse_first : Fusable t x
   fuse_first = subst (Fusable t) (sym ex) (first_can es v a b j.two t j.linked j.sound rooms)
 
-  module _ (u : LinkTables) (eu : u ≡ fused_at t x (2 * new)) where
-    once_is : u ≡ fused_at t (in_code es v a) (2 * length es)
-    once_is = eu ∙ (λ i. fused_at t (ex i) (2 * j.number i))
+  module _ (u : LinkTables) (eu : u ≡ fused_at t x n) where
+    once_is : u ≡ fused_at t (in_code es v a) (item_number (length es) Same)
+    once_is = eu ∙ (λ i. fused_at t (ex i) ((en ∙ ap (λ k. item_number k Same) j.number) i))
 
     pub fuse_second : Fusable u y
-    fuse_second = subst (λ (s : LinkTables). Fusable s y) (sym once_is) (subst (Fusable (fused_at t (in_code es v a) (2 * length es))) (sym ey) (second_can es v a b j.two t j.linked j.sound rooms))
+    fuse_second =
+        subst (λ (s : LinkTables). Fusable s y) (sym once_is)
+        (subst (Fusable (fused_at t (in_code es v a) (item_number (length es) Same))) (sym ey) (second_can es v a b j.two t j.linked j.sound rooms))
 
-    pub join_is : (w : LinkTables) → w ≡ fused_at u y (2 * new + 1) → Joined es v a b t w
-    join_is w ew = subst (Joined es v a b t) (sym (ew ∙ (λ i. fused_at (once_is i) (ey i) (2 * j.number i + 1)))) (joined_twice es v a b j.two t j.linked j.sound rooms)
+    pub join_is : (w : LinkTables) → w ≡ fused_at u y m → Joined es v a b t w
+    join_is w ew =
+        let last = em ∙ ap (λ k. item_number k Reversed) j.number in
+        subst (Joined es v a b t) (sym (ew ∙ (λ i. fused_at (once_is i) (ey i) (last i)))) (joined_twice es v a b j.two t j.linked j.sound rooms)

@@ -2,19 +2,20 @@
 use Prim.Native.Nat.{ℕ, zero, suc, ◌+◌, ◌-◌, ◌≤◌, ◌<◌}
 use native.Mathlib.Omega.{arith}
 use Rattle.std.proofs.Math.Decide.{ℕ_discrete}
-use Rattle.std.proofs.Common.{not-suc-le-zero, add-one, sym, ap, subst, ◌∙◌, append_assoc, append-nil, drop_of_length-le}
-use Rattle.std.specs.Prelude.{◌≡◌, List, ◌++◌, length, get_or, set, take, drop}
+use Rattle.std.proofs.Common.{not-suc-le-zero, add-one, sym, ap, subst, ◌∙◌, append-nil, drop_of_length-le}
+use Rattle.std.specs.Prelude.{◌≡◌, List, ◌++◌, length, get_or, set}
 use Rattle.std.proofs.Math.Path.{refl}
 use Rattle.std.proofs.lemmas.List.{length-map}
 use Rattle.std.proofs.lemmas.List.Edits.{sets, sets-eq}
 use Rattle.std.proofs.Math.Seq.{length-sets}
-use borrow.Rule.Slice.PartMut.{put_mid, Post-is, put_same}
+use borrow.Rule.Slice.PartMut.{put_mid, put_same}
 use Rattle.fields.specs.declared.Span.{Span}
 use Rattle.fields.specs.Spans.{span_at}
 use Rattle.lists.specs.Stretches.{stretch, length_stretch, own_part, before_part}
 use Rattle.edges.specs.Table.{loop_at, Laid}
 use Rattle.links.specs.Tables.{LinkTables, follow, IsLoop, size_at, codes_at, ring_at}
 use Rattle.links.specs.Chains.{length_follow}
+use Rattle.lists.specs.StoreRuns.{sets_part}
 
 -- ONE LOOP
 
@@ -34,11 +35,6 @@ sets_whole : (l r : List ℕ) → length r ≡ length l → sets l 0 r ≡ r
 sets_whole l r h = sets-eq r l 0 (omega arith) ∙ ap (λ t. r ++ t) (drop_of_length-le l {i = 0 + length r} (omega arith)) ∙ append-nil r
 
 -- a run of stores as a part rewritten
-sets_part : (a e : ℕ) (l r : List ℕ) → a ≤ e → e ≤ length l → length r ≡ e - a → sets l a r ≡ put_mid a (e - a) l r
-sets_part a e l r order inside size =
-    let z : a + length r ≡ e = omega arith in
-    sets-eq r l a (omega arith) ∙ ap (λ k. take a l ++ r ++ drop k l) z ∙ append_assoc (take a l) r (drop e l) ∙ sym (ap (λ s. take a l ++ (r ++ s)) (Post-is a e l order))
-
 ring_size : (codes nexts : List ℕ) (x n : ℕ) → length (codes_at codes (follow nexts x n)) ≡ n
 ring_size codes nexts x n = length-map (follow nexts x n) (λ s. get_or codes s 0) ∙ length_follow nexts x n
 
@@ -94,9 +90,9 @@ module _ (codes nexts heads : List ℕ) (stretches : List Span) (items₀ : List
         ≡ put_mid (span_at stretches k).start (size_at stretches k) (laid_upto codes nexts heads stretches items₀ k) (codes_at codes (follow nexts (get_or heads k 0) (size_at stretches k)))
     unfolding laid_upto
     part k q =
-        sets_part (span_at stretches k).start (span_at stretches k).end (laid_upto codes nexts heads stretches items₀ k)
+        sym (sets_part (span_at stretches k).start (span_at stretches k).end (laid_upto codes nexts heads stretches items₀ k)
         (codes_at codes (follow nexts (get_or heads k 0) (size_at stretches k))) (laid.order k q) (omega (arith, laid.inside k q, length_upto k))
-        (ring_size codes nexts (get_or heads k 0) (size_at stretches k))
+        (ring_size codes nexts (get_or heads k 0) (size_at stretches k)))
 
     -- the loop k laid out in its own stretch
     pub upto_part : (items own : List ℕ) (k head : ℕ) → k < length stretches → items ≡ laid_upto codes nexts heads stretches items₀ k → head ≡ get_or heads k 0

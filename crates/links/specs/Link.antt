@@ -2,11 +2,11 @@
 use Prim.Native.Nat.{ℕ, zero, suc, ◌+◌, ◌-◌, ◌≤◌, ◌<◌}
 use native.Mathlib.Omega.{arith}
 use Rattle.std.proofs.Math.Decide.{ℕ_discrete, dec_lt}
-use Rattle.std.proofs.Common.{not-suc-le-zero, add-one, ap, ◌∙◌, inl, inr, ⊎_elim, length-set, get_or-set_same, get_or-set_other, drop-cons, eq-eqb, ne_eqb}
-use Rattle.std.specs.Prelude.{◌≡◌, ◌⊎◌, List, ◌∷◌, map, cond, length, get_or, set, take, drop, eqb}
+use Rattle.std.proofs.Common.{not-suc-le-zero, add-one, ap, ◌∙◌, inl, inr, ⊎_elim, length-set, get_or-set_same, get_or-set_other, drop-cons}
+use Rattle.std.specs.Prelude.{◌≡◌, ◌⊎◌, List, ◌∷◌, map, length, get_or, set, take, drop}
 use Rattle.std.proofs.Math.Path.{refl, sym, subst}
 use Rattle.fields.specs.declared.Span.{Span}
-use Rattle.fields.specs.Spans.{span_at}
+use Rattle.fields.specs.Spans.{span_at, place_after, after_wraps, after_on}
 use Rattle.lists.specs.Lists.{◌∈◌, from}
 use Rattle.lists.specs.Runs.{from_in, from_nodup, length_from}
 use Rattle.lists.specs.Members.{map_same}
@@ -20,18 +20,6 @@ pub record InLoop (stretches : List Span) (j r : ℕ) : Type 0 where
   pub is : IsLoop stretches j
   pub from_start : (span_at stretches j).start ≤ r
   pub to_end : r < (span_at stretches j).end
-
--- the slot after r in a loop
-unfoldable pub next_slot : ℕ → ℕ → ℕ → ℕ
-next_slot start end r = cond (eqb (r + 1) end) start (r + 1)
-
-pub slot_wraps : (start end r : ℕ) → r + 1 ≡ end → start ≡ next_slot start end r
-unfolding next_slot
-slot_wraps start end r e = sym (ap (λ t. cond t start (r + 1)) (eq-eqb (r + 1) end e))
-
-pub slot_on : (start end r : ℕ) → (r + 1 ≡ end → ⊥) → r + 1 ≡ next_slot start end r
-unfolding next_slot
-slot_on start end r e = sym (ap (λ t. cond t start (r + 1)) (ne_eqb (r + 1) end e))
 
 -- what linking needs: the loops are laid out, no item stands twice in them, and there are so many slots for items and loops and so many numbers of items
 pub record Linkable (items : List ℕ) (stretches : List Span) (slots codes : ℕ) : Type 0 where
@@ -56,7 +44,7 @@ Reached k s j r = (j < k) ⊎ ((j ≡ k) × (r < s))
 -- what the tables have of slot r of loop j
 pub record SlotLinked (items : List ℕ) (stretches : List Span) (t : LinkTables) (j r : ℕ) : Type 0 where
   pub code : get_or t.codes r 0 ≡ get_or items r 0
-  pub next : get_or t.nexts r 0 ≡ next_slot (span_at stretches j).start (span_at stretches j).end r
+  pub next : get_or t.nexts r 0 ≡ place_after (span_at stretches j).start (span_at stretches j).end r
   pub owner : get_or t.owners r 0 ≡ j
   pub spot : get_or t.spots (get_or items r 0) 0 ≡ r
 
@@ -139,7 +127,7 @@ module _ (items : List ℕ) (stretches : List Span) (slots codes : ℕ) (t : Lin
 
   -- one slot more
   pub linking_more : (s x q : ℕ) (list nexts owners spots : List ℕ) → Linking items stretches slots codes t k s → own.start ≤ s → s < own.end → x ≡ get_or items s 0
-      → q ≡ next_slot own.start own.end s → list ≡ set t.codes s x → nexts ≡ set t.nexts s q → owners ≡ set t.owners s k → spots ≡ set t.spots x s
+      → q ≡ place_after own.start own.end s → list ≡ set t.codes s x → nexts ≡ set t.nexts s q → owners ≡ set t.owners s k → spots ≡ set t.spots x s
       → Linking items stretches slots codes (record t { codes = list; nexts = nexts; owners = owners; spots = spots }) k (s + 1)
   linking_more s x q list nexts owners spots u low high ex eq ec en eo et = record {
     ready = u.ready;
@@ -173,7 +161,7 @@ module _ (items : List ℕ) (stretches : List Span) (slots codes : ℕ) (t : Lin
       now : SlotLinked items stretches after k s
       now = record {
         code = ap (λ l. get_or l s 0) ec ∙ get_or-set_same t.codes s x 0 (omega (arith, inside, u.sized.codes_size)) ∙ ex;
-        next = ap (λ l. get_or l s 0) en ∙ get_or-set_same t.nexts s q 0 (omega (arith, inside, u.sized.nexts_size)) ∙ eq ∙ (λ i. next_slot (is_own i).start (is_own i).end s);
+        next = ap (λ l. get_or l s 0) en ∙ get_or-set_same t.nexts s q 0 (omega (arith, inside, u.sized.nexts_size)) ∙ eq ∙ (λ i. place_after (is_own i).start (is_own i).end s);
         owner = ap (λ l. get_or l s 0) eo ∙ get_or-set_same t.owners s k 0 (omega (arith, inside, u.sized.owners_size));
         spot = ap (λ l. get_or l (get_or items s 0) 0) et ∙ ap (λ z. get_or (set t.spots x s) z 0) (sym ex)
             ∙ get_or-set_same t.spots x s 0 (omega (arith, ex, u.ready.known k s here, u.sized.spots_size));
@@ -236,8 +224,8 @@ module _ (items : List ℕ) (slots codes : ℕ) (t : LinkTables) (n : ℕ) (all 
         let last : (start + m) + 1 ≡ end = omega arith in
         subst (λ w. Chain t.nexts w (from start (suc m)) w) (sym head_is)
         (chain_from_lem t.nexts start m start
-        (λ r p q. (slot r p (omega arith)).next ∙ sym (slot_on start end r (λ (z : r + 1 ≡ end). omega arith)))
-        ((slot (start + m) (omega arith) (omega arith)).next ∙ sym (slot_wraps start end (start + m) last)))
+        (λ r p q. (slot r p (omega arith)).next ∙ sym (after_on start end r (λ (z : r + 1 ≡ end). omega arith)))
+        ((slot (start + m) (omega arith) (omega arith)).next ∙ sym (after_wraps start end (start + m) last)))
 
     inside : end ≤ length items
     inside = u.ready.laid.inside k is

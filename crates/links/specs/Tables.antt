@@ -86,10 +86,10 @@ Linked t = (k : ℕ) → IsLoop t.stretches k → Stands t k (slots_at t k)
 
 -- a loop's own stretch of the item list and of the links, which starts at `start`, and its head, after the item in slot p and the next one
 -- turned to the front and the item x took their place
-pub record Turned (codes nexts head : List ℕ) (start p x : ℕ) (codes' nexts' head' : List ℕ) : Type 0 where
+pub record Turned (codes nexts : List ℕ) (start p x : ℕ) (codes' nexts' : List ℕ) (head' : ℕ) : Type 0 where
   pub items : codes' ≡ set codes (p - start) x
   pub links : nexts' ≡ set nexts (p - start) (get_or nexts (get_or nexts (p - start) 0 - start) 0)
-  pub front : head' ≡ set head 0 p
+  pub front : head' ≡ p
 
 -- a stretch with one member less
 abbrev pub shorter : Span → Span

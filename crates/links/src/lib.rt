@@ -10,11 +10,11 @@ ghost use Rattle.fields.specs.Spans.{span_at};
 ghost use Rattle.links.specs.Tables.{IsLoop, own_end, follow, codes_at, Turned, fused_at, Fusable};
 ghost use Rattle.links.specs.JoinLinks.{in_code, Joinable, Joined};
 ghost use Rattle.links.specs.Lay.{laid_by};
-ghost use Rattle.links.specs.Link.{next_slot, Linkable, Linking, LinkedLoops};
+ghost use Rattle.links.specs.Link.{Linkable, Linking, LinkedLoops};
 
-use edges::edge_start;
-use fields::{NO_SPAN, Span, get, put, put_entry, span_at};
-use rules::EdgeData;
+use edges::{edge_at, item_number};
+use fields::{NO_SPAN, Span, get, place_after, put, put_entry, span_at};
+use rules::{EdgeData, Sense};
 use std::marker::Model;
 
 // The item list while edges are joined and the slot after each slot; where each loop starts, the loop of each slot, the slot
@@ -50,18 +50,6 @@ impl<const SLOTS: usize, const CODES: usize> Model for Links<SLOTS, CODES> {
 
 // LINKING
 
-// The slot after s in the loop from `start` to `end`.
-#[tactic(auto, unfolding(crate::specs::Link::next_slot))]
-fn next_slot(start: usize, end: usize, s: usize) -> usize
-    requires { (start < 4294967296) × (s < end) × (end < 4294967296) }
-    ensures { (result ≡ next_slot start end s) × (result < 4294967296) }
-{
-    if s + 1 == end {
-        return start;
-    }
-    s + 1
-}
-
 // The first stretches of a table become those of a list.
 fn copy_front(own: &mut [Span], stretches: &[Span])
     requires { length stretches.now ≤ length own.old }
@@ -86,19 +74,19 @@ fn own_end(stretches: &[Span], size: usize, k: usize) -> usize
 fn turn_and_replace(
     part: &mut [u32],
     nexts: &mut [u32],
-    head: &mut [u32],
+    head: &mut u32,
     start: usize,
     p: usize,
     x: usize,
 )
     requires { (start ≤ p) × (start ≤ get_or nexts.old (p - start) 0) × (p < 4294967296) × (x < 4294967296) }
-    ensures { Turned part.old nexts.old head.old start p x part.new nexts.new head.new }
+    ensures { Turned part.old nexts.old start p x part.new nexts.new head.new }
 {
     let q = get(nexts, p - start);
     let after = get(nexts, q - start);
     put(part, p - start, x);
     put(nexts, p - start, after);
-    put(head, 0, p);
+    *head = p as u32;
 }
 
 // The item of edge a that ends at corner v.
@@ -107,7 +95,12 @@ fn in_code(rows: &[EdgeData], v: usize, a: usize) -> usize
     requires { a < 2147483648 }
     ensures { result ≡ in_code rows.now v a }
 {
-    2 * a + usize::from(edge_start(rows, a) == v)
+    let sense = if edge_at(rows, a).start as usize == v {
+        Sense::Reversed
+    } else {
+        Sense::Same
+    };
+    item_number(a, sense)
 }
 
 // A loop's own stretch of the item list is rewritten: its items from the head on.
@@ -168,7 +161,7 @@ impl<const SLOTS: usize, const CODES: usize> Links<SLOTS, CODES> {
         // by number: a slot is a place of four tables, and the one after it is a number too
         for s in start..end {
             let x = get(items, s);
-            let q = next_slot(start, end, s);
+            let q = place_after(start, end, s);
             put(&mut self.list, s, x);
             put(&mut self.nexts, s, q);
             put(&mut self.owners, s, k);
@@ -195,7 +188,7 @@ impl<const SLOTS: usize, const CODES: usize> Links<SLOTS, CODES> {
         turn_and_replace(
             &mut list[start..bound],
             &mut nexts[start..bound],
-            &mut heads[k..k + 1],
+            &mut heads[k],
             start,
             p,
             x,
@@ -218,8 +211,8 @@ impl<const SLOTS: usize, const CODES: usize> Links<SLOTS, CODES> {
     {
         let x = in_code(rows, v, a);
         let y = in_code(rows, v, b);
-        self.fuse(x, 2 * new);
-        self.fuse(y, 2 * new + 1);
+        self.fuse(x, item_number(new, Sense::Same));
+        self.fuse(y, item_number(new, Sense::Reversed));
     }
 
     // LAYING OUT
@@ -231,7 +224,7 @@ impl<const SLOTS: usize, const CODES: usize> Links<SLOTS, CODES> {
     {
         let own = &self.stretches[..self.loops];
         for (k, stretch) in own.iter().enumerate() {
-            let part = &mut items[stretch.start as usize..stretch.end as usize];
+            let part = &mut items[stretch.range()];
             lay_loop(&self.list, &self.nexts, get(&self.heads, k), part);
         }
     }

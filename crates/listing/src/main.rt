@@ -17,11 +17,11 @@ fn main(rt: HostRuntime) {
         usage: "listing [FILE]: lists the body of a job; without FILE the job is read from standard input",
     };
     let mut job = [0u8; JOB];
-    let Some(n) = programs::read_job(&rt, program, 1, &mut job) else {
+    let Some(n) = program.read_job(&rt, 1, &mut job) else {
         return;
     };
     let mut out = [0u8; 65536];
     let mut page = [0u8; PAGE];
     let length = listed::list(lines::front(&job, n), &mut out, &mut page);
-    programs::print(&rt, program, lines::front(&page, length));
+    program.print(&rt, lines::front(&page, length));
 }

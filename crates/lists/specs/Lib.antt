@@ -19,6 +19,7 @@ pub mod Constants
 pub mod SameLists
 pub mod Prefixes
 pub mod ListEnds
+pub mod Positions
 pub mod KeepBelow
 pub mod StoreRuns
 pub mod Stretches
@@ -28,3 +29,4 @@ pub mod Cuts
 pub mod Rows
 pub mod Leasts
 pub mod Yielded
+pub mod Backwards

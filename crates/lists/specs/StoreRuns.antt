@@ -1,7 +1,8 @@
 -- Laws of runs of stores: the members of a list stored one after the other from a place on (`sets` of lib.Seq).
-use Rattle.std.specs.Prelude.{◌≡◌, refl, ◌⊎◌, List, [], ◌∷◌, ℕ, zero, suc, ◌+◌, ◌≤◌, ◌<◌, length, get_or, set}
-use Rattle.std.proofs.Common.{ap, ◌∙◌, inl, inr, ⊎_elim, not-suc-le-zero, arith, length-set, get_or-set_same, get_or-set_other}
-use Rattle.std.proofs.lemmas.List.Edits.{sets}
+use Rattle.std.specs.Prelude.{◌≡◌, refl, ◌⊎◌, List, [], ◌∷◌, ◌++◌, ℕ, zero, suc, ◌+◌, ◌-◌, ◌≤◌, ◌<◌, length, get_or, set, take, drop}
+use Rattle.std.proofs.Common.{ap, sym, ◌∙◌, inl, inr, ⊎_elim, not-suc-le-zero, arith, append_assoc, length-set, get_or-set_same, get_or-set_other}
+use Rattle.std.proofs.lemmas.List.Edits.{sets, sets-eq}
+use borrow.Rule.Slice.PartMut.{put_mid, Post-is}
 
 -- outside the run the list is as it was
 pub sets_outside : {A : Type 0} (vs l : List A) (i k : ℕ) (d : A) → (k < i) ⊎ (i + length vs ≤ k) → get_or (sets l i vs) k d ≡ get_or l k d
@@ -21,6 +22,12 @@ sets_inside (a ∷ vs) l i zero d h fits =
 sets_inside (a ∷ vs) l i (suc j) d h fits =
     let e : i + suc j ≡ suc i + j = omega arith in
     ap (λ k. get_or (sets (set l i a) (suc i) vs) k d) e ∙ sets_inside vs (set l i a) (suc i) j d (omega arith) (simp length-set (omega arith))
+
+-- a run of stores as a part rewritten
+pub sets_part : {A : Type 0} (a e : ℕ) (l r : List A) → a ≤ e → e ≤ length l → length r ≡ e - a → put_mid a (e - a) l r ≡ sets l a r
+sets_part a e l r order inside size =
+    let z : e ≡ a + length r = omega arith in
+    ap (λ s. take a l ++ (r ++ s)) (Post-is a e l order) ∙ sym (append_assoc (take a l) r (drop e l)) ∙ ap (λ k. take a l ++ r ++ drop k l) z ∙ sym (sets-eq r l a (omega arith))
 
 -- three and four stores at places one after the other
 module _ (i j k : ℕ) (t a b c : List ℕ) (x y z : ℕ) where

@@ -22,7 +22,8 @@ use Rattle.answers.specs.EnterLaws.{indexed_enter}
 use Rattle.records.specs.Limits.{whole_fields}
 use Rattle.load.specs.Placed.{Placed}
 use Rattle.load.specs.ListsMore.{loop_by}
-use Rattle.load.specs.Kept.{loop_kept, kept_index, count_faces, field_is, long, head_job, vertex_job, edge_job, face_job, loop_job, answer_job}
+use Rattle.load.specs.Kept.{loop_kept, kept_index, count_faces, field_is, head_job, vertex_job, edge_job, face_job, loop_job, answer_job}
+use Rattle.answers.specs.RecordLaws.{long}
 
 -- the record at a byte has so many fields
 pub fields_count : (bytes : List ℕ) (at : ℕ) → length (fields_at bytes at) ≡ le32 bytes at / 4
@@ -57,7 +58,7 @@ module _ (bytes ix : List ℕ) (c : Counts) (at : ℕ) (P : Placed c at) (L : Li
   unfolding number_of right_length
   vertex_content kind l =
       let faces = count_faces bytes ix c in
-      let v = field_is bytes ix c at P L I 0 1 (at + 6) (long (le32 bytes at) 1 l) (omega arith) (omega arith) in
+      let v = field_is bytes ix c at P L I 0 1 (at + 6) (long 1 (le32 bytes at) l) (omega arith) (omega arith) in
       λ i. record { face = sym faces i - 1; content = cond (eqb (number_of (kind i)) 5) (of_items (items_of x)) (at_vertex (sym v i)) }
 
   -- the job after a record that is taken

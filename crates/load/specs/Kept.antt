@@ -24,6 +24,7 @@ use Rattle.answers.specs.IndexLaws.{answers_agree}
 use Rattle.answers.specs.EnterLaws.{entered_past, answers_enter}
 use Rattle.load.specs.Placed.{Placed}
 use Rattle.load.specs.ListsMore.{points_same_lem, points_more, edges_same, edges_none, edges_more, loop_by, faces_same, faces_more, loops_same, stretches_same, loops_more, stretches_more}
+use Rattle.answers.specs.RecordLaws.{long}
 
 -- the index with a loop more: its place and its face
 unfoldable pub loop_kept : List ℕ → Counts → ℕ → List ℕ
@@ -71,9 +72,6 @@ pub count_faces : (bytes ix : List ℕ) (c : Counts) → length (faces_in bytes 
 unfolding faces_in
 count_faces bytes ix c = length_table (λ f. face_in bytes (face_byte ix f)) c.faces
 
-pub long : (size m : ℕ) → eqb size (4 * m) ≡ true → size / 4 ≡ m
-long size m e = let q = eqb-true size (4 * m) e in omega arith
-
 module _ (bytes ix : List ℕ) (c : Counts) (at : ℕ) (P : Placed c at) (L : Limited c) (I : Indexed bytes ix c) where
   abbrev x : List ℕ
   x = fields_at bytes at
@@ -103,7 +101,7 @@ module _ (bytes ix : List ℕ) (c : Counts) (at : ℕ) (P : Placed c at) (L : Li
   head_job l p =
       let start = P.first (eqb-true c.part 0 p) in
       let d = counted Head n c in
-      job_is Head ix d (sym (field_is 0 1 6 (long (le32 bytes at) 1 l) (omega arith) (omega arith)))
+      job_is Head ix d (sym (field_is 0 1 6 (long 1 (le32 bytes at) l) (omega arith) (omega arith)))
       (points_same_lem bytes c d refl) (edges_same bytes c d refl refl)
       (faces_same bytes ix ix c d refl L.faces (λ j a b. refl))
       (loops_same bytes ix ix c d refl L.loops (λ j a b. refl)) (stretches_same bytes ix ix c d refl L.loops (λ j a b. refl))
@@ -117,7 +115,7 @@ module _ (bytes ix : List ℕ) (c : Counts) (at : ℕ) (P : Placed c at) (L : Li
       let start = P.here t.0 (omega (arith, t.1)) in
       let d = counted Vertex n c in
       job_is Vertex ix d refl
-      (points_more bytes c d (field x 0) refl (sym (field_is 0 1 (16 + 10 * c.vertices) (long (le32 bytes at) 1 l) (omega arith) (omega arith))))
+      (points_more bytes c d (field x 0) refl (sym (field_is 0 1 (16 + 10 * c.vertices) (long 1 (le32 bytes at) l) (omega arith) (omega arith))))
       (edges_none bytes c d none none)
       (faces_same bytes ix ix c d refl L.faces (λ j a b. refl))
       (loops_same bytes ix ix c d refl L.loops (λ j a b. refl)) (stretches_same bytes ix ix c d refl L.loops (λ j a b. refl))
@@ -130,7 +128,7 @@ module _ (bytes ix : List ℕ) (c : Counts) (at : ℕ) (P : Placed c at) (L : Li
       let t = in_turn_lem c.part 3 p in
       let start = P.here t.0 (omega (arith, t.1)) in
       let q : ℕ = edge_place c c.edges in
-      let four = long (le32 bytes at) 4 l in
+      let four = long 4 (le32 bytes at) l in
       let f0 = field_is 0 4 q four (omega arith) (omega arith) in
       let f1 = field_is 1 4 (q + 4) four (omega arith) (omega arith) in
       let f2 = field_is 2 4 (q + 8) four (omega arith) (omega arith) in
@@ -149,7 +147,7 @@ module _ (bytes ix : List ℕ) (c : Counts) (at : ℕ) (P : Placed c at) (L : Li
   face_job l m =
       let low = leb-false 256 c.faces m in
       let size = I.size in
-      let five = long (le32 bytes at) 5 l in
+      let five = long 5 (le32 bytes at) l in
       let d = counted FaceRecord n c in
       let iy = set ix (5120 + c.faces) at in
       let here : face_byte iy c.faces ≡ at = get_or-set_same ix (5120 + c.faces) at 0 (omega arith) in

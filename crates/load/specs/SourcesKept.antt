@@ -17,8 +17,9 @@ use Rattle.selected.specs.declared.Sources.{Sources}
 use Rattle.selected.specs.Sources.{face_entered, Sourced}
 use Rattle.selected.specs.SourceLaws.{sourced_same, sourced_enter}
 use Rattle.load.specs.Placed.{Placed}
-use Rattle.load.specs.Kept.{loop_kept, kept_index, long}
+use Rattle.load.specs.Kept.{loop_kept, kept_index}
 use Rattle.load.specs.After.{job_kept}
+use Rattle.answers.specs.RecordLaws.{long}
 
 -- the table after a record of a kind at a byte
 unfoldable pub kept_sources : Kind → List ℕ → Sources → Counts → ℕ → Sources
@@ -87,7 +88,7 @@ module _ (bytes ix : List ℕ) (c : Counts) (at : ℕ) (P : Placed c at) (L : Li
     face_entered_lem kind l p m =
         let room : c.faces < 256 = face_room FaceRecord c n m refl in
         let here : face_byte (set ix (5120 + c.faces) at) c.faces ≡ at = get_or-set_same ix (5120 + c.faces) at 0 (omega (arith, I.size, room)) in
-        let faces = faces_after FaceRecord kind l p m ∙ ap (λ f. faces_in bytes ix c ++ (f ∷ [])) (sym (face_is bytes at (long (le32 bytes at) 5 l))) in
+        let faces = faces_after FaceRecord kind l p m ∙ ap (λ f. faces_in bytes ix c ++ (f ∷ [])) (sym (face_is bytes at (long 5 (le32 bytes at) l))) in
         sourced_enter bytes ix (set ix (5120 + c.faces) at) s c (counted FaceRecord n c) at S room refl (face_place FaceRecord m) here faces
 
     pub sourced_kept : (k : Kind) → kind_of (le16 bytes (at + 4)) ≡ k → right_length k (le32 bytes at) ≡ true → right_position k c.part ≡ true → limit_passed k c n ≡ false

@@ -9,7 +9,7 @@ ghost use Rattle.rules.specs.Outcome.{Ok, ◌>>=◌ as ◌and_then◌};
 ghost use Rattle.rules.specs.Fields.{le32};
 ghost use Rattle.rules.specs.Frame.{whole_record, frame_at};
 ghost use Rattle.rules.specs.Kinds.{is_loop, is_answer, right_length, right_position};
-ghost use Rattle.rules.specs.Load.{no_counts, selected_before, answered_before, load_record, loading, loaded, requested, shown};
+ghost use Rattle.rules.specs.Load.{selected_before, answered_before, load_record, loading, loaded, requested, shown};
 ghost use Rattle.theorems.specs.Sound.{Limited};
 ghost use Rattle.job.specs.Lists.{fields_at};
 ghost use Rattle.job.specs.Raw.{faces, answers};
@@ -22,9 +22,9 @@ ghost use Rattle.load.specs.Going.{Going, OnTo};
 ghost use Rattle.load.specs.Stretches.{Placed};
 
 use fields::{half, put, word};
-use job::{FACES, INDEX, LOOPS, OWNERS, RawJob};
+use job::{FACES, Fields, INDEX, LOOPS, OWNERS, RawJob};
 use loaded::Loaded;
-use rules::{Counts, Fault, Kind, Refusal};
+use rules::{Counts, Fault, Kind, MOST_BYTES, Refusal};
 use selected::Sources;
 use std::ops::Range;
 
@@ -87,13 +87,14 @@ fn judge(raw: &RawJob<'_>, sources: &Sources, header: Header) -> Result<(), Refu
     if records::limit_passed(kind, raw.counts, n) {
         return Err(Fault::LimitPassed.at(at));
     }
-    if !records::fields_permitted(raw, kind, at + 6, n) {
+    let payload = Fields::new(raw.bytes, at + 6, n);
+    if !records::fields_permitted(kind, raw.counts, &payload) {
         return Err(Fault::FieldNotPermitted.at(at));
     }
     if is_selected(raw, sources, header) {
         return Err(Fault::SelectedTwice.at(at));
     }
-    if !records::right_joints(raw, kind, at + 6, n) {
+    if !records::right_joints(raw, kind, &payload) {
         return Err(Fault::LoopJoints.at(at));
     }
     if is_answered(raw, header) {
@@ -104,7 +105,14 @@ fn judge(raw: &RawJob<'_>, sources: &Sources, header: Header) -> Result<(), Refu
 
 // The place of a face, a loop or an answer is entered in the index, and a face by its source face number.
 #[tactic(auto, unfolding(crate::specs::Kept::kept_index, crate::specs::Kept::loop_kept, crate::specs::SourcesKept::kept_sources, rules::specs::Kinds::number_of))]
-fn keep(job: &[u8], index: &mut [u32], sources: &mut Sources, kind: Kind, c: Counts, at: usize)
+fn keep(
+    job: &[u8],
+    index: &mut [u32; INDEX],
+    sources: &mut Sources,
+    kind: Kind,
+    c: Counts,
+    at: usize,
+)
     requires limited { Limited c × (at < 4294967296) }
     requires for_face { kind ≡ FaceRecord → c.faces < 256 }
     requires for_loop { is_loop kind ≡ true → 0 < c.faces }
@@ -122,22 +130,17 @@ fn keep(job: &[u8], index: &mut [u32], sources: &mut Sources, kind: Kind, c: Cou
             put(index, LOOPS + c.loops, at);
             put(index, OWNERS + c.loops, c.faces - 1);
         }
-        Kind::Radial
-        | Kind::Surface
-        | Kind::Points
-        | Kind::Curves
-        | Kind::Singular
-        | Kind::Orientation
-        | Kind::Inside => answers::enter(job, index, c.answers, at),
+        // the answers
+        _ => answers::enter(job, index, c.answers, at),
     }
 }
 
 // The record at a byte is entered; the counts after it, and the byte of the next. Functions over the parts: as methods of a
-// struct of job, index and sources they took 1 to 7 % more instructions, and with the counts and the place in it 20 to
-// 29 % (tried).
+// struct of job, index and sources they took 1 to 3 % more instructions, and with the counts and the place in it 20 to
+// 24 % (tried).
 fn step(
     job: &[u8],
-    index: &mut [u32],
+    index: &mut [u32; INDEX],
     sources: &mut Sources,
     c: Counts,
     at: usize,
@@ -162,35 +165,20 @@ fn step(
     Ok((after, at + 6 + size))
 }
 
-// Written out: the definitions' `Counts` has no default of its own.
-fn nothing() -> Counts
-    ensures { result ≡ no_counts }
-{
-    Counts {
-        part: 0,
-        vertices: 0,
-        edges: 0,
-        faces: 0,
-        loops: 0,
-        uses: 0,
-        answers: 0,
-    }
-}
-
 // The records in order, up to the first refusal. The index is all 0 at first.
-pub fn load(job: &[u8], index: &mut [u32]) -> Result<Counts, Refusal>
+pub fn load(job: &[u8], index: &mut [u32; INDEX]) -> Result<Counts, Refusal>
     requires { index.old ≡ replicate 7424 0 }
     ensures loads { (result and_then λ c. Ok (state_in job.now index.new c)) ≡ loading job.now }
     ensures indexed { IfOk result (λ c. Indexed job.now index.new c) }
 {
-    if 65536 < job.len() {
-        return Err(Fault::TooLong.at(65536));
+    if MOST_BYTES < job.len() {
+        return Err(Fault::TooLong.at(MOST_BYTES));
     }
     if job.is_empty() {
         return Err(Fault::Misplaced.at(0));
     }
     let mut sources = Sources::new();
-    let mut c = nothing();
+    let mut c = Counts::default();
     let mut at: usize = 0;
     // a `while`: where the next record begins is known only once this one is read
     while at < job.len() {
@@ -200,7 +188,7 @@ pub fn load(job: &[u8], index: &mut [u32]) -> Result<Counts, Refusal>
 }
 
 // The loaded job over an index that is all 0 at first, or the refusal of load.
-pub fn open<'a>(job: &'a [u8], index: &'a mut [u32]) -> Result<Loaded<'a>, Refusal>
+pub fn open<'a>(job: &'a [u8], index: &'a mut [u32; INDEX]) -> Result<Loaded<'a>, Refusal>
     requires { index.old ≡ replicate 7424 0 }
     ensures { result ≡ loaded job.now }
 {

@@ -14,7 +14,7 @@ use Rattle.answers.specs.Question.{key_of, Shaped, about_one, RightAnswer}
 use Rattle.answers.specs.RecordLaws.{question_words, question_kind, value_fits}
 use Rattle.answers.specs.Index.{place_for, value_at, Indexed}
 use Rattle.answers.specs.QuestionLaws.{shaped_one}
-use Rattle.answers.specs.ChainLaws.{chained, place_fits, placed_right}
+use Rattle.answers.specs.ChainLaws.{chained, placed_right}
 use Rattle.loaded.proofs.OpenedLaws.{answers_are}
 use Rattle.loaded.specs.Told.{value_of}
 use Rattle.rules.specs.declared.Fault.TheVariants.{Unanswered, AnswerUndecided}
@@ -90,4 +90,4 @@ module _ (bytes ix : List ℕ) (c : Counts) (e : ℕ) (q : Question) (f : Option
 -- what `answer_to` and `radial` cite
 pub ruleset value = (chained, value_missing, value_found, answers_are)
 
-pub ruleset radial = (shaped_one, chained, place_fits, radial_missing, radial_none, radial_uses, answers_are)
+pub ruleset radial = (shaped_one, chained, radial_missing, radial_none, radial_uses, answers_are)

@@ -1,3 +1,2 @@
 pub mod OpenedLaws
-pub mod ItemLaws
 pub mod FoundLaws

@@ -13,16 +13,17 @@ ghost use Rattle.job.specs.Lists.{job_in};
 ghost use Rattle.loaded.specs.Opened.{Opened, Loads};
 ghost use Rattle.loaded.specs.Told.{value_of, loop_at, vertex_of};
 
-mod radial;
 mod traversal;
 
 use answers::Question;
 use fields::word;
-use job::RawJob;
-pub use radial::Order;
+use job::{Fields, INDEX, RawJob};
 use rules::{Counts, Edge, Face, Fault, Kind, Refusal, Use};
 use std::marker::Model;
 pub use traversal::Items;
+
+// The uses of an edge in order round it.
+pub type Order<'a> = Fields<'a>;
 
 #[derive(Drop)]
 pub struct Loaded<'a> {
@@ -43,7 +44,7 @@ impl<'a> Model for Loaded<'a> {
 
 impl<'a> Loaded<'a> {
     // The job that the bytes hold, once loading filled the index.
-    pub fn new(bytes: &'a [u8], index: &'a [u32], counts: Counts) -> Loaded<'a>
+    pub fn new(bytes: &'a [u8], index: &'a [u32; INDEX], counts: Counts) -> Loaded<'a>
         requires { Opened bytes.now index.now counts }
         ensures { result ≡ job_in bytes.now index.now counts }
     {
@@ -94,8 +95,8 @@ impl<'a> Loaded<'a> {
     // The point of a vertex.
     #[tactic(auto, using(crate::proofs::OpenedLaws::points_are))]
     #[inline(always)]
-    pub fn point(&self, v: usize) -> usize
-        ensures { (result ≡ point_at self.now.points v) × (result < 4294967296) }
+    pub fn point(&self, v: usize) -> u32
+        ensures { result ≡ point_at self.now.points v }
     {
         self.raw.point(v)
     }
@@ -126,8 +127,8 @@ impl<'a> Loaded<'a> {
 
     // The point of the vertex where a use starts.
     #[inline(always)]
-    pub fn start_point(&self, u: Use) -> usize
-        ensures { (result ≡ point_at self.now.points (use_start self.now.edges u)) × (result < 4294967296) }
+    pub fn start_point(&self, u: Use) -> u32
+        ensures { result ≡ point_at self.now.points (use_start self.now.edges u) }
     {
         let v = self.edge(u.edge as usize).start_by(u.sense);
         self.point(v as usize)
@@ -136,9 +137,9 @@ impl<'a> Loaded<'a> {
     // LOOPS
 
     // The selected face of loop l.
-    pub fn loop_face(&self, l: usize) -> usize
+    pub fn loop_face(&self, l: usize) -> u32
         requires { l < length self.now.loops }
-        ensures { (result ≡ (loop_at self.now.loops l).face) × (result < 4294967296) }
+        ensures { result ≡ (loop_at self.now.loops l).face }
     {
         self.raw.loop_face(l)
     }
@@ -151,7 +152,7 @@ impl<'a> Loaded<'a> {
     {
         let from = self.raw.loop_start(l);
         let count = self.raw.item_count(l);
-        Items::new(self.raw.bytes, from, count)
+        Items::new(Fields::new(self.raw.bytes, from, 2 * count))
     }
 
     // The vertex of a vertex loop.
@@ -173,7 +174,7 @@ impl<'a> Loaded<'a> {
         requires { Shaped q × (q.kind ≢ Kind.Radial) }
         ensures { result ≡ value_of (find self.now.answers (number_of q.kind) (key_of q)) }
     {
-        let p = answers::find(&self.raw, q)?;
+        let p = answers::find(&self.raw, q)? as usize;
         Some(word(self.raw.bytes, p + 6 + 4 * q.words))
     }
 
@@ -187,10 +188,11 @@ impl<'a> Loaded<'a> {
         let Some(p) = answers::find(&self.raw, answers::about_one(kind, e)) else {
             return Err(Fault::Unanswered.at(kind.number()));
         };
+        let p = p as usize;
         let n = word(self.raw.bytes, p) / 4;
         if n <= 1 {
             return Err(Fault::AnswerUndecided.at(kind.number()));
         }
-        Ok(Order::new(self.raw.bytes, p + 10, n - 1))
+        Ok(Fields::new(self.raw.bytes, p + 10, n - 1))
     }
 }

@@ -1,3 +1,4 @@
+pub mod Once
 pub mod Joined
 pub mod PairLaws
 pub mod CountLaws

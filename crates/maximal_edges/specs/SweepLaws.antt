@@ -1,13 +1,12 @@
 -- The questions at a corner, and the sweep corner by corner.
-use Rattle.std.specs.Prelude.{ℕ, zero, suc, ◌<◌, ◌≤◌, ◌≡◌, refl, List, [], ◌∷◌, Bool, true, false, ◌&&◌, cond, get_or, eqb}
+use Rattle.std.specs.Prelude.{ℕ, zero, suc, ◌<◌, ◌≤◌, ◌≡◌, refl, List, [], ◌∷◌, Bool, true, false, cond, get_or}
 use Rattle.std.specs.Prelude.{Option, Some, None, is_some}
 use Rattle.std.specs.Result.{IsErrAnd}
-use Rattle.std.specs.Cmp.Lexicographic.{pointwise}
 use Rattle.std.proofs.Common.{arith, ◌∙◌, ⊎_elim, true≢false, drop_of_length-le, drop-cons, eq-eqb}
 use Rattle.std.proofs.Math.Path.{sym, ap, subst}
 use Rattle.std.proofs.lemmas.Bool.Decides.{nat_tests}
 use Rattle.std.proofs.Math.ListN.{length, drop}
-use Rattle.lists.specs.Lists.{◌∈◌, same}
+use Rattle.lists.specs.Lists.{◌∈◌}
 use Rattle.lists.specs.Tests.{equal_or_not}
 use Rattle.lists.specs.Membership.{get_or_in}
 use Rattle.lists.specs.KeepCounts.{keep_counts}
@@ -25,16 +24,6 @@ use Rattle.maximal_edges.specs.declared.Change.{Change}
 use Rattle.maximal_edges.specs.declared.Resume.{Resume}
 use Rattle.maximal_edges.specs.Joined.{corner_at, Tabled, tried_by, change_at, may_change, try_corner, Real, Still, AllStill, StillBut, next_after, Swept}
 use Rattle.maximal_edges.specs.PairLaws.{exactly_two}
-
--- QUESTIONS
-
--- two lists are equal, as `==` tells it
-pub pointwise_same : (x y : List ℕ) → pointwise eqb x y ≡ same x y
-unfolding same
-pointwise_same [] [] = refl
-pointwise_same [] (b ∷ y) = refl
-pointwise_same (a ∷ x) [] = refl
-pointwise_same (a ∷ x) (b ∷ y) = ap (λ t. eqb a b && t) (pointwise_same x y)
 
 -- ONE CORNER
 

@@ -11,6 +11,7 @@ ghost use Rattle.edges.specs.Table.{Laid};
 ghost use Rattle.links.specs.JoinLinks.{Joinable};
 ghost use Rattle.links.specs.Lay.{laid_by};
 ghost use Rattle.theorems.specs.Ends.{ends_one};
+ghost use Rattle.maximal_edges.specs.Once.{nodup_prop};
 ghost use Rattle.maximal_edges.specs.Joined.{state_in, Fitting, Ran, no_corner, corner_at, one_more, count_end, given_way, give_way, Blank, Tabled, Counted};
 ghost use Rattle.maximal_edges.specs.Joined.{may_change, change_at, try_corner, StillBut, next_after, after_ring, after_join, Ranked, Swept, JoinedAt};
 ghost use Rattle.maximal_edges.specs.Hung.{SoundIn, Hung};
@@ -19,7 +20,7 @@ use edges::edge_at;
 use fields::{Span, entry, get, put, put_entry};
 use links::Links;
 use loaded::Loaded;
-use rules::{EdgeData, Kind, Refusal, Sense};
+use rules::{EdgeData, FEW, Kind, MOST_USES, Refusal, Sense, UNSET};
 
 // A change at a corner: an edge becomes a ring, or two edges become one.
 #[derive(Clone, Copy)]
@@ -43,12 +44,15 @@ pub struct Joins {
     pub rings: usize,
 }
 
-// What does not change in a run: the job, the point of each fan, and the fans, ascending.
+// What does not change in a run: the job, the point of each fan, and the fans, ascending. None stands twice, and each has
+// its place in the tables of the run.
 #[derive(Clone, Copy)]
-struct Run<'a> {
+struct Run<'a, const SLOTS: usize> {
     job: &'a Loaded<'a>,
     points: &'a [u32],
     names: &'a [u32],
+    ghost nodup: { Nodup names.now } by { nodup_prop names.now },
+    ghost inside: { (v : ℕ) → v ∈ names.now → v < SLOTS },
 }
 
 // What is known of a fan: how many active edge ends there are; and where there are exactly two, the lower and the higher
@@ -89,21 +93,21 @@ fn corner_at(corners: &[Corner], v: usize) -> Corner
 }
 
 // One end more at a corner, of edge e, the highest so far.
-fn one_more(e: usize, c: Corner) -> Corner
-    requires { (c.ends < 4294967295) × (e < 4294967296) }
+fn one_more(e: u32, c: Corner) -> Corner
+    requires { c.ends < 4294967295 }
     ensures { result ≡ one_more e c }
 {
-    let low = if c.ends == 0 { e as u32 } else { c.low };
+    let low = if c.ends == 0 { e } else { c.low };
     Corner {
         ends: c.ends + 1,
         low,
-        high: e as u32,
+        high: e,
     }
 }
 
 // The same at fan v.
-fn count_end(corners: &mut [Corner], v: usize, e: usize)
-    requires { ((corner_at corners.old v).ends < 4294967295) × (e < 4294967296) }
+fn count_end(corners: &mut [Corner], v: usize, e: u32)
+    requires { (corner_at corners.old v).ends < 4294967295 }
     ensures { corners.new ≡ count_end v e corners.old }
 {
     let c = corner_at(corners, v);
@@ -118,8 +122,8 @@ fn count_ends(rows: &[EdgeData], corners: &mut [Corner])
 {
     for (e, edge) in rows.iter().enumerate() {
         if edge.active {
-            count_end(corners, edge.start as usize, e);
-            count_end(corners, edge.end as usize, e);
+            count_end(corners, edge.start as usize, e as u32);
+            count_end(corners, edge.end as usize, e as u32);
         }
     }
 }
@@ -127,22 +131,14 @@ fn count_ends(rows: &[EdgeData], corners: &mut [Corner])
 // QUESTIONS AT A CORNER
 
 // Kind 11 for an edge, at a point.
-fn singular(job: &Loaded<'_>, e: EdgeData, point: usize) -> Result<bool, Refusal>
-    requires { point < 4294967296 }
+fn singular(job: &Loaded<'_>, e: EdgeData, point: u32) -> Result<bool, Refusal>
     ensures { result ≡ singular job.now.answers e point }
 {
-    ask::ask_singular(
-        job,
-        e.curve as usize,
-        e.faces[0] as usize,
-        e.faces[1] as usize,
-        point,
-    )
+    ask::ask_singular(job, e.curve, e.faces[0], e.faces[1], point)
 }
 
 // An edge is not singular at a point.
-fn not_singular(job: &Loaded<'_>, e: EdgeData, point: usize) -> Result<bool, Refusal>
-    requires { point < 4294967296 }
+fn not_singular(job: &Loaded<'_>, e: EdgeData, point: u32) -> Result<bool, Refusal>
     ensures { result ≡ not_singular job.now.answers e point }
 {
     let yes = singular(job, e, point)?;
@@ -150,15 +146,14 @@ fn not_singular(job: &Loaded<'_>, e: EdgeData, point: usize) -> Result<bool, Ref
 }
 
 // Two edges need equal face pairs, then same curve, then not singular for the first.
-#[tactic(auto, using(crate::specs::SweepLaws::pointwise_same), unfolding(rules::specs::Join::may_join, rules::specs::Kinds::number_of))]
-fn may_join(job: &Loaded<'_>, a: EdgeData, b: EdgeData, point: usize) -> Result<bool, Refusal>
-    requires { point < 4294967296 }
+#[tactic(auto, using(lists::specs::SameLists::pointwise_same), unfolding(rules::specs::Join::may_join, rules::specs::Kinds::number_of))]
+fn may_join(job: &Loaded<'_>, a: EdgeData, b: EdgeData, point: u32) -> Result<bool, Refusal>
     ensures { result ≡ may_join job.now.answers a b point }
 {
     if a.faces != b.faces {
         return Ok(false);
     }
-    let same_curve = ask::ask_same(job, Kind::Curves, a.curve as usize, b.curve as usize)?;
+    let same_curve = ask::ask_same(job, Kind::Curves, a.curve, b.curve)?;
     if !same_curve {
         return Ok(false);
     }
@@ -185,9 +180,8 @@ fn may_change(
     rows: &[EdgeData],
     a: usize,
     b: usize,
-    point: usize,
+    point: u32,
 ) -> Result<bool, Refusal>
-    requires { point < 4294967296 }
     ensures { result ≡ may_change job.now.answers rows.now a b point }
 {
     if a == b {
@@ -197,8 +191,8 @@ fn may_change(
 }
 
 // Corner v with the active ends of edges a and b.
-fn try_corner(
-    run: &Run<'_>,
+fn try_corner<const SLOTS: usize>(
+    run: &Run<'_, SLOTS>,
     rows: &[EdgeData],
     v: usize,
     a: usize,
@@ -206,7 +200,7 @@ fn try_corner(
 ) -> Result<Option<Change>, Refusal>
     ensures { result ≡ try_corner run.now.job.now.answers run.now.points.now rows.now v a b }
 {
-    let yes = may_change(run.job, rows, a, b, get(run.points, v))?;
+    let yes = may_change(run.job, rows, a, b, entry(run.points, v, 0))?;
     Ok(yes.then_some(change_at(v, a, b)))
 }
 
@@ -262,14 +256,13 @@ fn after_join(from: Resume, ranks: &[u32], v: usize, e: EdgeData) -> Resume
 
 // One sweep over the corners, which stops at its first change; it passes over those that are known to be still. The edges
 // of a corner are its lower one, then its higher one, until two ends are seen: one edge may have both.
-fn sweep(
-    run: &Run<'_>,
+fn sweep<const SLOTS: usize>(
+    run: &Run<'_, SLOTS>,
     rows: &[EdgeData],
-    corners: &[Corner],
+    corners: &[Corner; SLOTS],
     from: Resume,
 ) -> Result<Option<Change>, Refusal>
     requires tabled { Tabled rows.now corners.now }
-    requires inside { (v : ℕ) → v ∈ run.now.names.now → v < length corners.now }
     requires known { StillBut run.now.job.now.answers run.now.points.now run.now.names.now rows.now from }
     ensures { Swept run.now.job.now.answers run.now.points.now run.now.names.now rows.now from result }
 {
@@ -300,11 +293,11 @@ fn sweep(
 }
 
 // Each fan's position among the names.
-fn rank(names: &[u32], ranks: &mut [u32])
-    requires { Nodup names.now × (length ranks.old ≤ 2048) × ((v : ℕ) → v ∈ names.now → v < length ranks.old) }
-    ensures { Ranked names.now ranks.new }
+fn rank<const SLOTS: usize>(run: &Run<'_, SLOTS>, ranks: &mut [u32; SLOTS])
+    requires { SLOTS ≤ 2048 }
+    ensures { Ranked run.now.names.now ranks.new }
 {
-    for (i, v) in names.iter().enumerate() {
+    for (i, v) in run.names.iter().enumerate() {
         put(ranks, *v as usize, i);
     }
 }
@@ -357,8 +350,8 @@ fn ring_of(e: EdgeData) -> EdgeData
     ensures { result ≡ ring_of e }
 {
     EdgeData {
-        start: u32::MAX,
-        end: u32::MAX,
+        start: UNSET,
+        end: UNSET,
         ..e
     }
 }
@@ -375,21 +368,15 @@ fn ring_at(rows: &mut [EdgeData], n: usize, corners: &mut [Corner], v: usize, a:
 }
 
 // Of the two edges at a corner, edge a gives way to edge n, which is the higher one then.
-fn given_way(a: usize, n: usize, c: Corner) -> Corner
-    requires { n < 4294967296 }
+fn given_way(a: usize, n: u32, c: Corner) -> Corner
     ensures { result ≡ given_way a n c }
 {
     let low = if c.low as usize == a { c.high } else { c.low };
-    Corner {
-        low,
-        high: n as u32,
-        ..c
-    }
+    Corner { low, high: n, ..c }
 }
 
 // The same at fan v.
-fn give_way(corners: &mut [Corner], v: usize, a: usize, n: usize)
-    requires { n < 4294967296 }
+fn give_way(corners: &mut [Corner], v: usize, a: usize, n: u32)
     ensures { corners.new ≡ give_way v a n corners.old }
 {
     let c = corner_at(corners, v);
@@ -422,17 +409,16 @@ fn join_at<const SLOTS: usize, const CODES: usize>(
     let e = joined_edge(v, x, y);
     put_entry(rows, n, e);
     put_entry(corners, v, NO_CORNER);
-    give_way(corners, e.start as usize, a, n);
-    give_way(corners, e.end as usize, b, n);
+    give_way(corners, e.start as usize, a, n as u32);
+    give_way(corners, e.end as usize, b, n as u32);
     e
 }
 
 // After a change the sweep begins afresh, up to a sweep without change. What was tried in vain before is tried again only at
 // the far ends of a join: nowhere else can something have changed.
 fn join_all<const SLOTS: usize, const CODES: usize>(
-    run: &Run<'_>,
-    ranks: &[u32],
-    corners: &mut [Corner],
+    run: &Run<'_, SLOTS>,
+    corners: &mut [Corner; SLOTS],
     rows: &mut [EdgeData],
     count: usize,
     links: &mut Links<SLOTS, CODES>,
@@ -443,30 +429,29 @@ fn join_all<const SLOTS: usize, const CODES: usize>(
     requires count_few { count ≤ 1024 }
     requires laid { Laid stretches.old items.old }
     requires tabled { Tabled (take count rows.old) corners.old }
-    requires nodup { Nodup run.now.names.now }
-    requires inside { (v : ℕ) → v ∈ run.now.names.now → v < length corners.old }
-    requires ranked { Ranked run.now.names.now ranks.now }
     requires hung { Hung (take count rows.old) links.old }
     requires linked { laid_by links.old items.old ≡ items.old }
     requires own { links.old.stretches ≡ stretches.old }
     ensures { Ran run.now.job.now.answers run.now.points.now run.now.names.now rows.old count items.old stretches.old rows.new items.new stretches.new result }
 {
+    let mut ranks = [0u32; SLOTS];
+    rank(run, &mut ranks);
     let mut made = Joins {
         edges: count,
         joins: 0,
         rings: 0,
     };
     let mut from = Resume::default();
-    'sweeps: while let Some(change) = sweep(run, &rows[..made.edges], corners, from)? {
+    while let Some(change) = sweep(run, &rows[..made.edges], corners, from)? {
         match change {
             Change::Ring { corner, edge } => {
                 ring_at(rows, made.edges, corners, corner, edge);
-                from = after_ring(from, ranks, corner);
+                from = after_ring(from, &ranks, corner);
                 made.rings += 1;
             }
             Change::Join { corner, low, high } => {
                 let e = join_at(rows, made.edges, links, corners, corner, low, high);
-                from = after_join(from, ranks, corner, e);
+                from = after_join(from, &ranks, corner, e);
                 made.edges += 1;
                 made.joins += 1;
             }
@@ -479,7 +464,7 @@ fn join_all<const SLOTS: usize, const CODES: usize>(
 
 // The same, with tables for as many fans, items and loops as there are slots, and for the numbers of so many items.
 fn join_in<const SLOTS: usize, const CODES: usize>(
-    run: &Run<'_>,
+    run: &Run<'_, SLOTS>,
     rows: &mut [EdgeData],
     count: usize,
     items: &mut [u32],
@@ -488,8 +473,6 @@ fn join_in<const SLOTS: usize, const CODES: usize>(
     requires room { 2 * count ≤ length rows.old }
     requires count_few { count ≤ 1024 }
     requires laid { Laid stretches.old items.old }
-    requires nodup { Nodup run.now.names.now }
-    requires inside { (v : ℕ) → v ∈ run.now.names.now → v < SLOTS }
     requires sound { SoundIn rows.old count items.old stretches.old SLOTS }
     requires small { SLOTS ≤ 2048 }
     requires twice { CODES ≡ 2 * SLOTS }
@@ -497,27 +480,19 @@ fn join_in<const SLOTS: usize, const CODES: usize>(
 {
     let mut corners = [NO_CORNER; SLOTS];
     count_ends(&rows[..count], &mut corners);
-    let mut ranks = [0u32; SLOTS];
-    rank(run.names, &mut ranks);
     let mut links = Links::<SLOTS, CODES>::new();
     links.link(items, stretches);
-    join_all(
-        run,
-        &ranks,
-        &mut corners,
-        rows,
-        count,
-        &mut links,
-        items,
-        stretches,
-    )
+    join_all(run, &mut corners, rows, count, &mut links, items, stretches)
 }
 
 // Fans, edges, items and loops fit the small tables.
 fn is_small(names: &[u32], count: usize, items: usize, stretches: usize) -> bool
     ensures { result ≡ true → EachIndex names.now (λ k. get_or names.now k 0 < 64) × (2 * count ≤ 64) × (items ≤ 64) × (stretches ≤ 64) }
 {
-    count <= 32 && items <= 64 && stretches <= 64 && names.iter().all(|v| *v < 64)
+    count <= FEW / 2
+        && items <= FEW
+        && stretches <= FEW
+        && names.iter().all(|v| (*v as usize) < FEW)
 }
 
 // The edges joined: corners with exactly two active edge ends are taken away until no sweep changes anything.
@@ -543,13 +518,18 @@ pub fn maximal_edges(
         ≡ maximal_edges job.now.answers starts.now names.now (length names.now) (state_in rows.old count items.old stretches.old faces 0 0) }
     ensures fitting { IfOk result (λ k. Fitting names.now rows.new items.new stretches.new k) }
 {
-    let run = Run {
+    if is_small(names, count, items.len(), stretches.len()) {
+        let run = Run::<FEW> {
+            job,
+            points: starts,
+            names,
+        };
+        return join_in::<FEW, 128>(&run, rows, count, items, stretches);
+    }
+    let run = Run::<MOST_USES> {
         job,
         points: starts,
         names,
     };
-    if is_small(names, count, items.len(), stretches.len()) {
-        return join_in::<64, 128>(&run, rows, count, items, stretches);
-    }
-    join_in::<2048, 4096>(&run, rows, count, items, stretches)
+    join_in::<MOST_USES, 4096>(&run, rows, count, items, stretches)
 }

@@ -7,6 +7,7 @@ ghost use Rattle.rules.specs.Groups.{Lowest, members_of};
 ghost use Rattle.members.specs.Group.{Leading};
 
 use fields::{get, put};
+use rules::MOST_FACES;
 use std::marker::Model;
 
 // Groups by lowest member, and for each number the next of its group; for the last of a group how many numbers there are.
@@ -54,7 +55,7 @@ impl<'a> Members<'a> {
         requires { (length groups.now ≤ 256) × (length next.old ≡ length groups.now) × Lowest groups.now }
         ensures { result ≡ groups.now }
     {
-        let mut first = [groups.len() as u32; 256];
+        let mut first = [groups.len() as u32; MOST_FACES];
         for (i, group) in groups.iter().enumerate().rev() {
             let label = *group as usize;
             let later = get(&first, label);

@@ -1,5 +1,5 @@
 -- What one step of merging answers, as outcomes of the definitions.
-use Rattle.std.specs.Prelude.{ℕ, ◌+◌, ◌≡◌, cond}
+use Rattle.std.specs.Prelude.{ℕ, ◌+◌, ◌≡◌, Bool, cond}
 use mathlib.Core.List.{List, foldl}
 use Rattle.lists.specs.Lists.{below}
 use Rattle.rules.specs.declared.Face.{Face}
@@ -12,18 +12,17 @@ use Rattle.rules.specs.Read.{stored_sense}
 use Rattle.rules.specs.Groups.{Grouping, join_groups}
 use Rattle.rules.specs.Rules.{full_table}
 use Rattle.rules.specs.Merge.{joins_faces, boundary_step}
-use Rattle.groups.specs.Parents.{Ordered, Stands}
+use Rattle.groups.specs.Parents.{Stands}
 
--- parents after the faces of the first n twin pairs joined
-pub record JoinedPairs (us : List Use) (ts : List ℕ) (n : ℕ) (before after : List ℕ) : Type 0 where
-  pub ordered : Ordered after
-  pub stands : (g : List ℕ) → Stands before g → Stands after (foldl (boundary_step us ts) g (below n))
+-- groups after the faces of the first n twin pairs joined
+abbrev pub JoinedPairs : List Use → List ℕ → ℕ → List ℕ → List ℕ → Type 0
+JoinedPairs us ts n before after = (g : List ℕ) → Stands before g → Stands after (foldl (boundary_step us ts) g (below n))
 
 -- a step of the code beside that of the definitions, from groups with so many joins: both refuse alike, or the parents stand for
--- the groups after it
-abbrev pub MergedTo : Outcome ℕ → List ℕ → ℕ → Outcome Grouping → Type 0
-MergedTo (Ok k) parents joins (Ok g) = Stands parents g.groups × (g.joins ≡ joins + k)
-MergedTo (Ok k) parents joins (Err q) = ⊥
+-- the groups after it, and it was one join more where the code says so
+abbrev pub MergedTo : Outcome Bool → List ℕ → ℕ → Outcome Grouping → Type 0
+MergedTo (Ok one) parents joins (Ok g) = Stands parents g.groups × (g.joins ≡ joins + cond one 1 0)
+MergedTo (Ok one) parents joins (Err q) = ⊥
 MergedTo (Err r) parents joins (Ok g) = ⊥
 MergedTo (Err r) parents joins (Err q) = r ≡ q
 

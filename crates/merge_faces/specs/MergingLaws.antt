@@ -1,13 +1,12 @@
 -- Laws of the steps of all uses, and of the boundaries.
-use Rattle.std.specs.Prelude.{ℕ, zero, suc, ◌+◌, ◌-◌, ◌≤◌, ◌<◌, ◌≡◌, length, get_or}
+use Rattle.std.specs.Prelude.{ℕ, zero, suc, ◌+◌, ◌-◌, ◌≤◌, ◌<◌, ◌≡◌, Bool, cond, length, get_or}
 use native.Mathlib.Omega.{arith}
 use Rattle.std.proofs.Math.Path.{refl, sym, ap}
 use Rattle.std.proofs.Common.{◌∙◌, subst, ext_get_or, ⊎_elim, eq-or-lt_of_le}
 use Rattle.std.proofs.lemmas.List.{get_or_default}
 use mathlib.Core.List.{List, [], ◌∷◌, map, foldl}
 use Rattle.lists.specs.Lists.{from, below}
-use Rattle.lists.specs.Members.{foldl_keeps}
-use Rattle.lists.specs.Runs.{left_at, left_none, length_below, length_table, get_or_table}
+use Rattle.lists.specs.Runs.{left_at, left_none, length_table, get_or_table}
 use Rattle.lists.specs.Prefixes.{foldl_below}
 use Rattle.rules.specs.declared.Refusal.{Refusal}
 use Rattle.rules.specs.declared.Use.{Use}
@@ -16,11 +15,11 @@ use Rattle.rules.proofs.OutcomeLaws.{bind_on, bind_stop}
 use Rattle.rules.specs.Read.{no_use, face_of_use}
 use Rattle.rules.specs.Pair.{twin_of}
 use Rattle.rules.specs.Groups.{alone, label_of, joined, Grouping, Lowest}
-use Rattle.rules.proofs.GroupLaws.{length_joined}
 use Rattle.rules.specs.Merge.{other_face, ungrouped, boundary_step, boundaries}
-use Rattle.groups.specs.Parents.{Ordered, Stands, JoinedIn, padded}
+use Rattle.groups.specs.Parents.{Stands, JoinedIn, padded}
 use Rattle.groups.specs.Padding.{padded_at, joined_padded}
 use Rattle.merge_faces.specs.Merging.{MergedTo, JoinedPairs}
+use Rattle.rules.proofs.SizeLaws.{boundaries_length}
 
 -- ALL USES
 
@@ -46,11 +45,12 @@ module _ (step : ℕ → Grouping → Outcome Grouping) (uses faces : ℕ) where
     left : h < uses → throughout step (below uses) (ungrouped faces) ≡ throughout step (h ∷ from (h + 1) (uses - (h + 1))) now
     left lt = m.rest ∙ ap (λ l. throughout step l now) (left_at h uses lt)
 
-    pub merging_step : (k : ℕ) → h < uses → ((g : Grouping) → Stands parents g.groups → MergedTo (Ok k) after g.joins (step h g)) → MergingAt step uses faces after (joins + k) (h + 1)
+    pub merging_step : (one : Bool) → h < uses → ((g : Grouping) → Stands parents g.groups → MergedTo (Ok one) after g.joins (step h g))
+        → MergingAt step uses faces after (joins + cond one 1 0) (h + 1)
     unfolding throughout
-    merging_step k lt told = go (step h now) refl (told now m.stands)
+    merging_step one lt told = go (step h now) refl (told now m.stands)
       where
-        go : (o : Outcome Grouping) → step h now ≡ o → MergedTo (Ok k) after joins o → MergingAt step uses faces after (joins + k) (h + 1)
+        go : (o : Outcome Grouping) → step h now ≡ o → MergedTo (Ok one) after joins o → MergingAt step uses faces after (joins + cond one 1 0) (h + 1)
         go (Ok g) e s = record {
           labels = g.groups;
           stands = s.0;
@@ -86,30 +86,22 @@ stands_lowest {parents} {g} s = record { low = λ i h. (own (suc i) i (omega ari
 
 -- BOUNDARIES
 
-pub pairs_none : (us : List Use) (ts parents : List ℕ) → Ordered parents → JoinedPairs us ts 0 parents parents
+pub pairs_none : (us : List Use) (ts parents : List ℕ) → JoinedPairs us ts 0 parents parents
 unfolding from
-pairs_none us ts parents o = record { ordered = o; stands = λ g s. s }
+pairs_none us ts parents g s = s
 
 -- one pair more: the faces of use h and of its twin t
 pub pairs_more : (us : List Use) (ts before parents after : List ℕ) (h t b : ℕ) (past : Use) → JoinedPairs us ts h before parents
     → h < length us → t ≡ twin_of ts h → b ≡ face_of_use us t → JoinedIn parents after (get_or us h past).face b → JoinedPairs us ts (h + 1) before after
-pairs_more us ts before parents after h t b past s lt et eb j = record {
-  ordered = j.ordered;
-  stands = λ g k.
-      let l = foldl (boundary_step us ts) g (below h) in
-      subst (Stands after) ((λ i. joined l (get_or_default us h past no_use lt i).face ((eb ∙ ap (face_of_use us) et) i)) ∙ sym (foldl_below (boundary_step us ts) g h)) (j.stands l (s.stands g k));
-}
+pairs_more us ts before parents after h t b past s lt et eb j g k =
+    let l = foldl (boundary_step us ts) g (below h) in
+    subst (Stands after) ((λ i. joined l (get_or_default us h past no_use lt i).face ((eb ∙ ap (face_of_use us) et) i)) ∙ sym (foldl_below (boundary_step us ts) g h)) (j.stands l (s g k))
 
 -- the same pairs in a longer table
 fold_padded : (us : List Use) (ts : List ℕ) (k : ℕ) (l g : List ℕ) → foldl (boundary_step us ts) (padded k g) l ≡ padded k (foldl (boundary_step us ts) g l)
 fold_padded us ts k [] g = refl
 fold_padded us ts k (h ∷ l) g =
     ap (λ x. foldl (boundary_step us ts) x l) (joined_padded k g (face_of_use us h) (other_face us ts h)) ∙ fold_padded us ts k l (boundary_step us ts g h)
-
-boundaries_length : (us : List Use) (ts : List ℕ) (n : ℕ) → length (boundaries us ts n) ≡ n
-boundaries_length us ts n =
-    foldl_keeps (boundary_step us ts) (λ g. length g ≡ n) (below (length us)) (alone n) (length_below n)
-    (λ g h _ e. length_joined g (face_of_use us h) (other_face us ts h) ∙ e)
 
 -- all pairs were joined, from each face alone, and the labels are stored
 pub boundaries_are : (us : List Use) (ts : List ℕ) (n k m : ℕ) (parents after labels : List ℕ) → Stands parents (padded k (alone n)) → JoinedPairs us ts m parents after → m ≡ length us
@@ -118,6 +110,6 @@ boundaries_are us ts n k m parents after labels s j e stored =
     let g = boundaries us ts n in
     let all : foldl (boundary_step us ts) (padded k (alone n)) (below m) ≡ padded k g =
     ap (λ x. foldl (boundary_step us ts) (padded k (alone n)) (below x)) e ∙ fold_padded us ts k (below (length us)) (alone n) in
-    stored (padded k g) (subst (Stands after) all (j.stands (padded k (alone n)) s))
+    stored (padded k g) (subst (Stands after) all (j (padded k (alone n)) s))
     ∙ ext_get_or 0 (map (label_of (padded k g)) (below n)) g (length_table (label_of (padded k g)) n ∙ sym (boundaries_length us ts n))
     (λ i l. get_or_table (label_of (padded k g)) n i 0 (omega (arith, length_table (label_of (padded k g)) n)) ∙ padded_at k g i)

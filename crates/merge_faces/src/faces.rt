@@ -6,21 +6,20 @@ ghost use Rattle.rules.specs.Rules.{full_table};
 ghost use Rattle.rules.specs.Merge.{merged_groups};
 ghost use Rattle.merge_faces.specs.FaceTables.{TablesOf};
 
+use fields::Filled;
 use loaded::Loaded;
-use rules::{Refusal, Use};
+use rules::{MOST_FACES, Refusal, Use};
 use std::marker::Model;
 
-// The first `count` entries of three tables are those of the selected faces, and the first `merged` of `members` those of the
-// merged faces.
+// The first `count` entries of three tables are those of the selected faces; `members` has those of the merged faces.
 #[derive(Drop)]
 pub struct Faces {
     count: usize,
-    merged: usize,
     joins: usize,
-    boundaries: [u32; 256],
-    groups: [u32; 256],
-    numbers: [u32; 256],
-    members: [u32; 256],
+    boundaries: [u32; MOST_FACES],
+    groups: [u32; MOST_FACES],
+    numbers: [u32; MOST_FACES],
+    members: Filled<u32, MOST_FACES>,
 }
 
 impl Model for Faces {
@@ -33,11 +32,11 @@ impl Model for Faces {
       boundaries = take f.count f.boundaries;
       groups = take f.count f.groups;
       numbers = take f.count f.numbers;
-      members = take f.merged f.members;
+      members = f.members;
       joins = f.joins;
     } };
 
-    ghost invariant = { λ f. (f.count ≤ 256) × (f.merged ≤ 256) };
+    ghost invariant = { λ f. f.count ≤ 256 };
 }
 
 impl Faces {
@@ -66,7 +65,7 @@ impl Faces {
     pub fn members(&self) -> &[u32]
         ensures { (result.now ≡ self.now.members) × (length result.now ≤ 256) }
     {
-        &self.members[..self.merged]
+        self.members.as_slice()
     }
 
     // How many joins of separate groups made the merged faces.
@@ -86,20 +85,15 @@ pub fn merge_faces(job: &Loaded<'_>, uses: &[Use], twins: &[u32]) -> Result<Face
     ensures tables { IfOk result (TablesOf uses.now twins.now (length job.now.faces)) }
 {
     let count = job.faces();
-    let mut groups = [0u32; 256];
+    let mut groups = [0u32; MOST_FACES];
     let joins = crate::merge_groups(job, uses, twins, &mut groups[..count])?;
-    let mut boundaries = [0u32; 256];
-    let mut numbers = [0u32; 256];
-    let mut members = [0u32; 256];
+    let mut boundaries = [0u32; MOST_FACES];
+    let mut numbers = [0u32; MOST_FACES];
+    let mut members = Filled::new(0);
     crate::boundaries(uses, twins, &mut boundaries[..count]);
-    let merged = crate::number(
-        &groups[..count],
-        &mut members[..count],
-        &mut numbers[..count],
-    );
+    crate::number(&groups[..count], &mut members, &mut numbers[..count]);
     Ok(Faces {
         count,
-        merged,
         joins,
         boundaries,
         groups,

@@ -2,7 +2,7 @@
 
 #![tactic(auto)]
 
-ghost use Rattle.std.specs.Prelude.{◌≡◌, ◌+◌, ◌≤◌, ◌<◌, length, take, IfOk};
+ghost use Rattle.std.specs.Prelude.{◌≡◌, ◌+◌, ◌≤◌, ◌<◌, [], length, IfOk};
 ghost use Rattle.lists.specs.Lists.{keep};
 ghost use Rattle.rules.specs.Outcome.{◌>>=◌ as ◌and_then◌};
 ghost use Rattle.rules.specs.Sense.{same_sense};
@@ -17,18 +17,17 @@ ghost use Rattle.merge_faces.specs.Merging.{MergedTo, answered_step, JoinedPairs
 mod faces;
 
 pub use faces::{Faces, merge_faces};
-use fields::{get, put};
+use fields::{Filled, get, put};
 use groups::{Groups, join, join_in};
 use loaded::Loaded;
-use rules::{Fault, Kind, Refusal, SurfaceAnswer, Use};
+use rules::{Fault, Kind, MOST_FACES, Refusal, SurfaceAnswer, Use};
 use uses::use_face;
 
 // BOUNDARIES
 
 // The faces of every twin pair join.
 fn join_pairs(g: Groups, uses: &[Use], twins: &[u32]) -> Groups
-    requires { Ordered g.parents }
-    ensures { JoinedPairs uses.now twins.now (length uses.now) g.parents result.parents }
+    ensures { JoinedPairs uses.now twins.now (length uses.now) g result }
 {
     let mut groups = g;
     for (h, u) in uses.iter().enumerate() {
@@ -77,7 +76,7 @@ fn equal_senses(job: &Loaded<'_>, a: usize, b: usize) -> bool
     sense == other
 }
 
-// The groups after the surface answer v about faces a and b. Gives how many joins of separate groups it made, 1 or 0.
+// The groups after the surface answer v about faces a and b. Gives whether it joined separate groups.
 #[tactic(auto, unfolding(rules::specs::Groups::join_groups))]
 fn join_by(
     job: &Loaded<'_>,
@@ -85,18 +84,16 @@ fn join_by(
     a: usize,
     b: usize,
     v: SurfaceAnswer,
-) -> Result<usize, Refusal>
+) -> Result<bool, Refusal>
     requires { Ordered labels.old }
-    ensures merged { (g : Grouping) → Stands labels.old g.groups → MergedTo result labels.new g.joins (answered_step job.now.faces a b v g) }
-    ensures one { IfOk result (λ joins. joins ≤ 1) }
+    ensures { (g : Grouping) → Stands labels.old g.groups → MergedTo result labels.new g.joins (answered_step job.now.faces a b v g) }
 {
-    if joins_faces(v, equal_senses(job, a, b))? {
-        return Ok(usize::from(join_in(labels, a, b)));
-    }
-    Ok(0)
+    let joins = joins_faces(v, equal_senses(job, a, b))?;
+    Ok(joins && join_in(labels, a, b))
 }
 
-// The surface question of use h, unless it is the higher of its pair or both are on one selected face.
+// The surface question of use h, unless it is the higher of its pair or both are on one selected face. Gives whether its
+// answer joined separate groups.
 #[tactic(auto, unfolding(rules::specs::Merge::merge_step, rules::specs::Merge::surface_step, rules::specs::Questions::on_record))]
 fn merge_use(
     job: &Loaded<'_>,
@@ -104,27 +101,26 @@ fn merge_use(
     twins: &[u32],
     labels: &mut [u32],
     h: usize,
-) -> Result<usize, Refusal>
+) -> Result<bool, Refusal>
     requires { (h < 4294967296) × Ordered labels.old }
-    ensures merged { (g : Grouping) → Stands labels.old g.groups
+    ensures { (g : Grouping) → Stands labels.old g.groups
         → MergedTo result labels.new g.joins (merge_step full_table job.now.answers job.now.faces uses.now twins.now h g) }
-    ensures one { IfOk result (λ joins. joins ≤ 1) }
 {
     let t = get(twins, h);
     if t <= h {
-        return Ok(0);
+        return Ok(false);
     }
     let a = use_face(uses, h);
     let b = use_face(uses, t);
     if a == b {
-        return Ok(0);
+        return Ok(false);
     }
-    let v = ask::ask_surface(job, h)?;
+    let v = ask::ask_surface(job, h as u32)?;
     join_by(job, labels, a, b, v)
 }
 
 // The surface questions of the uses in order. Each face's label in the end, and how many joins of separate groups there were.
-#[tactic(auto, using(crate::specs::MergingLaws::merging_start, crate::specs::MergingLaws::merging_step, crate::specs::MergingLaws::stands_lowest))]
+#[tactic(auto, using(crate::specs::MergingLaws::merging_start, crate::specs::MergingLaws::stands_lowest))]
 fn merge_groups(
     job: &Loaded<'_>,
     uses: &[Use],
@@ -140,7 +136,7 @@ fn merge_groups(
     let mut joins = 0;
     // by number: a use's question and its twin are found by its number, and its face only after them
     for h in 0..uses.len() {
-        joins += merge_use(job, uses, twins, labels, h)?;
+        joins += usize::from(merge_use(job, uses, twins, labels, h)?);
     }
     groups::settle(labels);
     Ok(joins)
@@ -172,23 +168,20 @@ pub fn remove(uses: &[Use], twins: &[u32], groups: &[u32], removed: &mut [bool])
 
 // MERGED FACES BY NUMBER
 
-// The lowest member of each merged face, and each selected face's merged face. Gives how many merged faces there are.
+// The lowest member of each merged face, and each selected face's merged face.
 #[tactic(auto, using(crate::specs::Numbering::own_more, crate::specs::Numbering::other_more, crate::specs::Numbering::all_numbered), unfolding(lists::specs::Lists::from, lists::specs::Lists::keep))]
-pub fn number(groups: &[u32], members: &mut [u32], numbers: &mut [u32]) -> usize
-    requires { Lowest groups.now × (length members.old ≡ length groups.now) × (length numbers.old ≡ length groups.now) × (length groups.now ≤ 256) }
-    ensures { (take result members.new ≡ lowest_members groups.now) × (result ≡ length (lowest_members groups.now)) × (numbers.new ≡ group_numbers groups.now) }
+pub fn number(groups: &[u32], members: &mut Filled<u32, MOST_FACES>, numbers: &mut [u32])
+    requires { Lowest groups.now × (members.old ≡ []) × (length numbers.old ≡ length groups.now) × (length groups.now ≤ 256) }
+    ensures { (members.new ≡ lowest_members groups.now) × (numbers.new ≡ group_numbers groups.now) }
 {
-    let mut count = 0;
     for (f, group) in groups.iter().enumerate() {
         let g = *group as usize;
         if g == f {
-            put(members, count, f);
-            put(numbers, f, count);
-            count += 1;
+            put(numbers, f, members.len());
+            members.push(f as u32);
         } else {
             let k = get(numbers, g);
             put(numbers, f, k);
         }
     }
-    count
 }

@@ -10,34 +10,36 @@ ghost use Rattle.rules.specs.declared.Fault.TheVariants.{OddUses};
 ghost use Rattle.rules.specs.Pair.{uses_of_edge, twinned, same_use, pair_two, take_predecessor, take_predecessors, last_of, pair_round, pair_edge, pair as pair_all};
 
 use edge_uses::EdgeUses;
-use fields::put;
+use fields::put_entry;
 use loaded::{Loaded, Order};
-use rules::{Fault, Refusal, Sense, Use};
-use uses::use_sense;
-
-// The mark for no twin yet.
-const NONE: u32 = 4294967295;
+use rules::{Fault, MOST_EDGES, Refusal, Sense, UNSET, Use};
+use uses::use_at;
 
 // a and b become twins.
-fn twin(twins: &mut [u32], a: usize, b: usize)
-    requires { (a < 4294967296) × (b < 4294967296) }
+fn twin(twins: &mut [u32], a: u32, b: u32)
     ensures { twins.new ≡ twinned twins.old a b }
 {
-    put(twins, a, b);
-    put(twins, b, a);
+    put_entry(twins, a as usize, b);
+    put_entry(twins, b as usize, a);
 }
 
 // Two uses of an edge become twins; their senses must differ.
 #[tactic(auto, unfolding(rules::specs::Pair::pair_two, rules::specs::Outcome::need))]
-fn pair_two(uses: &[Use], twins: &mut [u32], e: usize, a: usize, b: usize) -> Result<(), Refusal>
-    requires { (a < 4294967296) × (b < 4294967296) }
+fn pair_two(uses: &[Use], twins: &mut [u32], e: usize, a: u32, b: u32) -> Result<(), Refusal>
     ensures { (result and_then λ _. Ok twins.new) ≡ pair_two uses.now e a b twins.old }
 {
-    if use_sense(uses, a) == use_sense(uses, b) {
+    if use_at(uses, a as usize).sense == use_at(uses, b as usize).sense {
         return Err(Fault::EqualSenses.at(e));
     }
     twin(twins, a, b);
     Ok(())
+}
+
+// An order has a use.
+fn has(order: &Order<'_>, h: usize) -> bool
+    ensures { result ≡ has h order.now }
+{
+    order.iter().any(|x| h == x as usize)
 }
 
 // An order has each use of an edge.
@@ -45,7 +47,7 @@ fn has_all(order: &Order<'_>, linked: &EdgeUses<'_>, e: usize) -> bool
     requires { e < linked.now.edges }
     ensures { result ≡ all (λ h. has h order.now) (uses_of_edge linked.now.uses e) }
 {
-    linked.of(e).all(|h| order.has(h))
+    linked.of(e).all(|h| has(order, h))
 }
 
 // A Same use takes its predecessor p, which must not be Same too.
@@ -54,16 +56,15 @@ fn take_predecessor(
     uses: &[Use],
     twins: &mut [u32],
     e: usize,
-    p: usize,
-    h: usize,
+    p: u32,
+    h: u32,
 ) -> Result<(), Refusal>
-    requires { (p < 4294967296) × (h < 4294967296) }
     ensures { (result and_then λ _. Ok twins.new) ≡ take_predecessor uses.now e p h twins.old }
 {
-    if use_sense(uses, h) == Sense::Reversed {
+    if use_at(uses, h as usize).sense == Sense::Reversed {
         return Ok(());
     }
-    if use_sense(uses, p) == Sense::Same {
+    if use_at(uses, p as usize).sense == Sense::Same {
         return Err(Fault::SamePredecessor.at(e));
     }
     twin(twins, h, p);
@@ -71,7 +72,7 @@ fn take_predecessor(
 }
 
 // Round an edge, in the order of its uses.
-#[tactic(auto, using(std::proofs::lemmas::List::drop_more, crate::specs::Last::last_at), unfolding(rules::specs::Pair::take_predecessors))]
+#[tactic(auto, using(crate::specs::Last::last_at), unfolding(rules::specs::Pair::take_predecessors))]
 fn take_predecessors(
     order: &Order<'_>,
     uses: &[Use],
@@ -82,69 +83,53 @@ fn take_predecessors(
     ensures { (result and_then λ _. Ok twins.new) ≡ take_predecessors uses.now e (last_of 0 order.now) order.now twins.old }
 {
     let mut p = order.at(order.len() - 1);
-    // by number: the record's uses are read where they stand in the bytes, and `Order` is no iterator: two loops alone go over one
-    for i in 0..order.len() {
-        let h = order.at(i);
+    for h in order.iter() {
         take_predecessor(uses, twins, e, p, h)?;
         p = h;
     }
     Ok(())
 }
 
-// Four or more uses, k of them, in the order round the edge, which must have each of them once.
-#[tactic(auto, unfolding(rules::specs::Pair::pair_round, rules::specs::Pair::each_once, rules::specs::Outcome::need))]
-fn pair_round(
-    job: &Loaded<'_>,
-    linked: &EdgeUses<'_>,
-    twins: &mut [u32],
-    e: usize,
-    k: usize,
-) -> Result<(), Refusal>
-    requires { (e < linked.now.edges) × (e < 1024) × (k ≡ length (uses_of_edge linked.now.uses e)) × (0 < k) }
-    ensures { (result and_then λ _. Ok twins.new) ≡ pair_round job.now.answers linked.now.uses e (uses_of_edge linked.now.uses e) twins.old }
-{
-    let order = job.radial(e)?;
-    if order.len() != k || !has_all(&order, linked, e) {
-        return Err(Fault::NotRound.at(e));
-    }
-    take_predecessors(&order, linked.uses(), twins, e)
+// What is paired: the uses on the chains of their edges, and the job, which has the orders round its edges.
+#[derive(Drop)]
+struct Pairing<'a> {
+    job: &'a Loaded<'a>,
+    linked: &'a EdgeUses<'a>,
+    ghost edges: { linked.now.edges ≡ length job.now.edges },
 }
 
-// Neither no use nor two: an odd number is refused.
-#[tactic(auto, unfolding(rules::specs::Outcome::need))]
-fn pair_more(
-    job: &Loaded<'_>,
-    linked: &EdgeUses<'_>,
-    twins: &mut [u32],
-    e: usize,
-) -> Result<(), Refusal>
-    requires { (e < linked.now.edges) × (e < 1024) × (0 < length (uses_of_edge linked.now.uses e)) }
-    ensures { let hs = uses_of_edge linked.now.uses e in
-        (result and_then λ _. Ok twins.new) ≡ need (eqb (length hs % 2) 0) OddUses e (pair_round job.now.answers linked.now.uses e hs twins.old) }
+// Neither no use nor two: an odd number is refused; four or more are paired in the order round the edge, which must have
+// each of them once.
+#[tactic(auto, unfolding(rules::specs::Pair::pair_round, rules::specs::Pair::each_once, rules::specs::Outcome::need))]
+fn pair_more(pairing: &Pairing<'_>, twins: &mut [u32], e: usize) -> Result<(), Refusal>
+    requires { (e < pairing.now.linked.now.edges) × (0 < length (uses_of_edge pairing.now.linked.now.uses e)) }
+    ensures { let hs = uses_of_edge pairing.now.linked.now.uses e in
+        (result and_then λ _. Ok twins.new) ≡ need (eqb (length hs % 2) 0) OddUses e (pair_round pairing.now.job.now.answers pairing.now.linked.now.uses e hs twins.old) }
 {
-    let n = linked.count(e);
+    // So an edge's number is one of 32 bits, in which its order is asked for.
+    prove!(pairing.job.edges() <= MOST_EDGES);
+    let n = pairing.linked.count(e);
     if n % 2 == 1 {
         return Err(Fault::OddUses.at(e));
     }
-    pair_round(job, linked, twins, e, n)
+    let order = pairing.job.radial(e)?;
+    if order.len() != n || !has_all(&order, pairing.linked, e) {
+        return Err(Fault::NotRound.at(e));
+    }
+    take_predecessors(&order, pairing.linked.uses(), twins, e)
 }
 
 // One edge, by its uses, of which the chain has the last first.
 #[tactic(auto, using(crate::specs::EdgeLaws::by_count))]
-fn pair_edge(
-    job: &Loaded<'_>,
-    linked: &EdgeUses<'_>,
-    twins: &mut [u32],
-    e: usize,
-) -> Result<(), Refusal>
-    requires { (e < linked.now.edges) × (e < 1024) }
-    ensures { (result and_then λ _. Ok twins.new) ≡ pair_edge job.now.answers linked.now.uses e twins.old }
+fn pair_edge(pairing: &Pairing<'_>, twins: &mut [u32], e: usize) -> Result<(), Refusal>
+    requires { e < pairing.now.linked.now.edges }
+    ensures { (result and_then λ _. Ok twins.new) ≡ pair_edge pairing.now.job.now.answers pairing.now.linked.now.uses e twins.old }
 {
-    let mut on = linked.of(e);
+    let mut on = pairing.linked.of(e);
     match (on.next(), on.next(), on.next()) {
         (None, _, _) => Ok(()),
-        (Some(b), Some(a), None) => pair_two(linked.uses(), twins, e, a, b),
-        _ => pair_more(job, linked, twins, e),
+        (Some(b), Some(a), None) => pair_two(pairing.linked.uses(), twins, e, a as u32, b as u32),
+        _ => pair_more(pairing, twins, e),
     }
 }
 
@@ -152,19 +137,18 @@ fn pair_edge(
 fn lone(twins: &[u32]) -> Option<usize>
     ensures { result ≡ position (eqb unset) twins.now }
 {
-    twins.iter().position(|t| *t == NONE)
+    twins.iter().position(|t| *t == UNSET)
 }
 
 // All edges, in a table that has no twin yet. The lowest use that is left without one is refused.
 #[tactic(auto, using(lists::specs::Runs::left_at, lists::specs::Runs::left_none, crate::specs::Complete::complete_is), unfolding(rules::specs::Outcome::throughout, rules::specs::Pair::pair))]
-fn pair_edges(job: &Loaded<'_>, linked: &EdgeUses<'_>, twins: &mut [u32]) -> Result<(), Refusal>
-    requires { (linked.now.edges ≡ length job.now.edges)
-        × (twins.old ≡ replicate (length linked.now.uses) unset) }
-    ensures { (result and_then λ _. Ok twins.new) ≡ pair_all job.now.answers linked.now.uses (length job.now.edges) }
+fn pair_edges(pairing: &Pairing<'_>, twins: &mut [u32]) -> Result<(), Refusal>
+    requires { twins.old ≡ replicate (length pairing.now.linked.now.uses) unset }
+    ensures { (result and_then λ _. Ok twins.new) ≡ pair_all pairing.now.job.now.answers pairing.now.linked.now.uses (length pairing.now.job.now.edges) }
 {
     // by number: an edge is its number, and has no record to go along
-    for e in 0..job.edges() {
-        pair_edge(job, linked, twins, e)?;
+    for e in 0..pairing.job.edges() {
+        pair_edge(pairing, twins, e)?;
     }
     if let Some(h) = lone(twins) {
         return Err(Fault::NoTwin.at(h));
@@ -179,7 +163,8 @@ pub fn pair<const N: usize>(job: &Loaded<'_>, linked: &EdgeUses<'_>) -> Result<[
     ensures { ((result and_then λ twins. Ok (take (length linked.now.uses) twins)) ≡ pair_all job.now.answers linked.now.uses (length job.now.edges))
         × IfOk result (λ twins. length twins ≡ N) }
 {
-    let mut twins = [NONE; N];
-    pair_edges(job, linked, &mut twins[..linked.uses().len()])?;
+    let mut twins = [UNSET; N];
+    let pairing = Pairing { job, linked };
+    pair_edges(&pairing, &mut twins[..linked.uses().len()])?;
     Ok(twins)
 }

@@ -10,7 +10,7 @@ ghost use Rattle.lines.specs.StageListed.{StagedInto, StageLists};
 
 use rules::{Refusal, Stage};
 use std::env::FillError;
-use std::io::{Read, Write};
+use std::io::{Cursor, Read, Write};
 use std::rt::{Env, Files};
 use std::str::from_utf8;
 use std::{fs, io};
@@ -85,80 +85,98 @@ pub struct Program<'a> {
     pub usage: &'a str,
 }
 
+impl Program<'_> {
+    // Says on standard error why a call failed, after the program's name: in the system's words, without the number that
+    // the library puts behind them.
+    pub fn fail(self, rt: &impl Eprint, what: &str, why: &io::Error) {
+        let name = self.name;
+        let mut text = Cursor::new([0u8; 256]);
+        let _written = write!(text, "{why}");
+        let words = lines::front(text.get_ref(), text.position() as usize);
+        let reason = up_to(from_utf8(words).unwrap_or(""), " (os error ");
+        let _told = eprintln!(rt; "{name}: {what}: {reason}");
+    }
+
+    // Says on standard error what words the program takes.
+    pub fn explain(self, rt: &impl Eprint) {
+        let _told = rt.eprintln(self.usage);
+    }
+
+    // Prints a text on standard output; where that does not take it, that is told.
+    pub fn print(self, rt: &(impl Print + Eprint), text: &[u8]) {
+        if let Err(why) = Print::write_all(rt, text) {
+            self.fail(rt, "standard output", &why);
+        }
+    }
+
+    // Reads the file that word i names, or standard input if there is no such word, and says how many bytes were read.
+    // What is wrong is told on standard error, with the words that the program takes where it lies in these.
+    pub fn read_job<R: Env + Files + Input + Eprint>(
+        self,
+        rt: &R,
+        i: usize,
+        buffer: &mut [u8],
+    ) -> Option<usize> {
+        if !is_there(rt, i) {
+            return self.told(rt, "standard input", read_to_end(&mut rt.reader(), buffer));
+        }
+        self.read_file(rt, i, buffer)
+    }
+
+    // Reads the file that word i names, which must be the last word. What is wrong is told as by `read_job`.
+    pub fn read_file<R: Env + Files + Eprint>(
+        self,
+        rt: &R,
+        i: usize,
+        buffer: &mut [u8],
+    ) -> Option<usize> {
+        if !is_last(rt, i) {
+            self.explain(rt);
+            return None;
+        }
+        let mut word = [0u8; PATH];
+        let read = match rt.arg(i, &mut word) {
+            Ok(length) => self.read_word(rt, &word[..length], buffer),
+            // A word that is longer than any path: its front may name another file.
+            Err(_) => self.told(rt, "FILE", Err(io::Error::from_raw_os_error(NAME_TOO_LONG))),
+        };
+        if read.is_none() {
+            self.explain(rt);
+        }
+        read
+    }
+
+    // Reads the file of a name to its end; where the word can name none, nothing is told.
+    fn read_word<R: Files + Eprint>(self, rt: &R, word: &[u8], buffer: &mut [u8]) -> Option<usize> {
+        if !is_name(word) {
+            return None;
+        }
+        // The names of files are text here.
+        let Ok(name) = from_utf8(word) else {
+            return self.told(
+                rt,
+                "FILE",
+                Err(io::Error::from(io::ErrorKind::InvalidFilename)),
+            );
+        };
+        self.told(rt, name, read_named(rt, name, buffer))
+    }
+
+    // How many bytes a reading gave; where it failed, that is told.
+    fn told(self, rt: &impl Eprint, what: &str, read: io::Result<usize>) -> Option<usize> {
+        match read {
+            Ok(n) => Some(n),
+            Err(why) => {
+                self.fail(rt, what, &why);
+                None
+            }
+        }
+    }
+}
+
 // A text up to a mark, or all of it.
 fn up_to<'a>(text: &'a str, mark: &str) -> &'a str {
     text.split_once(mark).map_or(text, |(words, _)| words)
-}
-
-// Says on standard error why a call failed, after the program's name: in the system's words, without the number that the
-// library puts behind them.
-pub fn fail(rt: &impl Eprint, program: Program<'_>, what: &str, why: &io::Error) {
-    let name = program.name;
-    let mut text = [0u8; 256];
-    let mut room: &mut [u8] = &mut text;
-    let _written = write!(room, "{why}");
-    let words = up_to(from_utf8(&text).unwrap_or(""), "\0");
-    let reason = up_to(words, " (os error ");
-    let _told = eprintln!(rt; "{name}: {what}: {reason}");
-}
-
-// Says on standard error what words a program takes.
-pub fn explain(rt: &impl Eprint, program: Program<'_>) {
-    let _told = rt.eprintln(program.usage);
-}
-
-// Prints a text on standard output; where that does not take it, that is told.
-pub fn print(rt: &(impl Print + Eprint), program: Program<'_>, text: &[u8]) {
-    if let Err(why) = Print::write_all(rt, text) {
-        fail(rt, program, "standard output", &why);
-    }
-}
-
-// Reads the file that word i names, or standard input if there is no such word, and says how many bytes were read. What is
-// wrong is told on standard error, with the words that the program takes where it lies in these.
-pub fn read_job<R: Env + Files + Input + Eprint>(
-    rt: &R,
-    program: Program<'_>,
-    i: usize,
-    buffer: &mut [u8],
-) -> Option<usize> {
-    if !is_there(rt, i) {
-        return told(
-            rt,
-            program,
-            "standard input",
-            read_to_end(&mut rt.reader(), buffer),
-        );
-    }
-    read_file(rt, program, i, buffer)
-}
-
-// Reads the file that word i names, which must be the last word. What is wrong is told as by `read_job`.
-pub fn read_file<R: Env + Files + Eprint>(
-    rt: &R,
-    program: Program<'_>,
-    i: usize,
-    buffer: &mut [u8],
-) -> Option<usize> {
-    if !is_last(rt, i) {
-        explain(rt, program);
-        return None;
-    }
-    let mut word = [0u8; PATH];
-    let read = match rt.arg(i, &mut word) {
-        Ok(length) => read_word(rt, program, &word[..length], buffer),
-        // A word that is longer than any path: its front may name another file.
-        Err(_) => told(
-            rt,
-            program,
-            "FILE",
-            Err(io::Error::from_raw_os_error(NAME_TOO_LONG)),
-        ),
-    };
-    if read.is_none() {
-        explain(rt, program);
-    }
-    read
 }
 
 // Whether there is a word i, the program's own name being word 0.
@@ -177,46 +195,8 @@ fn is_name(word: &[u8]) -> bool {
     word.len() != 0 && word[0] != b'-'
 }
 
-// Reads the file of a name to its end; where the word can name none, nothing is told.
-fn read_word<R: Files + Eprint>(
-    rt: &R,
-    program: Program<'_>,
-    word: &[u8],
-    buffer: &mut [u8],
-) -> Option<usize> {
-    if !is_name(word) {
-        return None;
-    }
-    // The names of files are text here.
-    let Ok(name) = from_utf8(word) else {
-        return told(
-            rt,
-            program,
-            "FILE",
-            Err(io::Error::from(io::ErrorKind::InvalidFilename)),
-        );
-    };
-    told(rt, program, name, read_named(rt, name, buffer))
-}
-
 // Opens the file of a name and reads it to its end.
 fn read_named<R: Files>(rt: &R, name: &str, buffer: &mut [u8]) -> io::Result<usize> {
     let mut file = fs::open(rt, name)?;
     read_to_end(&mut file, buffer)
-}
-
-// How many bytes a reading gave; where it failed, that is told.
-fn told(
-    rt: &impl Eprint,
-    program: Program<'_>,
-    what: &str,
-    read: io::Result<usize>,
-) -> Option<usize> {
-    match read {
-        Ok(n) => Some(n),
-        Err(why) => {
-            fail(rt, program, what, &why);
-            None
-        }
-    }
 }

@@ -35,6 +35,10 @@ merged_in m rm = record { boundaries = m.boundaries; groups = m.groups; joins = 
 abbrev pub walked_in : List Use → List ℕ → FaceTables → List Bool → List KeptVertexLoop → Walked
 walked_in us ts m rm kept = walks_of us ts (merged_in m rm) kept
 
+-- the same, with the uses removed that these groups remove
+abbrev pub merged_by : List Use → List ℕ → FaceTables → Merged
+merged_by us ts m = merged_in m (removed_uses us ts m.groups)
+
 -- its vertex loops are kept
 pub record Kept (j : Job) (us : List Use) (ts : List ℕ) (m : FaceTables) (kept : List KeptVertexLoop) : Type 0 where
   pub grouped : Grouped j us ts m
@@ -48,6 +52,13 @@ pub record Settled (j : Job) (us : List Use) (ts : List ℕ) (m : FaceTables) (k
   pub follows : ss ≡ successors us ts rm
   pub gone : count ≡ length (keep (λ gone. gone) rm)
   pub passed : total ≡ sum_of (λ k. k) (passed_counts us ts rm)
+
+-- a job with its merged faces
+pub record Merging : Type 0 where
+  pub job : Job
+  pub uses : List Use
+  pub twins : List ℕ
+  pub merged : Merged
 
 -- a job with its walks
 pub record Walking : Type 0 where

@@ -22,7 +22,8 @@ use Rattle.theorems.specs.Linked.{Twins, Linked}
 use Rattle.theorems.proofs.Loading.{loaded_limits, loaded_sound, faces_few}
 use Rattle.theorems.proofs.Reading.{use_face_below}
 use Rattle.theorems.proofs.Pairing.{pairs_fully}
-use Rattle.theorems.proofs.Connected.{boundaries_lowest, boundaries_length}
+use Rattle.rules.proofs.SizeLaws.{boundaries_length}
+use Rattle.theorems.proofs.Connected.{boundaries_lowest}
 use Rattle.theorems.proofs.Merging.{merged_length, merged_lowest}
 use Rattle.theorems.specs.Circuits.{Permuted}
 use Rattle.theorems.proofs.Circuits.{linked_permuted}
@@ -102,6 +103,13 @@ module _ {j : Job} {us : List Use} {ts : List ℕ} {m : FaceTables} {kept : List
 
   pub settled_permuted : Permuted (length us) rm ss
   settled_permuted = subst (Permuted (length us) rm) (sym S.follows) (linked_permuted settled_linked)
+
+  -- there are as many successors as uses
+  pub settled_steps : Permuted (length ss) rm ss
+  settled_steps = rw settled_permuted.size settled_permuted
+
+  pub settled_few : length ss ≤ 2048
+  settled_few = omega (arith, settled_permuted.size, paired_few G.paired)
 
 -- A JOB WITH ITS WALKS, AND THE TABLES THAT HOLD IT
 

@@ -2,6 +2,8 @@
 
 #![tactic(auto)]
 
+mod merged;
 mod settled;
 
+pub use merged::{Kept, Merged};
 pub use settled::Walks;

@@ -1,9 +1,13 @@
 // The walks of a job.
 
+ghost use Rattle.std.specs.Prelude.{◌≡◌, length};
+
+use fans::KeptUses;
 use loaded::Loaded;
 use merge_faces::Faces;
 use rules::{KeptVertexLoop, Use};
 use std::marker::Model;
+use walk::Steps;
 
 // A job through its walks: the uses and the twin of each, the merged faces, the vertex loops kept, which uses are removed
 // and how many, the successor of each use, and how many uses were passed over in total. Contracts see the walks of the
@@ -29,4 +33,27 @@ impl<'a> Model for Walks<'a> {
     ghost view = { λ w. record { job = w.job.now; walked = walked_in w.uses.now w.twins.now w.faces.now w.removed.now w.kept.now } };
 
     ghost invariant = { λ w. Settled w.job.now w.uses.now w.twins.now w.faces.now w.kept.now w.removed.now w.succ.now w.gone w.passed };
+}
+
+impl<'a> Walks<'a> {
+    // Which uses are removed, and the successor of each.
+    pub fn steps(&self) -> Steps<'a>
+        ensures { (result.removed.now ≡ self.now.walked.merge.removed) × (result.succ.now ≡ self.now.walked.successors) × (length result.succ.now ≡ length self.now.walked.uses) }
+    {
+        Steps {
+            removed: self.removed,
+            succ: self.succ,
+        }
+    }
+
+    // The uses, and which of them are removed.
+    pub fn kept_uses(&self) -> KeptUses<'a>
+        ensures { (result.job.now ≡ self.now.job) × (result.uses.now ≡ self.now.walked.uses) × (result.removed.now ≡ self.now.walked.merge.removed) }
+    {
+        KeptUses {
+            job: self.job,
+            uses: self.uses,
+            removed: self.removed,
+        }
+    }
 }

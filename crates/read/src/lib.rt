@@ -3,12 +3,12 @@
 #![tactic(auto)]
 
 ghost use Rattle.std.specs.Prelude.{◌≡◌, ◌+◌, ◌<◌, ◌≤◌, length};
-ghost use Rattle.lists.specs.Cyclic.{next_place};
 ghost use Rattle.rules.specs.Read.{traversed, loop_uses, uses_of};
 ghost use Rattle.read.specs.Places.{place_of};
 
+use fields::place_after;
 use loaded::{Items, Loaded};
-use rules::{Sense, Use};
+use rules::{MOST_USES, Sense, Use};
 
 // The item, of n, at place i of a loop as its face is selected.
 fn place(selected: Sense, n: usize, i: usize) -> usize
@@ -21,21 +21,9 @@ fn place(selected: Sense, n: usize, i: usize) -> usize
     }
 }
 
-// The use after the one at place i of a loop of n uses, numbered from `first`.
-#[tactic(auto, using(lists::specs::Cyclic::next_wraps, lists::specs::Cyclic::next_on))]
-fn next_of(first: usize, n: usize, i: usize) -> usize
-    requires { (i < n) × (first + n ≤ 2048) }
-    ensures { (result ≡ first + next_place i n) × (result < 2048) }
-{
-    if i + 1 == n {
-        return first;
-    }
-    first + (i + 1)
-}
-
 // The uses of a loop with some items, numbered from `first`.
-fn read_loop(uses: &mut [Use], first: usize, items: &Items<'_>, face: usize, selected: Sense)
-    requires { (length uses.old ≡ length items.now) × (first + length items.now ≤ 2048) × (face < 4294967296) }
+fn read_loop(uses: &mut [Use], first: usize, items: &Items<'_>, face: u32, selected: Sense)
+    requires { (length uses.old ≡ length items.now) × (first + length items.now ≤ 2048) }
     ensures { uses.new ≡ loop_uses face first first (traversed selected items.now) }
 {
     let n = items.len();
@@ -43,9 +31,9 @@ fn read_loop(uses: &mut [Use], first: usize, items: &Items<'_>, face: usize, sel
         let item = items.at(place(selected, n, i));
         *u = Use {
             edge: item.edge,
-            face: face as u32,
+            face,
             sense: item.sense * selected,
-            next: next_of(first, n, i) as u32,
+            next: place_after(first, first + n, first + i) as u32,
         };
     }
 }
@@ -56,13 +44,13 @@ pub fn read(job: &Loaded<'_>, uses: &mut [Use])
     ensures { uses.new ≡ uses_of job.now }
 {
     // So each use's number fits the 32 bits in which another leads to it.
-    prove!(job.uses() <= 2048);
+    prove!(job.uses() <= MOST_USES);
     let mut h = 0;
     // by number: a loop's parts are read where they stand in the job
     for l in 0..job.loops() {
         let items = job.items(l);
         let face = job.loop_face(l);
-        let selected = job.face(face).selected;
+        let selected = job.face(face as usize).selected;
         let end = h + items.len();
         read_loop(&mut uses[h..end], h, &items, face, selected);
         h = end;

@@ -12,8 +12,7 @@ use Rattle.theorems.proofs.Fanning.{fans_hold}
 use Rattle.merge_faces.specs.FaceTables.{FaceTables}
 use Rattle.progress.specs.Known.{Settled, Walking, walked_in}
 use Rattle.progress.specs.KnownLaws.{Seen, seen, settled_permuted}
-use Rattle.rules.specs.Join.{Joining}
-use Rattle.rebuild.specs.Fanning.{Fanning, Drawing}
+use Rattle.rebuild.specs.Fanning.{Fanning}
 
 -- the walks of a job with fans
 abbrev pub walking : Fanning → Walking
@@ -65,19 +64,3 @@ module _ {v : Fanning} {j : Job} {us : List Use} {ts : List ℕ} {m : FaceTables
 
   pub names_few : length names ≤ 2048
   names_few = pigeon_below 2048 names names_once names_low
-
--- A JOB WITH THE EDGES AND LOOPS OVER ITS FANS
-
--- the fans of a job with edges and loops
-abbrev pub fanning : Drawing → Fanning
-fanning v = record { job = v.job; fan = v.joined.fan }
-
-pub drawn_seen : {w : Walking} {j : Job} {us : List Use} {ts : List ℕ} {m : FaceTables} {kept : List KeptVertexLoop} {rm : List Bool} {ss : List ℕ} {gone total : ℕ}
-    {fans names starts : List ℕ} {f : Fanning} {s : Joining} {v : Drawing}
-    → Settled j us ts m kept rm ss gone total → record { job = j; walked = walked_in us ts m rm kept } ≡ w
-    → record { walk = w.walked; fans = fans; names = names; starts = starts } ≡ fans_of w.job w.walked
-    → record { job = w.job; fan = record { walk = w.walked; fans = fans; names = names; starts = starts } } ≡ f
-    → record { job = f.job; joined = record { fan = f.fan; joining = s } } ≡ v
-    → FansSeen (fanning v) j us ts m kept rm ss gone total fans names starts
-drawn_seen {j = j} {us} {ts} {m} {kept} {rm} {ss} {gone} {total} {fans} {names} {starts} S walks is f e =
-    subst (λ x. FansSeen (fanning x) j us ts m kept rm ss gone total fans names starts) e (fans_seen S walks is f)

@@ -36,7 +36,7 @@ use Rattle.maximal_edges.specs.Joined.{state_in, Fitting}
 use Rattle.maximal_edges.specs.declared.Joins.{Joins}
 use Rattle.walk.specs.Walks.{loops_in, Following}
 use Rattle.progress.specs.Known.{Settled}
-use Rattle.progress.specs.KnownLaws.{paired_twins, settled_linked, settled_permuted}
+use Rattle.progress.specs.KnownLaws.{paired_twins, settled_linked, settled_permuted, settled_steps}
 use Rattle.rebuild.specs.Fanning.{Fanning}
 use Rattle.rebuild.specs.Lined.{Roomy, Lined}
 use Rattle.rebuild.specs.Halves.{half_of_uses}
@@ -71,9 +71,6 @@ module _ {v : Fanning} {j : Job} {us : List Use} {ts : List ℕ} {m : FaceTables
       let removed_twin = (settled_linked S).removed_twin in
       record { within = λ h b. grind arith; twice = λ h b. grind arith; other = λ h b. grind arith; together = λ h b. grind arith }
 
-  pub settled_walks : Permuted (length ss) rm ss
-  settled_walks = rw (settled_permuted S).size (settled_permuted S)
-
   -- the uses made items: with the edges and the merged face of each loop these are the edges and loops before any change
   module _ (rows₀ : List EdgeData) (owns₀ items₀ : List ℕ) (stretches₀ : List Span) (faces₀ : List ℕ) (R : Roomy (length v.fan.walk.uses) rows₀ owns₀ items₀ stretches₀ faces₀)
       (ways : List ℕ) (stretches : List Span) (faces : List ℕ) (rows : List EdgeData) (owns items : List ℕ) (loops edges : ℕ)
@@ -95,7 +92,7 @@ module _ {v : Fanning} {j : Job} {us : List Use} {ts : List ℕ} {m : FaceTables
         (λ i. face_loops_in (ei i) (take loops stretches) (ef i))
         ∙ face_loops_lem us ts rm m.numbers owns ways (take loops stretches) loops (loops_of (circuits rm ss))
         (ap (λ n. map (λ k. loop_at ways (span_at (take loops stretches) k)) (below n)) (sym cut) ∙ spans_each (loop_at ways) (take loops stretches) ∙ el)
-        (λ l i h p. let k = loop_kept_lem (length ss) rm ss settled_walks l i h p in M.owners settled_mated h (omega (arith, k.0, twins.size, (settled_permuted S).size)) k.1)
+        (λ l i h p. let k = loop_kept_lem (length ss) rm ss (settled_steps S) l i h p in M.owners settled_mated h (omega (arith, k.0, twins.size, (settled_permuted S).size)) k.1)
 
     drawn : state_in rows edges items (take loops stretches) (take loops faces) 0 0 ≡ unjoined v.job v.fan
     unfolding state_in unjoined

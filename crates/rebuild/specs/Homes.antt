@@ -1,7 +1,7 @@
 -- The outer shells of lumps are named by merged faces, so labels by lump are below 256.
 use Prim.Native.Nat.{ℕ, ◌≤◌, ◌<◌}
 use Rattle.std.proofs.Math.Decide.{dec_lt}
-use Rattle.std.proofs.Common.{arith, sym, ap, ◌∙◌, ⊎_elim}
+use Rattle.std.proofs.Common.{arith, sym, ◌∙◌, ⊎_elim}
 use Rattle.std.specs.Prelude.{◌≡◌, refl, Bool, true, false, length, get_or, eqb}
 use Rattle.std.proofs.Math.Path.{subst}
 use mathlib.Core.List.Memᴰ
@@ -11,7 +11,7 @@ use Rattle.std.proofs.lemmas.List.{length-map}
 use Rattle.std.proofs.Math.ListN.{get_or-eq_default}
 use Rattle.lists.specs.Lists.{◌∈◌, keep, index_of}
 use Rattle.lists.specs.Membership.{get_or_in}
-use Rattle.lists.specs.Members.{keep_in, positions_in, in_map, map_in, get_or_map}
+use Rattle.lists.specs.Members.{keep_in, positions_in, map_in, get_or_map}
 use Rattle.rules.specs.Outcome.{Outcome, Ok, ◌>>=◌, for_each}
 use Rattle.rules.proofs.OutcomeLaws.{refuse_ok, ok_one, bind_ok, cond_ok, each_none, each_ok}
 use Rattle.rules.specs.Job.{Answer}
@@ -19,11 +19,11 @@ use Rattle.rules.specs.Groups.{label_of, lowest_members}
 use Rattle.rules.specs.Shells.{Shell, lowest_face, shell_faces, shell_inside, Taken, none, shell, innermost, enclosing_shell, or_refuse, outers, Nested, nest, nested, lump_labels}
 use Rattle.contact.specs.Clear.{LowLabels}
 use Rattle.shells.specs.declared.ShellRow.{ShellRow}
-use Rattle.shells.specs.Table.{shell_in, shells_in, nested_one, nested_in}
+use Rattle.shells.specs.Table.{shell_in, shells_in}
 
 -- the outer shells of the lumps of some shells
-abbrev pub LowHomes : List ShellRow → Type 0
-LowHomes rows = (row : ShellRow) → row ∈ rows → row.home < 256
+abbrev pub LowHomes : List Nested → Type 0
+LowHomes ns = (n : Nested) → n ∈ ns → n.home < 256
 
 -- LOWEST FACES
 
@@ -94,15 +94,15 @@ module _ (answers : List Answer) where
       (λ z. each_low os ss r.1 low (λ x i. faces x (Memᴰ.tail i)) r.3 n z)
       (Memᴰ.cases_cons (subst (λ l. n ∈ l) r.4 m))
 
-  -- the table after nesting
-  pub homes_low : (boundaries members : List ℕ) (rows rows' : List ShellRow) → length members ≤ 256
-      → Ok (nested_in boundaries members rows') ≡ nested answers (shells_in boundaries members rows) → LowHomes rows'
-  homes_low boundaries members rows rows' few e row i =
-      each_low (outers shells) shells (nested_in boundaries members rows')
+  -- after nesting
+  pub homes_low : (boundaries members : List ℕ) (rows : List ShellRow) (ns : List Nested) → length members ≤ 256
+      → Ok ns ≡ nested answers (shells_in boundaries members rows) → LowHomes ns
+  homes_low boundaries members rows ns few e =
+      each_low (outers shells) shells ns
       (λ o m.
       let r = map_in (λ (s : Shell). lowest_face s.faces) (keep (λ s. s.outer) shells) o m in
       subst (λ x. x < 256) (sym r.2) (faces r.0 (keep_in (λ (s : Shell). s.outer) shells r.0 r.1).0))
-      faces (sym e) (nested_one boundaries members row) (in_map (nested_one boundaries members) i)
+      faces (sym e)
     where
       shells : List Shell
       shells = shells_in boundaries members rows
@@ -114,16 +114,16 @@ module _ (answers : List Answer) where
 
 -- LABELS
 
-pub labels_low : (boundaries members : List ℕ) (rows : List ShellRow) → LowHomes rows → LowLabels (lump_labels boundaries (nested_in boundaries members rows))
+pub labels_low : (boundaries : List ℕ) (ns : List Nested) → LowHomes ns → LowLabels (lump_labels boundaries ns)
 unfolding lump_labels
-labels_low boundaries members rows low f =
+labels_low boundaries ns low f =
     elim (dec_lt f (length boundaries)) [
       | yes h ↦ subst (λ x. x < 256) (sym (get_or_map label boundaries f 0 0 h)) (home (index_of (get_or boundaries f 0) (lowest_members boundaries)))
       | no h ↦ omega (arith, get_or-eq_default (map label boundaries) 0 {n = f} (omega (arith, length-map boundaries label)))
     ]
   where
     homes : List ℕ
-    homes = map (λ (x : Nested). x.home) (nested_in boundaries members rows)
+    homes = map (λ (x : Nested). x.home) ns
 
     label : ℕ → ℕ
     label b = get_or homes (index_of b (lowest_members boundaries)) 0
@@ -132,8 +132,7 @@ labels_low boundaries members rows low f =
     home i =
         elim (dec_lt i (length homes)) [
           | yes h ↦
-              let a = map_in (λ (x : Nested). x.home) (nested_in boundaries members rows) (get_or homes i 0) (get_or_in homes i 0 h) in
-              let b = map_in (nested_one boundaries members) rows a.0 a.1 in
-              subst (λ x. x < 256) (sym (a.2 ∙ ap (λ (x : Nested). x.home) b.2)) (low b.0 b.1)
+              let a = map_in (λ (x : Nested). x.home) ns (get_or homes i 0) (get_or_in homes i 0 h) in
+              subst (λ x. x < 256) (sym a.2) (low a.0 a.1)
           | no h ↦ omega (arith, get_or-eq_default homes 0 {n = i} (omega arith))
         ]

@@ -4,19 +4,19 @@ ghost use Rattle.std.specs.Prelude.{◌≡◌, length};
 ghost use Rattle.rules.specs.Frame.{framed_all};
 ghost use Rattle.rules.specs.Body.{body_records};
 ghost use Rattle.rules.specs.Sew.{lumps_clear, body_of, fitting, Ends};
-ghost use Rattle.shells.specs.Table.{shells_in, nested_in, Shelled};
+ghost use Rattle.shells.specs.Table.{shells_in, nested_of, Shelled};
 ghost use Rattle.progress.specs.Chain.{after_joining, after_shells, after_nesting};
 ghost use Rattle.rebuild.specs.Homes.{LowHomes};
 ghost use Rattle.rebuild.specs.Tables.{Sized, boundaries_of, members_of};
 
 use crate::clear_edges;
-use crate::fanned::Fans;
+use crate::fanned::{Fans, clear_points};
 use body::{Solid, Totals, put_body};
-use contact::{LabelledFans, points_clear};
 use edges::Joining;
+use progress::Walks;
 use result_out::{write_joining, write_lumps, write_shells};
-use rules::{Fault, Refusal, Stage};
-use shells::{NO_SHELL, ShellRow, lump_labels, nest, shells};
+use rules::{Fault, MOST_FACES, Refusal, Stage};
+use shells::{NO_SHELL, ShellRow, Shells, lump_labels, nest, shells};
 use std::marker::Model;
 
 // The fans with the edges and loops over them. Each edge has no ends or two fans. Contracts see those of the definitions.
@@ -37,6 +37,16 @@ impl<'a> Model for Drawn<'a> {
     ghost invariant = { λ d. EndsAreFans d.joining.now.edges d.fans.now.fan.names };
 }
 
+impl<'a> Drawn<'a> {
+    // The walks below.
+    fn walks(&self) -> &'a Walks<'a>
+        ensures { result.now ≡ record { job = self.now.job; walked = self.now.joined.fan.walk } }
+    {
+        let f = self.fans;
+        f.walks
+    }
+}
+
 // The stage `joining`, then the shells.
 #[tactic(auto, unfolding(progress::specs::Chain::after_joining))]
 pub fn on_joined<const USES: usize>(
@@ -51,9 +61,8 @@ pub fn on_joined<const USES: usize>(
     if Stage::Joining.is_asked(stage) {
         return write_joining(d.joining, out);
     }
-    let f = d.fans;
-    let w = f.walks;
-    let mut table = [NO_SHELL; 256];
+    let w = d.walks();
+    let mut table = [NO_SHELL; MOST_FACES];
     let n = shells(w.job, w.faces, &mut table)?;
     on_shelled::<USES>(stage, d, &mut table[..n], out)
 }
@@ -68,34 +77,34 @@ fn on_shelled<const USES: usize>(
     requires { Sized USES d.now × Shelled (boundaries_of d.now) (members_of d.now) table.old }
     ensures { Ends (after_shells stage d.now.job d.now.joined (length out.old) (shells_in (boundaries_of d.now) (members_of d.now) table.old)) out.old out.new result }
 {
-    let f = d.fans;
-    let w = f.walks;
+    let w = d.walks();
     if Stage::Shells.is_asked(stage) {
-        return write_shells(w.faces, table, out);
+        let shells = Shells {
+            faces: w.faces,
+            rows: table,
+        };
+        return write_shells(&shells, out);
     }
     nest(w.job, table)?;
-    on_nested::<USES>(stage, d, table, out)
+    let shells = Shells {
+        faces: w.faces,
+        rows: table,
+    };
+    on_nested::<USES>(stage, d, &shells, out)
 }
 
 // 32, then 33: the selected faces labelled by lump.
-fn lumps_clear(d: &Drawn<'_>, table: &[ShellRow]) -> Result<(), Refusal>
-    requires { Shelled (boundaries_of d.now) (members_of d.now) table.now × LowHomes table.now }
-    ensures { result ≡ lumps_clear d.now.job d.now.joined.fan (nested_in (boundaries_of d.now) (members_of d.now) table.now) }
+fn lumps_clear(d: &Drawn<'_>, shells: &Shells<'_>) -> Result<(), Refusal>
+    requires { LowHomes (nested_of shells.now) }
+    ensures { result ≡ lumps_clear d.now.job d.now.joined.fan (nested_of shells.now) }
 {
-    let f = d.fans;
-    let w = f.walks;
+    let w = d.walks();
     let boundaries = w.faces.boundaries();
-    let mut room = [0u32; 256];
+    let mut room = [0u32; MOST_FACES];
     let labels = &mut room[..boundaries.len()];
-    lump_labels(w.faces, table, labels);
-    let fans = LabelledFans {
-        uses: w.uses,
-        starts: f.starts,
-        labels,
-        names: f.names,
-    };
-    points_clear(Fault::FansInLump, &fans)?;
-    clear_edges(Fault::PairsInLump, w.job.edges(), w.uses, w.twins, labels)
+    lump_labels(boundaries, shells.rows, labels);
+    clear_points(Fault::FansInLump, d.fans, labels)?;
+    clear_edges(Fault::PairsInLump, w, labels)
 }
 
 // The stage `lumps`, the tests by lump, then the body.
@@ -103,29 +112,27 @@ fn lumps_clear(d: &Drawn<'_>, table: &[ShellRow]) -> Result<(), Refusal>
 fn on_nested<const USES: usize>(
     stage: Option<Stage>,
     d: &Drawn<'_>,
-    table: &[ShellRow],
+    shells: &Shells<'_>,
     out: &mut [u8],
 ) -> Result<usize, Refusal>
-    requires { Sized USES d.now × Shelled (boundaries_of d.now) (members_of d.now) table.now × LowHomes table.now }
-    ensures { Ends (after_nesting stage d.now.job d.now.joined (length out.old) (nested_in (boundaries_of d.now) (members_of d.now) table.now)) out.old out.new result }
+    requires { Sized USES d.now × LowHomes (nested_of shells.now) }
+    ensures { Ends (after_nesting stage d.now.job d.now.joined (length out.old) (nested_of shells.now)) out.old out.new result }
 {
-    let f = d.fans;
-    let w = f.walks;
     if Stage::Lumps.is_asked(stage) {
-        return write_lumps(w.faces, table, out);
+        return write_lumps(shells, out);
     }
-    lumps_clear(d, table)?;
-    write_body::<USES>(d, table, out)
+    lumps_clear(d, shells)?;
+    write_body::<USES>(d, shells, out)
 }
 
 // The body, with tables of numbers for so many uses.
 fn write_body<const USES: usize>(
     d: &Drawn<'_>,
-    table: &[ShellRow],
+    shells: &Shells<'_>,
     out: &mut [u8],
 ) -> Result<usize, Refusal>
-    requires { Sized USES d.now × Shelled (boundaries_of d.now) (members_of d.now) table.now }
-    ensures { Ends (fitting (length out.old) (framed_all (body_records (body_of d.now.job d.now.joined (nested_in (boundaries_of d.now) (members_of d.now) table.now))))) out.old out.new result }
+    requires { Sized USES d.now }
+    ensures { Ends (fitting (length out.old) (framed_all (body_records (body_of d.now.job d.now.joined (nested_of shells.now))))) out.old out.new result }
 {
     let f = d.fans;
     let w = f.walks;
@@ -145,7 +152,7 @@ fn write_body<const USES: usize>(
         starts: f.starts,
         joining: j,
         kept: w.kept,
-        shells: table,
+        shells,
     };
     let mut number_table = [0u32; USES];
     let mut vertex_table = [0u32; USES];

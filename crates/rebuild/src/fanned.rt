@@ -1,6 +1,7 @@
 // From the fans on: the stage `fans`, the edges and loops of the result, the stage `edges`, joining.
 
 ghost use Rattle.std.specs.Prelude.{◌≡◌, ◌*◌, ◌≤◌, length, take};
+ghost use Rattle.rules.specs.Contact.{points_clear};
 ghost use Rattle.rules.specs.Sew.{unjoined, Ends};
 ghost use Rattle.maximal_edges.specs.Joined.{state_in};
 ghost use Rattle.maximal_edges.specs.Hung.{SoundIn};
@@ -39,6 +40,21 @@ impl<'a> Model for Fans<'a> {
     ghost invariant = { λ f. record { walk = f.walks.now.walked; fans = f.fans.now; names = f.names.now; starts = f.starts.now } ≡ fans_of f.walks.now.job f.walks.now.walked };
 }
 
+// 31 by boundary, 32 by lump: no two fans at one point have the same label.
+#[tactic(auto, unfolding(rules::specs::Sew::walks_of))]
+pub fn clear_points(fault: Fault, f: &Fans<'_>, labels: &[u32]) -> Result<(), Refusal>
+    ensures { result ≡ points_clear fault f.now.fan.walk.uses f.now.fan.starts labels.now f.now.fan.names }
+{
+    let w = f.walks;
+    let fans = LabelledFans {
+        uses: w.uses,
+        starts: f.starts,
+        labels,
+        names: f.names,
+    };
+    points_clear(fault, &fans)
+}
+
 // The stage `fans`, then 31.
 #[tactic(auto, unfolding(progress::specs::Chain::after_fans, rules::specs::Sew::walks_of))]
 pub fn on_fanned<const USES: usize>(
@@ -52,15 +68,9 @@ pub fn on_fanned<const USES: usize>(
     let w = f.walks;
     // A test in each step and no table of closures: each stage is handed other tables, which a closure could not own.
     if Stage::Fans.is_asked(stage) {
-        return write_fans(w.job, w.uses, w.removed, f.fans, f.starts, out);
+        return write_fans(&w.kept_uses(), f.fans, f.starts, out);
     }
-    let fans = LabelledFans {
-        uses: w.uses,
-        starts: f.starts,
-        labels: w.faces.boundaries(),
-        names: f.names,
-    };
-    points_clear(Fault::FansInBoundary, &fans)?;
+    clear_points(Fault::FansInBoundary, f, w.faces.boundaries())?;
     draw_in_tables::<USES>(stage, f, out)
 }
 
@@ -72,6 +82,8 @@ struct Lengths {
 }
 
 // The loops of the walks as items of edges: the edges, the items of all loops, the stretch and the merged face of each loop.
+// The tables are lent: they are as long as the caller's size parameter says and stand on its stack, where joining works on
+// them.
 fn make_edges(
     f: &Fans<'_>,
     rows: &mut [EdgeData],
@@ -84,7 +96,7 @@ fn make_edges(
     ensures { Lined f.now rows.new result.edges items.new (take result.loops stretches.new) (take result.loops faces.new) × (result.loops ≤ length f.now.fan.walk.uses) }
 {
     let w = f.walks;
-    let loops = walk::loops(w.removed, w.succ, items, stretches);
+    let loops = walk::loops(&w.steps(), items, stretches);
     edges::loop_faces(
         w.uses,
         w.faces.numbers(),
@@ -93,6 +105,7 @@ fn make_edges(
         &mut faces[..loops],
     );
     let sides = Sides {
+        job: w.job,
         uses: w.uses,
         twins: w.twins,
         removed: w.removed,
@@ -100,7 +113,7 @@ fn make_edges(
         succ: w.succ,
         fans: f.fans,
     };
-    let edges = edges::edges(w.job, &sides, rows, owns);
+    let edges = edges::edges(&sides, rows, owns);
     edges::items(w.uses, owns, items);
     Lengths { edges, loops }
 }

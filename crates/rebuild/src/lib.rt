@@ -18,48 +18,42 @@ use contact::LabelledPairs;
 use edge_uses::link;
 use fanned::{Fans, on_fanned};
 use fans::{fan_names, start_points};
+use fields::Filled;
 use progress::Walks;
-use rules::{Fault, Refusal, Stage, Use};
+use rules::{FEW, Fault, MOST_EDGES, MOST_USES, Refusal, Stage};
 
 // CONTACT TESTS
 
 // 30 by boundary, 33 by lump, in tables for so many edges and uses: the uses of each edge are chained first.
 fn clear_in_tables<const EDGES: usize, const USES: usize>(
     fault: Fault,
-    edges: usize,
-    uses: &[Use],
-    twins: &[u32],
+    w: &Walks<'_>,
     labels: &[u32],
 ) -> Result<(), Refusal>
-    requires { (edges ≤ EDGES) × (EDGES ≤ 1024) × (length uses.now ≤ USES) × (USES ≤ 2048) × LowLabels labels.now }
-    ensures { result ≡ edges_clear fault uses.now twins.now labels.now edges }
+    requires { (length w.now.job.edges ≤ EDGES) × (EDGES ≤ 1024) × (length w.now.walked.uses ≤ USES) × (USES ≤ 2048) × LowLabels labels.now }
+    ensures { result ≡ edges_clear fault w.now.walked.uses w.now.walked.twins labels.now (length w.now.job.edges) }
 {
     let mut table = [0u32; EDGES];
     let mut room = [0u32; USES];
-    let linked = link(uses, &mut table[..edges], &mut room[..uses.len()]);
+    let heads = &mut table[..w.job.edges()];
+    let linked = link(w.uses, heads, &mut room[..w.uses.len()]);
     let pairs = LabelledPairs {
         linked: &linked,
-        twins,
+        twins: w.twins,
         labels,
     };
     contact::edges_clear(fault, &pairs)
 }
 
 // In tables for up to 64 edges and uses, where that is enough, and else for as many as there may be.
-fn clear_edges(
-    fault: Fault,
-    edges: usize,
-    uses: &[Use],
-    twins: &[u32],
-    labels: &[u32],
-) -> Result<(), Refusal>
-    requires { (edges ≤ 1024) × (length uses.now ≤ 2048) × LowLabels labels.now }
-    ensures { result ≡ edges_clear fault uses.now twins.now labels.now edges }
+fn clear_edges(fault: Fault, w: &Walks<'_>, labels: &[u32]) -> Result<(), Refusal>
+    requires { LowLabels labels.now }
+    ensures { result ≡ edges_clear fault w.now.walked.uses w.now.walked.twins labels.now (length w.now.job.edges) }
 {
-    if edges <= 64 && uses.len() <= 64 {
-        return clear_in_tables::<64, 64>(fault, edges, uses, twins, labels);
+    if w.job.edges() <= FEW && w.uses.len() <= FEW {
+        return clear_in_tables::<FEW, FEW>(fault, w, labels);
     }
-    clear_in_tables::<1024, 2048>(fault, edges, uses, twins, labels)
+    clear_in_tables::<MOST_EDGES, MOST_USES>(fault, w, labels)
 }
 
 // FANS
@@ -74,20 +68,19 @@ fn fans_in_tables<const USES: usize>(
     requires { (length w.now.walked.uses ≤ USES) × (USES ≤ 2048) }
     ensures { Ends (after_fans stage w.now.job (length out.old) (fans_of w.now.job w.now.walked)) out.old out.new result }
 {
-    let n = w.uses.len();
+    let kept = w.kept_uses();
+    let n = kept.uses.len();
     let mut fan_table = [0u32; USES];
-    let mut name_table = [0u32; USES];
     let mut start_table = [0u32; USES];
     let fans = &mut fan_table[..n];
-    let names = &mut name_table[..n];
     let starts = &mut start_table[..n];
-    fans::fans(w.job, w.uses, w.twins, w.removed, w.succ, fans);
-    let k = fan_names(w.job, w.uses, w.removed, fans, names);
-    start_points(w.job, w.uses, starts);
+    fans::fans(&kept, w.twins, w.succ, fans);
+    let names: Filled<u32, USES> = fan_names(&kept, fans);
+    start_points(kept.job, kept.uses, starts);
     let fanned = Fans {
         walks: w,
         fans,
-        names: &names[..k],
+        names: names.as_slice(),
         starts,
     };
     on_fanned::<USES>(stage, &fanned, out)
@@ -98,15 +91,9 @@ fn fans_in_tables<const USES: usize>(
 pub fn rebuild(stage: Option<Stage>, w: &Walks<'_>, out: &mut [u8]) -> Result<usize, Refusal>
     ensures { Ends (after_loops stage w.now.job (length out.old) w.now.walked) out.old out.new result }
 {
-    clear_edges(
-        Fault::PairsInBoundary,
-        w.job.edges(),
-        w.uses,
-        w.twins,
-        w.faces.boundaries(),
-    )?;
-    if w.uses.len() <= 64 {
-        return fans_in_tables::<64>(stage, w, out);
+    clear_edges(Fault::PairsInBoundary, w, w.faces.boundaries())?;
+    if w.uses.len() <= FEW {
+        return fans_in_tables::<FEW>(stage, w, out);
     }
-    fans_in_tables::<2048>(stage, w, out)
+    fans_in_tables::<MOST_USES>(stage, w, out)
 }

@@ -1,3 +1,3 @@
-pub mod Permitted
 pub mod Joints
 pub mod Limits
+pub mod Payloads

@@ -2,19 +2,21 @@
 
 #![tactic(auto)]
 
-ghost use Rattle.std.specs.Prelude.{◌≡◌, true, ◌&&◌, ◌||◌, not, ◌+◌, ◌*◌, ◌-◌, ◌%◌, ◌/◌, ◌<◌, ◌^◌, drop, eqb, ltb, leb};
+ghost use Rattle.std.specs.Prelude.{◌≡◌, true, ◌&&◌, ◌||◌, not, ◌+◌, ◌*◌, ◌-◌, ◌%◌, ◌/◌, ◌<◌, ◌^◌, drop, length, eqb, ltb, leb};
 ghost use Rattle.lists.specs.Lists.{all, neighbours};
-ghost use Rattle.rules.specs.Fields.{le32, fields_in};
-ghost use Rattle.rules.specs.Job.{item_at, items_from, of_ring};
+ghost use Rattle.rules.specs.Fields.{field};
+ghost use Rattle.rules.specs.Job.{items_of, of_ring};
 ghost use Rattle.rules.specs.Kinds.{is_answer, in_turn, is_sense, is_body, exists, ends_permitted, items_permitted, fields_permitted, right_length, right_position, limit_passed, part_of};
 ghost use Rattle.rules.specs.Load.{joint, jointed as jointed_of, right_joints, counted};
 ghost use Rattle.theorems.specs.Sound.{Limited};
 ghost use Rattle.job.specs.Raw.{points, edges};
 ghost use Rattle.records.specs.Joints.{ends_of};
 
-use fields::{UNSET, word};
-use job::RawJob;
-use rules::{Counts, Kind, Sense};
+use job::{Fields, RawJob};
+use rules::{
+    Counts, Item, Kind, MOST_ANSWERS, MOST_EDGES, MOST_FACES, MOST_LOOPS, MOST_USES, MOST_VERTICES,
+    UNSET,
+};
 
 // LENGTH AND POSITION
 
@@ -49,7 +51,34 @@ pub fn right_length(kind: Kind, size: usize) -> bool
     }
 }
 
-// After Head, and not after a later part. Parts are numbers, as in the definitions, since they are compared by order.
+// The parts of a job in their order: numbers, as in the definitions, since they are compared.
+const HEAD: usize = 1;
+
+const VERTICES: usize = 2;
+
+const EDGES: usize = 3;
+
+const FACES: usize = 4;
+
+const ANSWERS: usize = 5;
+
+// The part in which a kind stands.
+#[tactic(auto, unfolding(rules::specs::Kinds::part_of))]
+fn part_of(kind: Kind) -> usize
+    ensures { result ≡ part_of kind }
+{
+    match kind {
+        Kind::Unknown => 0,
+        Kind::Head => HEAD,
+        Kind::Vertex => VERTICES,
+        Kind::EdgeRecord => EDGES,
+        Kind::FaceRecord | Kind::LoopRecord | Kind::VertexLoop => FACES,
+        // the answers
+        _ => ANSWERS,
+    }
+}
+
+// After Head, and not after a later part.
 fn in_turn(reached: usize, part: usize) -> bool
     ensures { result ≡ in_turn reached part }
 {
@@ -73,7 +102,7 @@ pub fn is_answer(kind: Kind) -> bool
     )
 }
 
-// 3: the record stands in its part.
+// 3: the record stands in its part. Through `part_of` loading took 4 to 6 % more instructions (tried).
 #[tactic(auto, unfolding(rules::specs::Kinds::right_position))]
 pub fn right_position(kind: Kind, reached: usize) -> bool
     ensures { result ≡ right_position kind reached }
@@ -81,18 +110,12 @@ pub fn right_position(kind: Kind, reached: usize) -> bool
     match kind {
         Kind::Unknown => false,
         Kind::Head => reached == 0,
-        Kind::Vertex => in_turn(reached, 2),
-        Kind::EdgeRecord => in_turn(reached, 3),
-        Kind::FaceRecord => in_turn(reached, 4),
-        Kind::LoopRecord => reached == 4,
-        Kind::VertexLoop => reached == 4,
-        Kind::Radial
-        | Kind::Surface
-        | Kind::Points
-        | Kind::Curves
-        | Kind::Singular
-        | Kind::Orientation
-        | Kind::Inside => in_turn(reached, 5),
+        Kind::Vertex => in_turn(reached, VERTICES),
+        Kind::EdgeRecord => in_turn(reached, EDGES),
+        Kind::FaceRecord => in_turn(reached, FACES),
+        Kind::LoopRecord | Kind::VertexLoop => reached == FACES,
+        // the answers
+        _ => in_turn(reached, ANSWERS),
     }
 }
 
@@ -103,7 +126,7 @@ fn loops_passed(c: Counts, n: usize) -> bool
     requires { Limited c × (n < 2 ^ 60) }
     ensures { result ≡ (leb 1024 c.loops || ltb 2048 (c.uses + n / 2)) }
 {
-    1024 <= c.loops || 2048 < c.uses + n / 2
+    MOST_LOOPS <= c.loops || MOST_USES < c.uses + n / 2
 }
 
 // 5: a limit is passed by one more record of n fields.
@@ -115,39 +138,13 @@ pub fn limit_passed(kind: Kind, c: Counts, n: usize) -> bool
     match kind {
         Kind::Unknown => false,
         Kind::Head => false,
-        Kind::Vertex => 1024 <= c.vertices,
-        Kind::EdgeRecord => 1024 <= c.edges,
-        Kind::FaceRecord => 256 <= c.faces,
+        Kind::Vertex => MOST_VERTICES <= c.vertices,
+        Kind::EdgeRecord => MOST_EDGES <= c.edges,
+        Kind::FaceRecord => MOST_FACES <= c.faces,
         Kind::LoopRecord => loops_passed(c, n),
-        Kind::VertexLoop => 1024 <= c.loops,
-        Kind::Radial
-        | Kind::Surface
-        | Kind::Points
-        | Kind::Curves
-        | Kind::Singular
-        | Kind::Orientation
-        | Kind::Inside => 2048 <= c.answers,
-    }
-}
-
-// The part in which a kind stands.
-#[tactic(auto, unfolding(rules::specs::Kinds::part_of))]
-fn part_of(kind: Kind) -> usize
-    ensures { result ≡ part_of kind }
-{
-    match kind {
-        Kind::Unknown => 0,
-        Kind::Head => 1,
-        Kind::Vertex => 2,
-        Kind::EdgeRecord => 3,
-        Kind::FaceRecord | Kind::LoopRecord | Kind::VertexLoop => 4,
-        Kind::Radial
-        | Kind::Surface
-        | Kind::Points
-        | Kind::Curves
-        | Kind::Singular
-        | Kind::Orientation
-        | Kind::Inside => 5,
+        Kind::VertexLoop => MOST_LOOPS <= c.loops,
+        // the answers
+        _ => MOST_ANSWERS <= c.answers,
     }
 }
 
@@ -169,178 +166,181 @@ pub fn count_record(kind: Kind, n: usize, c: Counts) -> Counts
             after.uses += n / 2;
         }
         Kind::VertexLoop => after.loops += 1,
-        Kind::Radial
-        | Kind::Surface
-        | Kind::Points
-        | Kind::Curves
-        | Kind::Singular
-        | Kind::Orientation
-        | Kind::Inside => after.answers += 1,
+        // the answers
+        _ => after.answers += 1,
     }
     after
 }
 
 // PERMITTED FIELDS
 
+// A number exists among so many.
+fn exists(count: usize, x: u32) -> bool
+    ensures { result ≡ exists count x }
+{
+    (x as usize) < count
+}
+
 // Two vertices that exist, or the mark in both.
 #[tactic(auto, unfolding(rules::specs::Kinds::ends_permitted))]
-fn ends_permitted(vertices: usize, start: usize, end: usize) -> bool
+fn ends_permitted(vertices: usize, start: u32, end: u32) -> bool
     ensures { result ≡ ends_permitted vertices start end }
 {
     if start == UNSET {
         return end == UNSET;
     }
-    start < vertices && end < vertices
+    exists(vertices, start) && exists(vertices, end)
 }
 
-fn edge_permitted(job: &[u8], vertices: usize, body: usize) -> bool
-    requires { body < 2 ^ 59 }
-    ensures { result ≡ (is_sense (le32 job.now (body + 4)) && ends_permitted vertices (le32 job.now (body + 8)) (le32 job.now (body + 12))) }
+fn edge_permitted(payload: &Fields<'_>, vertices: usize) -> bool
+    requires { length payload.now ≡ 4 }
+    ensures { result ≡ (is_sense (field payload.now 1) && ends_permitted vertices (field payload.now 2) (field payload.now 3)) }
 {
-    word(job, body + 4) <= 1 && ends_permitted(vertices, word(job, body + 8), word(job, body + 12))
+    payload.at(1) <= 1 && ends_permitted(vertices, payload.at(2), payload.at(3))
 }
 
-fn face_permitted(job: &[u8], body: usize) -> bool
-    requires { body < 2 ^ 59 }
-    ensures { result ≡ (is_sense (le32 job.now (body + 4)) && (is_sense (le32 job.now (body + 8)) && is_body (le32 job.now (body + 12)))) }
+fn face_permitted(payload: &Fields<'_>) -> bool
+    requires { length payload.now ≡ 5 }
+    ensures { result ≡ (is_sense (field payload.now 1) && (is_sense (field payload.now 2) && is_body (field payload.now 3))) }
 {
-    word(job, body + 4) <= 1 && word(job, body + 8) <= 1 && word(job, body + 12) <= 1
+    payload.at(1) <= 1 && payload.at(2) <= 1 && payload.at(3) <= 1
 }
 
-// Each of n items names an edge and has a sense.
-fn items_permitted(job: &[u8], edges: usize, body: usize, n: usize) -> bool
-    requires { body + 8 * n < 2 ^ 59 }
-    ensures { result ≡ items_permitted edges (fields_in (2 * n) (drop body job.now)) }
+// Each item names an edge and has a sense.
+fn items_permitted(payload: &Fields<'_>, edges: usize) -> bool
+    requires { length payload.now % 2 ≡ 0 }
+    ensures { result ≡ items_permitted edges payload.now }
 {
-    (0..n).all(|i| word(job, body + 8 * i) < edges && word(job, body + 8 * i + 4) <= 1)
+    (0..payload.len() / 2).all(|i| exists(edges, payload.at(2 * i)) && payload.at(2 * i + 1) <= 1)
 }
 
-// Each of n numbers lies below a count.
-fn all_exist(job: &[u8], count: usize, from: usize, n: usize) -> bool
-    requires { from + 4 * n < 2 ^ 59 }
-    ensures { result ≡ all (exists count) (fields_in n (drop from job.now)) }
+// Each number after the first lies below a count.
+fn others_exist(payload: &Fields<'_>, count: usize) -> bool
+    ensures { result ≡ all (exists count) (drop 1 payload.now) }
 {
-    (0..n).all(|i| word(job, from + 4 * i) < count)
+    let mut others = payload.iter();
+    others.next();
+    others.all(|x| exists(count, x))
 }
 
-fn radial_permitted(raw: &RawJob<'_>, body: usize, n: usize) -> bool
-    requires { (0 < n) × (body + 4 * n < 2 ^ 59) }
-    ensures { result ≡ (exists raw.now.counts.edges (le32 raw.now.bytes.now body) && all (exists raw.now.counts.uses) (fields_in (n - 1) (drop (body + 4) raw.now.bytes.now))) }
+// An edge that exists, and uses that do.
+fn radial_permitted(payload: &Fields<'_>, edges: usize, uses: usize) -> bool
+    requires { 0 < length payload.now }
+    ensures { result ≡ (exists edges (field payload.now 0) && all (exists uses) (drop 1 payload.now)) }
 {
-    word(raw.bytes, body) < raw.counts.edges
-        && all_exist(raw.bytes, raw.counts.uses, body + 4, n - 1)
+    exists(edges, payload.at(0)) && others_exist(payload, uses)
 }
 
 // A number that exists, and a value.
-fn valued_permitted(job: &[u8], count: usize, most: usize, body: usize) -> bool
-    requires { body < 2 ^ 59 }
-    ensures { result ≡ (exists count (le32 job.now body) && leb (le32 job.now (body + 4)) most) }
+fn valued_permitted(payload: &Fields<'_>, count: usize, most: u32) -> bool
+    requires { length payload.now ≡ 2 }
+    ensures { result ≡ (exists count (field payload.now 0) && leb (field payload.now 1) most) }
 {
-    word(job, body) < count && word(job, body + 4) <= most
+    exists(count, payload.at(0)) && payload.at(1) <= most
 }
 
 // Two numbers that differ, and a value.
-fn different_permitted(job: &[u8], body: usize) -> bool
-    requires { body < 2 ^ 59 }
-    ensures { result ≡ (not (eqb (le32 job.now body) (le32 job.now (body + 4))) && leb (le32 job.now (body + 8)) 2) }
+fn different_permitted(payload: &Fields<'_>) -> bool
+    requires { length payload.now ≡ 3 }
+    ensures { result ≡ (not (eqb (field payload.now 0) (field payload.now 1)) && leb (field payload.now 2) 2) }
 {
-    word(job, body) != word(job, body + 4) && word(job, body + 8) <= 2
+    payload.at(0) != payload.at(1) && payload.at(2) <= 2
 }
 
 // Two faces, ascending, that exist, and a value.
-fn singular_permitted(job: &[u8], faces: usize, body: usize) -> bool
-    requires { body < 2 ^ 59 }
-    ensures { result ≡ (ltb (le32 job.now (body + 4)) (le32 job.now (body + 8)) && (exists faces (le32 job.now (body + 8)) && leb (le32 job.now (body + 16)) 2)) }
+fn singular_permitted(payload: &Fields<'_>, faces: usize) -> bool
+    requires { length payload.now ≡ 5 }
+    ensures { result ≡ (ltb (field payload.now 1) (field payload.now 2) && (exists faces (field payload.now 2) && leb (field payload.now 4) 2)) }
 {
-    let b = word(job, body + 8);
-    word(job, body + 4) < b && b < faces && word(job, body + 16) <= 2
+    let b = payload.at(2);
+    payload.at(1) < b && exists(faces, b) && payload.at(4) <= 2
 }
 
 // Two faces that exist, and a value.
-fn inside_permitted(job: &[u8], faces: usize, body: usize) -> bool
-    requires { body < 2 ^ 59 }
-    ensures { result ≡ (exists faces (le32 job.now body) && (exists faces (le32 job.now (body + 4)) && leb (le32 job.now (body + 8)) 2)) }
+fn inside_permitted(payload: &Fields<'_>, faces: usize) -> bool
+    requires { length payload.now ≡ 3 }
+    ensures { result ≡ (exists faces (field payload.now 0) && (exists faces (field payload.now 1) && leb (field payload.now 2) 2)) }
 {
-    word(job, body) < faces && word(job, body + 4) < faces && word(job, body + 8) <= 2
+    exists(faces, payload.at(0)) && exists(faces, payload.at(1)) && payload.at(2) <= 2
 }
 
-// 4: the n fields of a record of the right length are permitted; its payload stands at `body`.
-#[tactic(auto, using(crate::specs::Permitted::permitted_at_lem, crate::specs::Permitted::radial_some), unfolding(crate::specs::Permitted::permitted_at))]
-pub fn fields_permitted(raw: &RawJob<'_>, kind: Kind, body: usize, n: usize) -> bool
-    requires { (right_length kind (4 * n) ≡ true) × (body + 4 * n < 2 ^ 59) }
-    ensures { result ≡ fields_permitted kind raw.now.counts (fields_in n (drop body raw.now.bytes.now)) }
+// 4: the fields of a record of the right length are permitted.
+#[tactic(auto, using(crate::specs::Payloads::whole), unfolding(rules::specs::Kinds::fields_permitted, rules::specs::Kinds::right_length))]
+pub fn fields_permitted(kind: Kind, c: Counts, payload: &Fields<'_>) -> bool
+    requires { right_length kind (4 * length payload.now) ≡ true }
+    ensures { result ≡ fields_permitted kind c payload.now }
 {
     match kind {
         Kind::Unknown => false,
-        Kind::Head => word(raw.bytes, body) <= 1,
+        Kind::Head => payload.at(0) <= 1,
         Kind::Vertex => true,
-        Kind::EdgeRecord => edge_permitted(raw.bytes, raw.counts.vertices, body),
-        Kind::FaceRecord => face_permitted(raw.bytes, body),
-        Kind::LoopRecord => items_permitted(raw.bytes, raw.counts.edges, body, n / 2),
-        Kind::VertexLoop => word(raw.bytes, body) < raw.counts.vertices,
-        Kind::Radial => radial_permitted(raw, body, n),
-        Kind::Surface => valued_permitted(raw.bytes, raw.counts.uses, 4, body),
-        Kind::Points => different_permitted(raw.bytes, body),
-        Kind::Curves => different_permitted(raw.bytes, body),
-        Kind::Singular => singular_permitted(raw.bytes, raw.counts.faces, body),
-        Kind::Orientation => valued_permitted(raw.bytes, raw.counts.faces, 2, body),
-        Kind::Inside => inside_permitted(raw.bytes, raw.counts.faces, body),
+        Kind::EdgeRecord => edge_permitted(payload, c.vertices),
+        Kind::FaceRecord => face_permitted(payload),
+        Kind::LoopRecord => items_permitted(payload, c.edges),
+        Kind::VertexLoop => exists(c.vertices, payload.at(0)),
+        Kind::Radial => radial_permitted(payload, c.edges, c.uses),
+        Kind::Surface => valued_permitted(payload, c.uses, 4),
+        Kind::Points | Kind::Curves => different_permitted(payload),
+        Kind::Singular => singular_permitted(payload, c.faces),
+        Kind::Orientation => valued_permitted(payload, c.faces, 2),
+        Kind::Inside => inside_permitted(payload, c.faces),
     }
 }
 
 // JOINTS
 
-// The edge of the item at a place has no vertices.
-fn is_ring(raw: &RawJob<'_>, p: usize) -> bool
-    requires { Limited raw.now.counts × (p < 2 ^ 59) }
-    ensures { result ≡ of_ring (edges raw.now) (item_at raw.now.bytes.now p) }
+// The edge of an item has no vertices.
+fn is_ring(raw: &RawJob<'_>, item: Item) -> bool
+    requires { Limited raw.now.counts }
+    ensures { result ≡ of_ring (edges raw.now) item }
 {
-    raw.edge(word(raw.bytes, p)).is_ring()
+    raw.edge(item.edge as usize).is_ring()
 }
 
-// Whether an item is of a ring, and the points where it starts and ends.
+// The points where an item starts and ends.
 #[derive(Clone, Copy)]
 struct Ends {
-    ring: bool,
-    start: usize,
-    end: usize,
+    start: u32,
+    end: u32,
 }
 
-// Those of the item at a place; its edge, vertices and points are read once.
-fn item_ends(raw: &RawJob<'_>, p: usize) -> Ends
-    requires { Limited raw.now.counts × (p < 2 ^ 59) }
-    ensures { result ≡ ends_of (points raw.now) (edges raw.now) (item_at raw.now.bytes.now p) }
+// Those of an item, unless its edge is a ring; its edge, vertices and points are read once. Inlined: as a call loading took 8 to
+// 10 % more instructions.
+#[inline(always)]
+fn item_ends(raw: &RawJob<'_>, item: Item) -> Option<Ends>
+    requires { Limited raw.now.counts }
+    ensures { result ≡ ends_of (points raw.now) (edges raw.now) item }
 {
-    let sense = Sense::from(word(raw.bytes, p + 4));
-    let edge = raw.edge(word(raw.bytes, p));
-    Ends {
-        ring: edge.is_ring(),
-        start: raw.point(edge.start_by(sense) as usize),
-        end: raw.point(edge.end_by(sense) as usize),
+    let edge = raw.edge(item.edge as usize);
+    if edge.is_ring() {
+        return None;
     }
+    Some(Ends {
+        start: raw.point(edge.start_by(item.sense) as usize),
+        end: raw.point(edge.end_by(item.sense) as usize),
+    })
 }
 
-// Each of n items with its successor is a joint, the last with the first: none is of a ring, and each starts at the
+// Each of the items with its successor is a joint, the last with the first: none is of a ring, and each starts at the
 // point where the one before ends.
 #[tactic(auto, using(crate::specs::Joints::along), unfolding(rules::specs::Load::joint))]
-fn joined(raw: &RawJob<'_>, body: usize, n: usize) -> bool
-    requires { Limited raw.now.counts × (body + 8 * n < 2 ^ 59) }
-    ensures { result ≡ all (joint (points raw.now) (edges raw.now)) (neighbours (items_from raw.now.bytes.now body n)) }
+fn joined(raw: &RawJob<'_>, payload: &Fields<'_>) -> bool
+    requires { Limited raw.now.counts }
+    ensures { result ≡ all (joint (points raw.now) (edges raw.now)) (neighbours (items_of payload.now)) }
 {
+    let n = payload.len() / 2;
     if n == 0 {
         return true;
     }
-    let first = item_ends(raw, body);
-    if first.ring {
+    let Some(first) = item_ends(raw, payload.item(0)) else {
         return false;
-    }
+    };
     let mut end = first.end;
     // by number: an item is read where it stands in the bytes, once, and looked at with the one before
     for i in 1..n {
-        let next = item_ends(raw, body + 8 * i);
-        if next.ring {
+        let Some(next) = item_ends(raw, payload.item(i)) else {
             return false;
-        }
+        };
         if next.start != end {
             return false;
         }
@@ -351,23 +351,23 @@ fn joined(raw: &RawJob<'_>, body: usize, n: usize) -> bool
 
 // A ring's use alone, or joints.
 #[tactic(auto, using(crate::specs::Joints::jointed_is))]
-fn jointed(raw: &RawJob<'_>, body: usize, n: usize) -> bool
-    requires { Limited raw.now.counts × (body + 8 * n < 2 ^ 59) }
-    ensures { result ≡ jointed_of (points raw.now) (edges raw.now) (items_from raw.now.bytes.now body n) }
+fn jointed(raw: &RawJob<'_>, payload: &Fields<'_>) -> bool
+    requires { Limited raw.now.counts }
+    ensures { result ≡ jointed_of (points raw.now) (edges raw.now) (items_of payload.now) }
 {
-    n == 1 && is_ring(raw, body) || joined(raw, body, n)
+    payload.len() / 2 == 1 && is_ring(raw, payload.item(0)) || joined(raw, payload)
 }
 
 // 6: a loop's joints hold. They are looked at in a copy, so that what is read need not be stored for any other record.
 #[tactic(auto, using(crate::specs::Joints::loop_joints, crate::specs::Joints::no_loop))]
-pub fn right_joints(raw: &RawJob<'_>, kind: Kind, body: usize, n: usize) -> bool
-    requires { Limited raw.now.counts × (body + 4 * n < 2 ^ 59) }
-    ensures { result ≡ right_joints kind (points raw.now) (edges raw.now) (fields_in n (drop body raw.now.bytes.now)) }
+pub fn right_joints(raw: &RawJob<'_>, kind: Kind, payload: &Fields<'_>) -> bool
+    requires { Limited raw.now.counts }
+    ensures { result ≡ right_joints kind (points raw.now) (edges raw.now) payload.now }
 {
     match kind {
         Kind::LoopRecord => {
             let copy = *raw;
-            jointed(&copy, body, n / 2)
+            jointed(&copy, payload)
         }
         _ => true,
     }

@@ -4,14 +4,12 @@
 
 #![tactic(auto)]
 
-ghost use Rattle.std.specs.Prelude.{◌≡◌, ◌+◌, ◌<◌, ◌≤◌, ◌^◌, length, IfOk};
-ghost use Rattle.replay.specs.Counted.{Counted};
+ghost use Rattle.std.specs.Prelude.{◌≡◌, ◌+◌, ◌<◌, ◌≤◌, ◌^◌, length};
 ghost use Rattle.replay.specs.Operation.{packed_number};
 
-use fields::word;
+use fields::{put_fields, word};
 use programs::Program;
 use rules::{Refusal, Stage};
-use stages_out::put_two;
 
 // One byte more than a packed file may have: a longer file is told by its length.
 const FILE: usize = 2000001;
@@ -20,6 +18,9 @@ const FILE: usize = 2000001;
 const OUT: usize = 131072;
 
 const BODY: usize = 65536;
+
+// A job that is loaded has no more bytes.
+const JOB: usize = 65536;
 
 // A job has no more loops, so that a request for the loop of this number is refused.
 const LOOPS: usize = 1024;
@@ -69,25 +70,6 @@ impl Operation {
         }
     }
 
-    // The length of its output, where `given` is packed with it.
-    fn room(self, given: usize) -> usize {
-        match self {
-            Operation::Sewing => BODY,
-            Operation::SewingInRoom => given,
-            _ => OUT,
-        }
-    }
-
-    // How many bytes stand before its answer for its room.
-    fn room_field(self) -> usize
-        ensures { result ≤ 4 }
-    {
-        match self {
-            Operation::SewingInRoom => 4,
-            _ => 0,
-        }
-    }
-
     // Whether bytes of its output are packed behind the hash, after their count.
     fn shows_output(self) -> bool {
         matches!(self, Operation::Sewing | Operation::SewingInRoom)
@@ -118,72 +100,89 @@ struct Output {
     shown: usize,
 }
 
-// What is packed at a place: the operation, its room, the answer, the output's bytes, the place after it.
+// A packed answer: the operation, its room, the answer, the output's bytes.
 #[derive(Clone, Copy)]
 struct Packed<'a> {
     operation: Operation,
     room: usize,
     answer: Result<Output, Refused>,
     output: &'a [u8],
-    next: usize,
 }
 
-// The place that is reached, and how many jobs, answers and differences there were before it.
+// How many jobs, answers and differences there are.
 #[derive(Clone, Copy)]
 struct Tally {
-    at: usize,
-    jobs: usize,
+    jobs: u32,
     answers: usize,
     differences: usize,
 }
 
 // READING WHAT IS PACKED
 
-// So many bytes from a place on.
-fn part(bytes: &[u8], from: usize, count: usize) -> &[u8]
-    ensures { length result.now ≤ length bytes.now }
-{
-    lines::front(lines::back(bytes, from), count)
+// What is left of the packed file, which is read from its front.
+#[derive(Drop)]
+struct Reader<'a> {
+    rest: &'a [u8],
 }
 
-// The answer that is packed at a place: 0, length and hash of an output, or number and place of a refusal.
-fn packed_at(bytes: &[u8], at: usize) -> Packed<'_>
-    requires { at < 4294967296 }
-    ensures { (at + 1 < result.next) × (result.next < at + 2 ^ 33) }
-{
-    let operation = Operation::from(word(bytes, at));
-    let room = operation.room(word(bytes, at + 4));
-    let ending = at + 4 + operation.room_field();
-    let number = word(bytes, ending);
-    let second = word(bytes, ending + 4);
-    if number != 0 {
-        return Packed {
+impl<'a> Reader<'a> {
+    // So many bytes, if they are there.
+    fn part(&mut self, count: usize) -> Option<&'a [u8]> {
+        let (part, rest) = self.rest.split_at_checked(count)?;
+        self.rest = rest;
+        Some(part)
+    }
+
+    // A four-byte field, if it is there.
+    fn field(&mut self) -> Option<u32> {
+        let bytes = self.part(4)?;
+        Some(word(bytes, 0) as u32)
+    }
+
+    // A vector's job, and how many answers come after it.
+    fn vector(&mut self) -> Option<(&'a [u8], u32)> {
+        let size = self.field()?;
+        let job = self.part(size as usize)?;
+        let count = self.field()?;
+        Some((job, count))
+    }
+
+    // An answer: 0, length and hash of an output, or number and place of a refusal.
+    fn answer(&mut self) -> Option<Packed<'a>> {
+        let operation = Operation::from(self.field()? as usize);
+        let room = match operation {
+            Operation::Sewing => BODY,
+            Operation::SewingInRoom => self.field()? as usize,
+            _ => OUT,
+        };
+        let number = self.field()? as usize;
+        if number != 0 {
+            let place = self.field()? as usize;
+            return Some(Packed {
+                operation,
+                room,
+                answer: Err(Refused { number, place }),
+                output: &[],
+            });
+        }
+        let length = self.field()? as usize;
+        let hash = self.field()?;
+        let shown = if operation.shows_output() {
+            self.field()? as usize
+        } else {
+            0
+        };
+        let output = self.part(shown)?;
+        Some(Packed {
             operation,
             room,
-            answer: Err(Refused {
-                number,
-                place: second,
+            answer: Ok(Output {
+                length,
+                hash,
+                shown,
             }),
-            output: &[],
-            next: ending + 8,
-        };
-    }
-    let hash = word(bytes, ending + 8) as u32;
-    let (shown, start) = if operation.shows_output() {
-        (word(bytes, ending + 12), ending + 16)
-    } else {
-        (0, ending + 12)
-    };
-    Packed {
-        operation,
-        room,
-        answer: Ok(Output {
-            length: second,
-            hash,
-            shown,
-        }),
-        output: part(bytes, start, shown),
-        next: start + shown,
+            output,
+        })
     }
 }
 
@@ -201,26 +200,27 @@ fn agreeing(a: &[u8], b: &[u8]) -> usize {
     a.iter().zip(b).take_while(|(x, y)| x == y).count()
 }
 
-// The payload of a requested loop at a place, which is no longer than the job; gives the place after it.
+// The payload of a requested loop at a place; gives the place after it. A job that has loops was loaded, so that its payload
+// is there whole.
 fn put_payload(job: &[u8], n: usize, out: &mut [u8], at: usize) -> usize
-    requires { (at < 2 ^ 50) × (length job.now < 4294967296) }
-    ensures { (at ≤ result) × (result ≤ at + length job.now) }
+    requires { at < 2 ^ 50 }
+    ensures { (at ≤ result) × (result ≤ at + 65536) }
 {
     let payload = load::loop_payload(job, n);
-    lines::put_text(out, at, lines::front(payload, job.len()))
+    let size = payload.len().min(JOB);
+    lines::put_text(out, at, &payload[..size])
 }
 
 // The answers to the loop requests from 0 up to the first that is refused: number and place, or 0, length and payload.
 #[tactic(auto, using(fields::specs::Tabled::length_field_bytes))]
-fn requests(job: &[u8], out: &mut [u8]) -> usize
-    requires { (length job.now < 4294967296) × (length out.old < 4294967296) }
-{
+fn requests(job: &[u8], out: &mut [u8]) -> usize {
     let mut p = 0;
+    // by number: a request names its loop by it
     for n in 0..=LOOPS {
         match load::loop_stretch(job, n) {
-            Err(refusal) => return put_two(out, p, refusal.fault.number(), refusal.place),
+            Err(refusal) => return put_fields(out, p, &[refusal.fault.number(), refusal.place]),
             Ok(bytes) => {
-                let q = put_two(out, p, 0, bytes.len());
+                let q = put_fields(out, p, &[0, bytes.len()]);
                 p = put_payload(job, n, out, q);
             }
         }
@@ -228,9 +228,8 @@ fn requests(job: &[u8], out: &mut [u8]) -> usize
     p
 }
 
-fn run(operation: Operation, job: &[u8], out: &mut [u8]) -> Result<usize, Refusal>
-    requires { (length job.now < 4294967296) × (length out.old < 4294967296) }
-{
+// The answer of an operation, worked out anew.
+fn run(operation: Operation, job: &[u8], out: &mut [u8]) -> Result<usize, Refusal> {
     match operation {
         Operation::LoopRequests => Ok(requests(job, out)),
         Operation::Single(stage) => programs::operate(Some(stage), job, out),
@@ -239,10 +238,8 @@ fn run(operation: Operation, job: &[u8], out: &mut [u8]) -> Result<usize, Refusa
 }
 
 // The answer that is found, with the bytes of the output held against the packed ones.
-fn found(job: &[u8], p: Packed<'_>, out: &mut [u8]) -> Result<Output, Refused>
-    requires { (length job.now < 4294967296) × (length out.old < 4294967296) }
-{
-    let room = p.room.min(out.len());
+fn found(job: &[u8], p: Packed<'_>, out: &mut [u8; OUT]) -> Result<Output, Refused> {
+    let room = p.room.min(OUT);
     let length = run(p.operation, job, &mut out[..room])?;
     let written = lines::front(out, length);
     Ok(Output {
@@ -271,7 +268,7 @@ fn say_answer(rt: &impl Print, text: &str, answer: Result<Output, Refused>) {
 // The line of a difference.
 fn report(
     rt: &impl Print,
-    vector: usize,
+    vector: u32,
     operation: Operation,
     expected: Result<Output, Refused>,
     answer: Result<Output, Refused>,
@@ -298,7 +295,6 @@ fn close(rt: &(impl Print + Eprint), ending: Result<Tally, &str>) {
                 differences: 0,
                 answers,
                 jobs,
-                ..
             },
         ) => print!(rt; "no difference in {answers} answers of {jobs} jobs"),
         Ok(
@@ -306,125 +302,86 @@ fn close(rt: &(impl Print + Eprint), ending: Result<Tally, &str>) {
                 differences,
                 answers,
                 jobs,
-                ..
             },
         ) => print!(rt; "{differences} differences in {answers} answers of {jobs} jobs"),
     };
-    programs::print(rt, PROGRAM, b"\n");
+    PROGRAM.print(rt, b"\n");
 }
 
 // THE VECTORS
 
-// One answer of a job.
-fn run_answer(
-    rt: &impl Print,
-    job: &[u8],
-    vector: usize,
-    p: Packed<'_>,
-    mut t: Tally,
-    out: &mut [u8],
-) -> Tally
-    requires { Counted t × (t.at < p.next) × (p.next < 4294967296) × (length job.now < 4294967296) × (length out.old < 4294967296) }
-    ensures { Counted result × (result.at ≡ p.entry.next) }
-{
+// Whether an answer is now what it is packed as; where not, the line of the difference is printed.
+fn agrees(rt: &impl Print, vector: u32, job: &[u8], p: Packed<'_>, out: &mut [u8; OUT]) -> bool {
     let answer = found(job, p, out);
-    t.at = p.next;
-    t.answers += 1;
-    if answer != p.answer {
+    let same = answer == p.answer;
+    if !same {
         report(rt, vector, p.operation, p.answer, answer);
-        t.differences += 1;
     }
-    t
+    same
 }
 
-// So many answers of a job.
+// How many of the next answers, so many of a job, differ; none where fewer are left.
 fn run_answers(
     rt: &impl Print,
-    bytes: &[u8],
+    reader: &mut Reader<'_>,
+    vector: u32,
     job: &[u8],
-    vector: usize,
-    count: usize,
-    first: Tally,
-    out: &mut [u8],
-) -> Result<Tally, &'static str>
-    requires { Counted first × (first.at ≤ length bytes.now) × (length bytes.now < 4294967296) × (length job.now < 4294967296) × (length out.old < 4294967296) }
-    ensures { IfOk result (λ t. Counted t × (t.at ≤ length bytes.now)) }
-{
-    let mut t = first;
+    count: u32,
+    out: &mut [u8; OUT],
+) -> Option<u32> {
+    let mut differences: u32 = 0;
+    // by number: the file says how many there are, and each begins where the one before ends
     for _ in 0..count {
-        let p = packed_at(bytes, t.at);
-        if bytes.len() < p.next {
-            return Err("a vector has fewer answers than it says");
+        let p = reader.answer()?;
+        if !agrees(rt, vector, job, p, out) {
+            differences += 1;
         }
-        t = run_answer(rt, job, vector, p, t, out);
     }
-    Ok(t)
+    Some(differences)
 }
 
-// The place after a vector's job and the number of its answers.
-fn answers_at(bytes: &[u8], at: usize) -> usize
-    requires { at < 4294967296 }
-    ensures { (at + 8 ≤ result) × (result < at + 2 ^ 33) }
-{
-    at + 8 + word(bytes, at)
-}
-
-// One vector: a job with its answers.
-fn run_vector(
+// So many vectors, each a job with its answers.
+fn run_vectors(
     rt: &impl Print,
-    bytes: &[u8],
-    t: Tally,
-    start: usize,
-    out: &mut [u8],
-) -> Result<Tally, &'static str>
-    requires { Counted t × (t.at + 8 ≤ start) × (start ≤ length bytes.now) × (length bytes.now < 4294967296) × (length out.old < 4294967296) }
-    ensures { IfOk result (λ t. Counted t × (t.at ≤ length bytes.now)) }
-{
-    let size = word(bytes, t.at);
-    let job = part(bytes, t.at + 4, size);
-    let count = word(bytes, start - 4);
-    let first = Tally {
-        at: start,
-        jobs: t.jobs + 1,
-        ..t
-    };
-    run_answers(rt, bytes, job, t.jobs, count, first, out)
-}
-
-// All vectors.
-fn run_vectors(rt: &impl Print, bytes: &[u8], out: &mut [u8]) -> Result<Tally, &'static str>
-    requires { (length bytes.now < 4294967296) × (length out.old < 4294967296) }
-{
-    let count = word(bytes, 0);
-    let mut t = Tally {
-        at: 4,
-        jobs: 0,
-        answers: 0,
-        differences: 0,
-    };
-    for _ in 0..count {
-        let start = answers_at(bytes, t.at);
-        if bytes.len() < start {
-            return Err("the file has fewer vectors than its first field says");
-        }
-        t = run_vector(rt, bytes, t, start, out)?;
+    reader: &mut Reader<'_>,
+    jobs: u32,
+    out: &mut [u8; OUT],
+) -> Result<Tally, &'static str> {
+    let mut answers: usize = 0;
+    let mut differences: usize = 0;
+    // by number, as above
+    for vector in 0..jobs {
+        let (job, count) = reader
+            .vector()
+            .ok_or("the file has fewer vectors than its first field says")?;
+        let differing = run_answers(rt, reader, vector, job, count, out).ok_or(
+            "a vector has fewer answers than it says",
+        )?;
+        answers += count as usize;
+        differences += differing as usize;
     }
-    Ok(t)
+    Ok(Tally {
+        jobs,
+        answers,
+        differences,
+    })
 }
 
 // What the vectors of a file's bytes come to, or why the file is not usable: they must fill it and have answers.
-fn replay(rt: &impl Print, bytes: &[u8]) -> Result<Tally, &'static str>
-    requires { length bytes.now < 4294967296 }
-{
+fn replay(rt: &impl Print, bytes: &[u8]) -> Result<Tally, &'static str> {
     if bytes.len() == FILE {
         return Err("the file has more than 2,000,000 bytes");
     }
+    let jobs = word(bytes, 0) as u32;
+    let mut reader = Reader {
+        rest: lines::back(bytes, 4),
+    };
     let mut out = [0u8; OUT];
-    let t = run_vectors(rt, bytes, &mut out)?;
+    let t = run_vectors(rt, &mut reader, jobs, &mut out)?;
     if t.answers == 0 {
         return Err("the file has no answers");
     }
-    if t.at != bytes.len() {
+    if !reader.rest.is_empty() {
         return Err("the file does not end with its last vector");
     }
     Ok(t)
@@ -439,9 +396,9 @@ fn blank() -> [u8; FILE]
 
 fn main(rt: HostRuntime) {
     let mut file = blank();
-    let Some(n) = programs::read_file(&rt, PROGRAM, 1, &mut file) else {
+    let Some(n) = PROGRAM.read_file(&rt, 1, &mut file) else {
         return;
     };
-    let ending = replay(&rt, part(&file, 0, n));
+    let ending = replay(&rt, lines::front(&file, n));
     close(&rt, ending);
 }

@@ -5,3 +5,4 @@ pub mod QuestionLaws
 pub mod GroupLaws
 pub mod SenseLaws
 pub mod KindLaws
+pub mod SizeLaws

@@ -12,6 +12,27 @@ ghost use Rattle.rules.specs.Read.{stored_sense};
 
 use std::ops::Mul;
 
+// The mark for none: no vertex at a ring's ends, no fan, no twin yet. The definitions' `unset`.
+pub const UNSET: u32 = u32::MAX;
+
+// THE LIMITS of a job, in document 01's order. Clauses have the numbers themselves, as the definitions do.
+pub const MOST_BYTES: usize = 65536;
+
+pub const MOST_VERTICES: usize = 1024;
+
+pub const MOST_EDGES: usize = 1024;
+
+pub const MOST_FACES: usize = 256;
+
+pub const MOST_LOOPS: usize = 1024;
+
+pub const MOST_USES: usize = 2048;
+
+pub const MOST_ANSWERS: usize = 2048;
+
+// A part with so few uses, edges or loops is sewn in small tables, which are cleared sooner.
+pub const FEW: usize = 64;
+
 // 0 Same, 1 Reversed.
 #[derive(Clone, Copy, PartialEq, Eq)]
 pub enum Sense {
@@ -196,7 +217,7 @@ impl From<usize> for Verdict {
 
 // What has been loaded so far: the part reached (0 nothing, 1 Head, 2 vertices, 3 edges, 4 faces with their loops,
 // 5 answers), then how many of each thing; `loops` counts both sorts.
-#[derive(Clone, Copy)]
+#[derive(Clone, Copy, Default)]
 pub struct Counts {
     pub part: usize,
     pub vertices: usize,
@@ -207,7 +228,7 @@ pub struct Counts {
     pub answers: usize,
 }
 
-// An edge of the job; both vertices are 4,294,967,295 for a ring.
+// An edge of the job; both vertices are `UNSET` for a ring.
 #[derive(Clone, Copy)]
 pub struct Edge {
     pub curve: u32,
@@ -221,7 +242,7 @@ impl Edge {
     pub fn is_ring(self) -> bool
         ensures { result ≡ ring self }
     {
-        self.start == u32::MAX
+        self.start == UNSET
     }
 
     // The vertex where a sense of it starts.
@@ -288,7 +309,7 @@ pub struct KeptVertexLoop {
     pub point: u32,
 }
 
-// An edge of the result: fans or 4,294,967,295 as its ends, the sorted pair of merged faces beside it, whether no join
+// An edge of the result: fans or `UNSET` as its ends, the sorted pair of merged faces beside it, whether no join
 // has taken it.
 #[derive(Clone, Copy)]
 pub struct EdgeData {
@@ -352,10 +373,7 @@ impl Stage {
     pub fn is_asked(self, stage: Option<Stage>) -> bool
         ensures { result ≡ is_asked self stage }
     {
-        match stage {
-            Some(s) => self.number() == s.number(),
-            None => false,
-        }
+        stage.is_some_and(|s| self.number() == s.number())
     }
 }
 

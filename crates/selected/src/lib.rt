@@ -11,9 +11,9 @@ ghost use Rattle.rules.specs.Load.{same_source};
 ghost use Rattle.job.specs.Lists.{face_in};
 ghost use Rattle.job.specs.Raw.{faces};
 
-use fields::{byte, get, put_byte, word};
+use fields::{entry, put_entry, word};
 use job::{FACES, RawJob, face_in};
-use rules::Face;
+use rules::{Face, MOST_FACES};
 
 const BUCKETS: usize = 256;
 
@@ -21,7 +21,7 @@ const BUCKETS: usize = 256;
 #[derive(Drop)]
 pub struct Sources {
     heads: [u8; BUCKETS],
-    nexts: [u8; 256],
+    nexts: [u8; MOST_FACES],
 }
 
 // One face of one body.
@@ -42,7 +42,7 @@ impl Sources {
     {
         Sources {
             heads: [0; BUCKETS],
-            nexts: [0; 256],
+            nexts: [0; MOST_FACES],
         }
     }
 
@@ -55,13 +55,13 @@ impl Sources {
     {
         let face = face_in(raw.bytes, at);
         // a `while`: `Chain` goes along a table of `u32`, these entries are bytes, and no other loop goes along such
-        let mut i = byte(&self.heads, face.source as usize % BUCKETS);
+        let mut i = entry(&self.heads, face.source as usize % BUCKETS, 0) as usize;
         while 0 < i {
             let k = i - 1;
-            if same_source(face, face_in(raw.bytes, get(raw.index, FACES + k))) {
+            if same_source(face, face_in(raw.bytes, raw.entry(FACES + k))) {
                 return true;
             }
-            i = byte(&self.nexts, k);
+            i = entry(&self.nexts, k, 0) as usize;
         }
         false
     }
@@ -73,7 +73,7 @@ impl Sources {
         ensures { self.new ≡ face_entered job.now self.old k at }
     {
         let b = word(job, at + 22) % BUCKETS;
-        put_byte(&mut self.nexts, k, byte(&self.heads, b));
-        put_byte(&mut self.heads, b, (k + 1) % 256);
+        put_entry(&mut self.nexts, k, entry(&self.heads, b, 0));
+        put_entry(&mut self.heads, b, ((k + 1) % 256) as u8);
     }
 }

@@ -8,10 +8,8 @@ ghost use Rattle.std.specs.Prelude.{◌≡◌, ◌≤◌, ◌<◌, length, false
 ghost use Rattle.rules.specs.Operation.{is_asked};
 ghost use Rattle.rules.specs.Read.{uses_of};
 ghost use Rattle.rules.specs.Rules.{ordinary, full_table};
-ghost use Rattle.rules.specs.Merge.{removed_uses};
 ghost use mathlib.Core.List.{flat_map};
 ghost use Rattle.rules.specs.Walk.{circuits, loops_of};
-ghost use Rattle.theorems.specs.Circuits.{Permuted};
 ghost use Rattle.stages_out.specs.Rows.{Staged, round_rows};
 ghost use Rattle.rules.specs.Sew.{sewn, Ends};
 ghost use Rattle.rules.specs.Stage.{use_fields, loop_fields, stage_bytes, read_stage, pair_stage, merge_stage, vertex_loop_stage};
@@ -19,7 +17,7 @@ ghost use Rattle.rules.specs.Stage.{walk_stage, loop_stage, fan_stage, edge_stag
 ghost use Rattle.theorems.specs.Promises.{Promises};
 ghost use Rattle.loaded.specs.Opened.{Loads};
 ghost use Rattle.progress.specs.Chain.{after_reading, after_pairing, after_merging, after_keeping, after_walks, staged, sewn_by};
-ghost use Rattle.progress.specs.Known.{Paired, Grouped, Kept, merged_in, walked_in};
+ghost use Rattle.progress.specs.Known.{Paired};
 ghost use Rattle.sewing.specs.Promised.{Promised};
 
 use body::put_empty;
@@ -28,38 +26,37 @@ use fields::NO_SPAN;
 use job::INDEX;
 use load::open;
 use loaded::Loaded;
-use merge_faces::{Faces, merge_faces, remove};
+use merge_faces::{merge_faces, remove};
 use pair::pair;
-use progress::Walks;
+use progress::{Kept, Merged, Walks};
 use read::read;
 use rebuild::rebuild;
-use rules::{KeptVertexLoop, Refusal, Stage, Use};
+use rules::{FEW, MOST_EDGES, MOST_LOOPS, MOST_USES, Refusal, Stage, Use};
 use stages_out::{write_kept, write_loops, write_pairs, write_read, write_twins, write_walk};
 use uses::NO_USE;
 use vertex_loops::vertex_loops;
-use walk::{loops, successors};
-
-// A kept vertex loop before the table of them is filled.
-const NO_VERTEX_LOOP: KeptVertexLoop = KeptVertexLoop { face: 0, point: 0 };
+use walk::{Rounds, Steps, loops, successors};
 
 // The stage `loops`, of walks that are known by their successors.
 fn put_loops(
     uses: &[Use],
     numbers: &[u32],
-    removed: &[bool],
-    succ: &[u32],
+    steps: &Steps<'_>,
     out: &mut [u8],
 ) -> Result<usize, Refusal>
-    requires { Permuted (length uses.now) removed.now succ.now × (length uses.now ≤ 2048) }
-    ensures { Staged (round_rows uses.now numbers.now (loops_of (circuits removed.now succ.now))) out.old out.new result }
+    ensures { Staged (round_rows uses.now numbers.now (loops_of (circuits steps.now.removed.now steps.now.succ.now))) out.old out.new result }
 {
-    let n = succ.len();
-    let mut table = [0u32; 2048];
-    let mut room = [NO_SPAN; 2048];
+    let n = steps.succ.len();
+    let mut table = [0u32; MOST_USES];
+    let mut room = [NO_SPAN; MOST_USES];
     let ways = &mut table[..n];
     let stretches = &mut room[..n];
-    let k = loops(removed, succ, ways, stretches);
-    write_loops(uses, numbers, ways, &stretches[..k], out)
+    let k = loops(steps, ways, stretches);
+    let rounds = Rounds {
+        ways,
+        stretches: &stretches[..k],
+    };
+    write_loops(uses, numbers, &rounds, out)
 }
 
 // The loops, or what is built on the walks.
@@ -70,7 +67,7 @@ fn on_walks(stage: Option<Stage>, w: &Walks<'_>, out: &mut [u8]) -> Result<usize
 {
     // A test in each step and no table of closures: each stage is handed other tables, which a closure could not own.
     if Stage::Loops.is_asked(stage) {
-        return put_loops(w.uses, w.faces.numbers(), w.removed, w.succ, out);
+        return put_loops(w.uses, w.faces.numbers(), &w.steps(), out);
     }
     rebuild(stage, w, out)
 }
@@ -79,34 +76,30 @@ fn on_walks(stage: Option<Stage>, w: &Walks<'_>, out: &mut [u8]) -> Result<usize
 #[tactic(auto, unfolding(progress::specs::Chain::after_walks, rules::specs::Sew::walks_of, stages_out::specs::Rows::walk_rows))]
 fn walk_in_tables<const USES: usize>(
     stage: Option<Stage>,
-    job: &Loaded<'_>,
-    uses: &[Use],
-    twins: &[u32],
-    faces: &Faces,
-    kept: &[KeptVertexLoop],
+    k: &Kept<'_>,
     out: &mut [u8],
 ) -> Result<usize, Refusal>
-    requires { Kept job.now uses.now twins.now faces.now kept.now × (length uses.now ≤ USES) × (USES ≤ 2048) }
-    ensures { Ends (after_walks stage job.now (length out.old) (walked_in uses.now twins.now faces.now (removed_uses uses.now twins.now faces.now.groups) kept.now)) out.old out.new result }
+    requires { (length k.now.walked.uses ≤ USES) × (USES ≤ 2048) }
+    ensures { Ends (after_walks stage k.now.job (length out.old) k.now.walked) out.old out.new result }
 {
-    let n = uses.len();
+    let n = k.uses.len();
     let mut flags = [false; USES];
     let mut table = [0u32; USES];
     let mut counts = [0u32; USES];
     let removed = &mut flags[..n];
     let succ = &mut table[..n];
     let passed = &mut counts[..n];
-    let gone = remove(uses, twins, faces.groups(), removed);
-    let total = successors(uses, twins, removed, succ, passed);
+    let gone = remove(k.uses, k.twins, k.faces.groups(), removed);
+    let total = successors(k.uses, k.twins, removed, succ, passed);
     if Stage::Walk.is_asked(stage) {
         return write_walk(removed, succ, passed, out);
     }
     let walks = Walks {
-        job,
-        uses,
-        twins,
-        faces,
-        kept,
+        job: k.job,
+        uses: k.uses,
+        twins: k.twins,
+        faces: k.faces,
+        kept: k.vertex_loops,
         removed,
         succ,
         gone,
@@ -117,65 +110,51 @@ fn walk_in_tables<const USES: usize>(
 
 // The walks, once the vertex loops are kept.
 #[tactic(auto, using(progress::specs::KnownLaws::loads_loops, progress::specs::KnownLaws::paired_few), unfolding(progress::specs::Chain::after_keeping, rules::specs::Sew::walks_of))]
-fn on_kept(
-    stage: Option<Stage>,
-    job: &Loaded<'_>,
-    uses: &[Use],
-    twins: &[u32],
-    faces: &Faces,
-    kept: &[KeptVertexLoop],
-    out: &mut [u8],
-) -> Result<usize, Refusal>
-    requires { Kept job.now uses.now twins.now faces.now kept.now }
-    ensures { Ends (after_keeping stage job.now (length out.old) (walked_in uses.now twins.now faces.now (removed_uses uses.now twins.now faces.now.groups) kept.now)) out.old out.new result }
+fn on_kept(stage: Option<Stage>, k: &Kept<'_>, out: &mut [u8]) -> Result<usize, Refusal>
+    ensures { Ends (after_keeping stage k.now.job (length out.old) k.now.walked) out.old out.new result }
 {
     if Stage::VertexLoops.is_asked(stage) {
-        return write_kept(kept, out);
+        return write_kept(k.vertex_loops, out);
     }
-    if uses.len() <= 64 {
-        return walk_in_tables::<64>(stage, job, uses, twins, faces, kept, out);
+    if k.uses.len() <= FEW {
+        return walk_in_tables::<FEW>(stage, k, out);
     }
-    walk_in_tables::<2048>(stage, job, uses, twins, faces, kept, out)
+    walk_in_tables::<MOST_USES>(stage, k, out)
 }
 
 // The vertex loops kept, in a table for so many loops.
 #[tactic(auto, unfolding(progress::specs::Chain::after_merging))]
 fn keep_in_table<const LOOPS: usize>(
     stage: Option<Stage>,
-    job: &Loaded<'_>,
-    uses: &[Use],
-    twins: &[u32],
-    faces: &Faces,
+    m: &Merged<'_>,
     out: &mut [u8],
 ) -> Result<usize, Refusal>
-    requires { Grouped job.now uses.now twins.now faces.now × (is_asked Stage.Merge stage ≡ false) × (length job.now.loops ≤ LOOPS) × (LOOPS ≤ 1024) }
-    ensures { Ends (after_merging stage job.now uses.now twins.now (length out.old) (merged_in faces.now (removed_uses uses.now twins.now faces.now.groups))) out.old out.new result }
+    requires { (is_asked Stage.Merge stage ≡ false) × (length m.now.job.loops ≤ LOOPS) × (LOOPS ≤ 1024) }
+    ensures { Ends (after_merging stage m.now.job m.now.uses m.now.twins (length out.old) m.now.merged) out.old out.new result }
 {
-    let mut kept = [NO_VERTEX_LOOP; LOOPS];
-    let k = vertex_loops(job, faces.numbers(), &mut kept)?;
-    on_kept(stage, job, uses, twins, faces, &kept[..k], out)
+    let table = vertex_loops::<LOOPS>(m.job, m.faces.numbers())?;
+    let kept = Kept {
+        job: m.job,
+        uses: m.uses,
+        twins: m.twins,
+        faces: m.faces,
+        vertex_loops: table.as_slice(),
+    };
+    on_kept(stage, &kept, out)
 }
 
 // The vertex loops, once the faces are merged.
 #[tactic(auto, using(stages_out::specs::Rows::pair_rows_lem, progress::specs::KnownLaws::labels_length), unfolding(progress::specs::Chain::after_merging))]
-fn on_merged(
-    stage: Option<Stage>,
-    job: &Loaded<'_>,
-    uses: &[Use],
-    twins: &[u32],
-    faces: &Faces,
-    out: &mut [u8],
-) -> Result<usize, Refusal>
-    requires { Grouped job.now uses.now twins.now faces.now }
-    ensures { Ends (after_merging stage job.now uses.now twins.now (length out.old) (merged_in faces.now (removed_uses uses.now twins.now faces.now.groups))) out.old out.new result }
+fn on_merged(stage: Option<Stage>, m: &Merged<'_>, out: &mut [u8]) -> Result<usize, Refusal>
+    ensures { Ends (after_merging stage m.now.job m.now.uses m.now.twins (length out.old) m.now.merged) out.old out.new result }
 {
     if Stage::Merge.is_asked(stage) {
-        return write_pairs(faces.boundaries(), faces.groups(), out);
+        return write_pairs(m.faces, out);
     }
-    if job.loops() <= 64 {
-        return keep_in_table::<64>(stage, job, uses, twins, faces, out);
+    if m.job.loops() <= FEW {
+        return keep_in_table::<FEW>(stage, m, out);
     }
-    keep_in_table::<1024>(stage, job, uses, twins, faces, out)
+    keep_in_table::<MOST_LOOPS>(stage, m, out)
 }
 
 // The faces merged, once the uses are paired.
@@ -194,7 +173,13 @@ fn on_paired(
         return write_twins(twins, out);
     }
     let faces = merge_faces(job, uses, twins)?;
-    on_merged(stage, job, uses, twins, &faces, out)
+    let merged = Merged {
+        job,
+        uses,
+        twins,
+        faces: &faces,
+    };
+    on_merged(stage, &merged, out)
 }
 
 // The uses read, those of each edge chained, and paired, in tables for so many uses and edges.
@@ -228,10 +213,10 @@ fn on_loaded(stage: Option<Stage>, job: &Loaded<'_>, out: &mut [u8]) -> Result<u
 {
     let uses = job.uses();
     let edges = job.edges();
-    if uses <= 64 && edges <= 64 {
-        return read_in_tables::<64, 64>(stage, job, out);
+    if uses <= FEW && edges <= FEW {
+        return read_in_tables::<FEW, FEW>(stage, job, out);
     }
-    read_in_tables::<2048, 1024>(stage, job, out)
+    read_in_tables::<MOST_USES, MOST_EDGES>(stage, job, out)
 }
 
 // The stages in order, up to the one that is asked for.
@@ -251,7 +236,7 @@ pub fn read_stage(job: &[u8], out: &mut [u8]) -> Result<usize, Refusal>
 {
     let mut index = [0u32; INDEX];
     let loaded = open(job, &mut index)?;
-    let mut table = [NO_USE; 2048];
+    let mut table = [NO_USE; MOST_USES];
     let uses = &mut table[..loaded.uses()];
     read(&loaded, uses);
     write_read(uses, out)

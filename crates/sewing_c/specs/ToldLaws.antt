@@ -12,9 +12,8 @@ use Rattle.rules.specs.Rules.{full_table, ordinary}
 use Rattle.rules.specs.Sew.{Ends, sewn}
 use Rattle.rules.specs.Outcome.{Outcome, Ok, Err, fault_number}
 use Rattle.rules.specs.Listing.{line_of, refusal_line, listing_of, sewn_records}
-use Rattle.fields.specs.Wrote.{Wrote}
+use Rattle.fields.specs.Wrote.{Wrote, wrote_as}
 use Rattle.lines.specs.Text.{records_in, recorded}
-use Rattle.lines.specs.Writing.{wrote_same}
 use Rattle.lines.specs.Listed.{recorded_listing}
 use Rattle.sewing_c.specs.Told.{is_number, Numbered, Tells, answer_text, ListsAnswer}
 
@@ -86,7 +85,7 @@ module _ {number value r : ℕ} {out page printed : List ℕ} where
     records = λ job before bytes few same T.
         let all : take 4294967295 out ≡ out = take_all 4294967295 out (omega (arith, few, same)) in
         let a = answered (sewn ordinary job (length before)) before out number value T in
-        wrote_same page printed (answer_text number value (take 4294967295 out)) (listing_of (sewn_records ordinary job (length before))) 0 r
+        wrote_as page printed (answer_text number value (take 4294967295 out)) (listing_of (sewn_records ordinary job (length before))) 0 r
         (ap (answer_text number value) all ∙ a.2 ∙ recorded_listing full_table job before out a.0 bytes few a.1) w;
   }
 
@@ -94,10 +93,10 @@ module _ {number value r : ℕ} {out page printed : List ℕ} where
   pub text_lists : {body : List ℕ} → body ≡ take 4294967295 out → number ≡ 0 → Wrote page 0 (listing_of (recorded body (Ok value))) printed r
       → ListsAnswer number value out page printed r
   text_lists {body} p e w =
-      answer_lists (wrote_same page printed (listing_of (recorded body (Ok value))) (answer_text number value (take 4294967295 out)) 0 r
+      answer_lists (wrote_as page printed (listing_of (recorded body (Ok value))) (answer_text number value (take 4294967295 out)) 0 r
       (text_written number value body e ∙ ap (answer_text number value) p) w)
 
   pub refusal_lists : (number ≡ 0 → ⊥) → Wrote page 0 (refusal_line number value) printed r → ListsAnswer number value out page printed r
   refusal_lists n w =
-      answer_lists (wrote_same page printed (refusal_line number value) (answer_text number value (take 4294967295 out)) 0 r
+      answer_lists (wrote_as page printed (refusal_line number value) (answer_text number value (take 4294967295 out)) 0 r
       (text_refused number value (take 4294967295 out) n) w)

@@ -166,7 +166,7 @@ pub extern "C" fn zaxclover_loop(
     match load::loop_stretch(job, n) {
         Ok(bytes) => {
             *start = bytes.start;
-            *value = bytes.end - bytes.start;
+            *value = bytes.len();
             0
         }
         Err(refusal) => {

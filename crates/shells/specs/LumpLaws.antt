@@ -2,16 +2,16 @@
 use Rattle.std.specs.Prelude.{ℕ, ◌+◌, ◌≤◌, ◌<◌, ◌≡◌, refl, List, [], ◌∷◌, map, length, get_or, set}
 use Rattle.std.proofs.Common.{arith, sym, ap, ◌∙◌, length-set, length-append, ext_get_or, eq-eqb, ne_eqb}
 use Rattle.std.proofs.lemmas.List.{length-map}
+use Rattle.std.proofs.Math.ListN.{get_or-map}
 use Rattle.lists.specs.Lists.{from, below, keep, index_of}
-use Rattle.lists.specs.Members.{index_of_in, get_or_map}
+use Rattle.lists.specs.Members.{get_or_map}
 use Rattle.lists.specs.Prefixes.{keep_below_yes, keep_below_no, keep_below_le}
 use Rattle.lists.specs.KeepBelow.{index_below}
 use Rattle.lists.specs.Tables.{set_each}
 use Rattle.rules.specs.Groups.{label_of, is_lowest, lowest_members, Lowest}
-use Rattle.rules.proofs.GroupLaws.{label_in_lowest_members}
 use Rattle.rules.specs.Shells.{lump_labels}
 use Rattle.shells.specs.declared.ShellRow.{ShellRow}
-use Rattle.shells.specs.Table.{no_row, row_at, nested_one, nested_in, Shelled}
+use Rattle.shells.specs.Table.{no_row, row_at, nested_one, nested_in}
 
 -- the label of face f, from the home of the shell that its boundary is
 abbrev pub lump_of_face : List ℕ → List ShellRow → ℕ → ℕ
@@ -73,20 +73,19 @@ module _ (boundaries : List ℕ) (rows : List ShellRow) (labels : List ℕ) (cou
             (λ ne h. s.values j (omega arith)));
       }
 
-pub labels_end : (boundaries : List ℕ) (rows : List ShellRow) (labels : List ℕ) (count f : ℕ) → LabelsAt boundaries rows labels count f → length boundaries ≤ f
-    → (members : List ℕ) → Shelled boundaries members rows → labels ≡ lump_labels boundaries (nested_in boundaries members rows)
+-- whatever boundaries and members the shells are of
+pub labels_end : (boundaries bs members : List ℕ) (rows : List ShellRow) (labels : List ℕ) (count f : ℕ) → LabelsAt boundaries rows labels count f → length boundaries ≤ f
+    → labels ≡ lump_labels boundaries (nested_in bs members rows)
 unfolding lump_labels
-labels_end boundaries rows labels count f s le members sh =
-    let ns = nested_in boundaries members rows in
+labels_end boundaries bs members rows labels count f at le =
     let number : ℕ → ℕ = λ b. index_of b (lowest_members boundaries) in
-    let label : ℕ → ℕ = λ b. get_or (map (λ x. x.home) ns) (number b) 0 in
-    let many : length rows ≡ length (lowest_members boundaries) = sym (length-map rows (λ row. row.boundary)) ∙ ap length sh.labels in
-    ext_get_or 0 labels (map label boundaries) (s.size ∙ sym (length-map boundaries label))
+    let label : ℕ → ℕ = λ b. get_or (map (λ x. x.home) (nested_in bs members rows)) (number b) 0 in
+    ext_get_or 0 labels (map label boundaries) (at.size ∙ sym (length-map boundaries label))
     (λ i h.
-    let r : i < length boundaries = omega (arith, s.size) in
-    let inside = (index_of_in (label_of boundaries i) (lowest_members boundaries) (label_in_lowest_members s.lowest i r)).0 in
-    s.values i (omega arith)
+    let r : i < length boundaries = omega (arith, at.size) in
+    let k : ℕ = number (label_of boundaries i) in
+    at.values i (omega arith)
     ∙ sym
     (get_or_map label boundaries i 0 0 r
-    ∙ get_or_map (λ x. x.home) ns (number (label_of boundaries i)) 0 (nested_one boundaries members no_row) (omega (arith, many, length-map rows (nested_one boundaries members)))
-    ∙ ap (λ x. x.home) (get_or_map (nested_one boundaries members) rows (number (label_of boundaries i)) (nested_one boundaries members no_row) no_row (omega (arith, many)))))
+    ∙ get_or-map (λ x. x.home) (nested_in bs members rows) k (nested_one bs members no_row)
+    ∙ ap (λ x. x.home) (get_or-map (nested_one bs members) rows k no_row)))

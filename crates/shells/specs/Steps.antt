@@ -17,6 +17,10 @@ outer_by answers proven low =
     let put = ask_yes answers 12 (low ∷ []) in
     cond (eqb proven 1) (Ok true) put
 
+-- the shell of the boundary with label b, from the lowest merged face of each, with no outer shell of its lump yet
+abbrev pub shell_by : List Answer → ℕ → List ℕ → ℕ → Outcome ShellRow
+shell_by answers proven lows b = outer_by answers proven (get_or lows b 0) >>= λ outer. Ok (record { boundary = b; low = get_or lows b 0; outer = outer; home = 0 })
+
 -- the outer shells by their lowest faces
 unfoldable pub outers_in : List ShellRow → List ℕ
 outers_in rows = map (λ row. row.low) (keep (λ row. row.outer) rows)

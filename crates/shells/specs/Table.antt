@@ -1,9 +1,10 @@
 -- The shells as a table of records.
-use Rattle.std.specs.Prelude.{ℕ, ◌≡◌, List, map, get_or, false}
+use Rattle.std.specs.Prelude.{ℕ, ◌≡◌, List, map, get_or, Bool, false, ◌&&◌, not, eqb}
 use Rattle.std.specs.List.{All}
 use Rattle.rules.specs.Groups.{lowest_members}
 use Rattle.rules.specs.Shells.{Shell, shell_faces, lowest_face, Nested}
 use Rattle.shells.specs.declared.ShellRow.{ShellRow}
+use Rattle.shells.specs.declared.table.Shells.{Shells}
 
 abbrev pub no_row : ShellRow
 no_row = record { boundary = 0; low = 0; outer = false; home = 0 }
@@ -25,6 +26,21 @@ nested_one boundaries members row = record { shell = shell_in boundaries members
 
 abbrev pub nested_in : List ℕ → List ℕ → List ShellRow → List Nested
 nested_in boundaries members rows = map (nested_one boundaries members) rows
+
+-- a row is a void whose outer shell has this lowest merged face
+abbrev pub is_void : ℕ → ShellRow → Bool
+is_void home row = not row.outer && eqb row.home home
+
+-- the shells of a table
+abbrev pub shells_of : Shells → List Shell
+shells_of s = shells_in s.faces.now.boundaries s.faces.now.members s.rows.now
+
+-- one with the outer shell of its lump, and all
+abbrev pub nested_row : Shells → ShellRow → Nested
+nested_row s row = nested_one s.faces.now.boundaries s.faces.now.members row
+
+abbrev pub nested_of : Shells → List Nested
+nested_of s = nested_in s.faces.now.boundaries s.faces.now.members s.rows.now
 
 -- the shell of a row is named by its lowest merged face
 abbrev pub LowestIn : List ℕ → List ℕ → ShellRow → Type 0

@@ -30,7 +30,7 @@ fn print_stage(rt: &(impl Print + Eprint), program: Program<'_>, stage: Stage, j
     let mut out = [0u8; OUT];
     let mut page = [0u8; PAGE];
     let length = programs::list_stage(Some(stage), job, &mut out, &mut page);
-    programs::print(rt, program, lines::front(&page, length));
+    program.print(rt, lines::front(&page, length));
 }
 
 fn main(rt: HostRuntime) {
@@ -39,11 +39,11 @@ fn main(rt: HostRuntime) {
         usage: "stage NAME [FILE]: NAME is read, pair, merge, vertex-loops, walk, loops, fans, edges, joining, shells or lumps; without FILE the job is read from standard input",
     };
     let Some(stage) = stage_named(&rt) else {
-        programs::explain(&rt, program);
+        program.explain(&rt);
         return;
     };
     let mut job = [0u8; JOB];
-    let Some(n) = programs::read_job(&rt, program, 2, &mut job) else {
+    let Some(n) = program.read_job(&rt, 2, &mut job) else {
         return;
     };
     print_stage(&rt, program, stage, lines::front(&job, n));

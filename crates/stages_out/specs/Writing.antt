@@ -1,29 +1,26 @@
 -- Laws of fields written row by row from the output's start on, and of the ending of a stage.
-use Rattle.std.specs.Prelude.{ℕ, ◌+◌, ◌*◌, ◌<◌, ◌≤◌, ◌≡◌, refl, false, length, get_or, drop, leb}
+use Rattle.std.specs.Prelude.{ℕ, ◌+◌, ◌*◌, ◌<◌, ◌≤◌, ◌≡◌, refl, Bool, true, false, cond, length, get_or, drop, leb}
 use Rattle.std.proofs.Common.{mul-suc, add-one, sym, ap, subst, ◌∙◌}
 use native.Mathlib.Omega.{arith}
-use mathlib.Core.List.{List, [], ◌∷◌, ◌++◌, flat_map, append-nil}
+use mathlib.Core.List.{List, [], ◌∷◌, ◌++◌, flat_map}
 use Rattle.std.proofs.lemmas.List.Edits.{sets-eq}
 use Rattle.std.proofs.lemmas.Bool.{le-leb}
 use Rattle.std.proofs.lemmas.Bool.Decides.{leb_tells}
-use Rattle.lists.specs.Lists.{from, below}
+use Rattle.lists.specs.Lists.{from, below, keep}
+use Rattle.lists.specs.Tests.{cond_true, cond_false}
 use Rattle.lists.specs.Members.{flat_map_append}
-use Rattle.lists.specs.Rows.{rows_more, flat_map_places}
+use Rattle.lists.specs.Rows.{rows_more, flat_map_keep, flat_map_places}
 use Rattle.rules.specs.Outcome.{Ok, Err}
 use Rattle.rules.proofs.OutcomeLaws.{need_on, need_stop}
 use Rattle.rules.specs.Fields.{bytes32, field_bytes}
 use Rattle.rules.specs.Sew.{fitting, Ends}
-use Rattle.fields.specs.Wrote.{Wrote, wrote_none, wrote_more}
+use Rattle.fields.specs.Wrote.{Wrote, wrote_as, wrote_none, wrote_more}
 use Rattle.fields.specs.Tabled.{length_field_bytes}
 use Rattle.rules.specs.declared.Fault.TheVariants.{NoRoom}
 
 -- FIELDS
 
--- one field, and two groups of fields one after the other
-pub wrote_one : (before after : List ℕ) (at a q : ℕ) → Wrote before at (bytes32 a) after q → Wrote before at (field_bytes (a ∷ [])) after q
-unfolding flat_map
-wrote_one before after at a q w = subst (λ bs. Wrote before at bs after q) (sym (append-nil (bytes32 a))) w
-
+-- two groups of fields one after the other
 pub wrote_both : (xs ys before mid after : List ℕ) (at p q : ℕ) → Wrote before at (field_bytes xs) mid p → Wrote mid p (field_bytes ys) after q → Wrote before at (field_bytes (xs ++ ys)) after q
 wrote_both xs ys before mid after at p q a b =
     subst (λ bs. Wrote before at bs after q) (sym (flat_map_append bytes32 xs ys)) (wrote_more before mid after (field_bytes xs) (field_bytes ys) at p q a b)
@@ -80,12 +77,43 @@ module _ (f : ℕ → List ℕ) {most : ℕ} {before : List ℕ} {at : ℕ} wher
 
 -- the rows of all members of a list
 module _ {A : Type 0} (f : A → List ℕ) (l : List A) (d : A) {most : ℕ} {before : List ℕ} {at : ℕ} where
-  pub rowed_members : {after : List ℕ} {p i : ℕ} → Rowed (λ k. f (get_or l k d)) most before at after p i → i ≡ length l → Wrote before at (flat_map f l) after p
-  rowed_members R e = rowed_as R (ap (λ n. flat_map (λ k. f (get_or l k d)) (below n)) e ∙ sym (flat_map_places f l d))
-
   pub fields_members : {after : List ℕ} {p i : ℕ} → Rowed (λ k. field_bytes (f (get_or l k d))) most before at after p i → i ≡ length l
       → Wrote before at (field_bytes (flat_map f l)) after p
   fields_members R e = fields_as (λ k. f (get_or l k d)) R (ap (λ n. flat_map (λ k. f (get_or l k d)) (below n)) e ∙ sym (flat_map_places f l d))
+
+-- A ROW OR NONE
+
+-- the row of a place that passes a test; another has none
+unfoldable pub row_or : (ℕ → Bool) → (ℕ → List ℕ) → ℕ → List ℕ
+row_or t row i = cond (t i) (row i) []
+
+module _ (t : ℕ → Bool) (row : ℕ → List ℕ) {most : ℕ} {before : List ℕ} {at : ℕ} where
+  pub row_step : {mid after : List ℕ} {p i q : ℕ} → Rowed (row_or t row) most before at mid p i → t i ≡ true → Wrote mid p (row i) after q → q ≤ p + most
+      → Rowed (row_or t row) most before at after q (i + 1)
+  unfolding row_or
+  row_step {mid} {after} {p} {i} {q} R e w few = rowed_step R (subst (λ bs. Wrote mid p bs after q) (sym (cond_true (t i) (row i) [] e)) w) few
+
+  pub none_step : {mid : List ℕ} {p i : ℕ} → Rowed (row_or t row) most before at mid p i → t i ≡ false → Rowed (row_or t row) most before at mid p (i + 1)
+  unfolding row_or
+  none_step {mid} {p} {i} R e = rowed_step R (subst (λ bs. Wrote mid p bs mid p) (sym (cond_false (t i) (row i) [] e)) (wrote_none mid p)) (omega arith)
+
+  -- all rows are those of the places that pass
+  pub rows_kept : {after : List ℕ} {p i n : ℕ} → Rowed (row_or t row) most before at after p i → i ≡ n → Wrote before at (flat_map row (keep t (below n))) after p
+  unfolding row_or
+  rows_kept R e = rowed_as R (ap (λ n. flat_map (row_or t row) (below n)) e ∙ sym (flat_map_keep row t (below _)))
+
+-- the same of rows of fields
+pub fields_kept : (t : ℕ → Bool) (row : ℕ → List ℕ) {most : ℕ} {before : List ℕ} {at : ℕ} {after : List ℕ} {p i n : ℕ} → Rowed (row_or t (λ k. field_bytes (row k))) most before at after p i
+    → i ≡ n → Wrote before at (field_bytes (flat_map row (keep t (below n)))) after p
+fields_kept t row {n = n} R e = wrote_as _ _ _ _ _ _ (sym (flat_map_flat_map bytes32 row (keep t (below n)))) (rows_kept t (λ k. field_bytes (row k)) R e)
+
+-- the rows of the members of a list that pass a test
+module _ {A : Type 0} (t : A → Bool) (f : A → List ℕ) (l : List A) (d : A) {most : ℕ} {before : List ℕ} {at : ℕ} {after : List ℕ} {p i : ℕ} where
+  pub members_kept : Rowed (row_or (λ k. t (get_or l k d)) (λ k. f (get_or l k d))) most before at after p i → i ≡ length l → Wrote before at (flat_map f (keep t l)) after p
+  unfolding row_or
+  members_kept R e =
+      rowed_as R
+      (ap (λ n. flat_map (λ k. cond (t (get_or l k d)) (f (get_or l k d)) []) (below n)) e ∙ sym (flat_map_keep f t l ∙ flat_map_places (λ x. cond (t x) (f x) []) l d))
 
 -- THE ENDING
 

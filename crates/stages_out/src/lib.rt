@@ -3,39 +3,29 @@
 
 #![tactic(auto)]
 
-ghost use Rattle.std.specs.Prelude.{◌≡◌, List, ℕ, ◌+◌, ◌*◌, ◌<◌, ◌≤◌, ◌^◌, cond, not, length};
-ghost use mathlib.Core.List.{[], ◌∷◌, flat_map};
+ghost use Rattle.std.specs.Prelude.{◌≡◌, List, ℕ, ◌+◌, ◌<◌, ◌≤◌, ◌^◌, length};
+ghost use mathlib.Core.List.{flat_map};
 ghost use Rattle.rules.specs.Fields.{field_bytes};
-ghost use Rattle.rules.specs.Merge.{is_removed};
 ghost use Rattle.rules.specs.Shells.{shell_faces};
-ghost use Rattle.rules.specs.Stage.{use_fields, kept_uses, kept_fields};
+ghost use Rattle.rules.specs.Stage.{use_fields, kept_fields};
 ghost use Rattle.rules.specs.Sew.{fitting, Ends};
 ghost use Rattle.fields.specs.Wrote.{Wrote};
-ghost use Rattle.walk.specs.Walks.{loops_in, Following};
-ghost use Rattle.stages_out.specs.Rows.{WritesTwice, Staged, walk_row, walk_rows, pair_rows, round_row, round_rows};
+ghost use Rattle.stages_out.specs.Rows.{WritesTwice, Staged, walk_rows, pair_rows, round_row, round_rows};
 
-use fields::{Span, get, is_set, put_table, put_word};
+use fields::{get, is_set, put_fields, put_table, put_word};
 use merge_faces::Faces;
 use rules::{Fault, KeptVertexLoop, Refusal, Use};
 use uses::use_face;
-use walk::successor;
-
-// Two numbers as fields at a place; gives the place after them.
-pub fn put_two(out: &mut [u8], at: usize, a: usize, b: usize) -> usize
-    requires { at < 2 ^ 59 }
-    ensures { Wrote out.old at (field_bytes (a ∷ b ∷ [])) out.new result }
-{
-    let p = put_word(out, at, a);
-    put_word(out, p, b)
-}
+use walk::{Rounds, successor};
 
 // The fields of one use; gives the place after them.
 fn put_use(out: &mut [u8], at: usize, u: Use) -> usize
     requires { at < 2 ^ 58 }
     ensures { Wrote out.old at (field_bytes (use_fields u)) out.new result }
 {
-    let p = put_two(out, at, u.edge as usize, u.face as usize);
-    put_two(out, p, usize::from(u.sense), u.next as usize)
+    let (edge, face) = (u.edge as usize, u.face as usize);
+    let (sense, next) = (usize::from(u.sense), u.next as usize);
+    put_fields(out, at, &[edge, face, sense, next])
 }
 
 // The fields of each use; gives the place after them.
@@ -82,27 +72,6 @@ pub fn write_twins(twins: &[u32], out: &mut [u8]) -> Result<usize, Refusal>
     write_fitting(out, |out| put_table(out, 0, twins))
 }
 
-// The fields of a kept use at a place, none for a removed one; gives the place after them.
-fn put_walked(
-    removed: &[bool],
-    succ: &[u32],
-    passed: &[u32],
-    h: usize,
-    out: &mut [u8],
-    at: usize,
-) -> usize
-    requires { at < 2 ^ 59 }
-    ensures { Wrote out.old at (field_bytes (cond (not (is_removed removed.now h)) (walk_row succ.now passed.now h) [])) out.new result }
-{
-    if is_set(removed, h) {
-        return at;
-    }
-    let g = successor(succ, h);
-    let p = put_two(out, at, h, g);
-    let k = get(passed, h);
-    put_word(out, p, k)
-}
-
 // The fields of each kept use; gives the place after them.
 fn put_walks(removed: &[bool], succ: &[u32], passed: &[u32], out: &mut [u8]) -> usize
     requires { length removed.now ≤ 2048 }
@@ -111,7 +80,9 @@ fn put_walks(removed: &[bool], succ: &[u32], passed: &[u32], out: &mut [u8]) -> 
     let mut p = 0;
     // by number: nothing says that the other tables are as long as the first
     for h in 0..removed.len() {
-        p = put_walked(removed, succ, passed, h, out, p);
+        if !is_set(removed, h) {
+            p = put_fields(out, p, &[h, successor(succ, h), get(passed, h)]);
+        }
     }
     p
 }
@@ -129,25 +100,24 @@ pub fn write_walk(
     write_fitting(out, |out| put_walks(removed, succ, passed, out))
 }
 
-// The entries of two tables, side by side; gives the place after them. The second by number, and not over `zip`, since
-// nothing says that it is as long as the first.
-fn put_pairs(boundaries: &[u32], groups: &[u32], out: &mut [u8]) -> usize
-    requires { length boundaries.now ≤ 2048 }
-    ensures { Wrote out.old 0 (field_bytes (pair_rows boundaries.now groups.now)) out.new result }
+// The boundary and the merged group of each selected face; gives the place after them. The second by number, and not over
+// `zip`, since nothing says that it is as long as the first.
+fn put_pairs(faces: &Faces, out: &mut [u8]) -> usize
+    ensures { Wrote out.old 0 (field_bytes (pair_rows faces.now.boundaries faces.now.groups)) out.new result }
 {
+    let groups = faces.groups();
     let mut p = 0;
-    for (f, b) in boundaries.iter().enumerate() {
-        p = put_two(out, p, *b as usize, get(groups, f));
+    for (f, b) in faces.boundaries().iter().enumerate() {
+        p = put_fields(out, p, &[*b as usize, get(groups, f)]);
     }
     p
 }
 
 // The stage `merge`: lowest face of the boundary and of the merged group of each selected face.
-pub fn write_pairs(boundaries: &[u32], groups: &[u32], out: &mut [u8]) -> Result<usize, Refusal>
-    requires { length boundaries.now ≤ 2048 }
-    ensures { Staged (pair_rows boundaries.now groups.now) out.old out.new result }
+pub fn write_pairs(faces: &Faces, out: &mut [u8]) -> Result<usize, Refusal>
+    ensures { Staged (pair_rows faces.now.boundaries faces.now.groups) out.old out.new result }
 {
-    write_fitting(out, |out| put_pairs(boundaries, groups, out))
+    write_fitting(out, |out| put_pairs(faces, out))
 }
 
 // The merged face and the point of each kept vertex loop; gives the place after them.
@@ -157,7 +127,7 @@ fn put_kept(kept: &[KeptVertexLoop], out: &mut [u8]) -> usize
 {
     let mut p = 0;
     for k in kept {
-        p = put_two(out, p, k.face as usize, k.point as usize);
+        p = put_fields(out, p, &[k.face as usize, k.point as usize]);
     }
     p
 }
@@ -177,30 +147,18 @@ fn put_loop(uses: &[Use], numbers: &[u32], part: &[u32], out: &mut [u8], at: usi
 {
     let first = get(part, 0);
     let number = get(numbers, use_face(uses, first));
-    let p = put_two(out, at, number, part.len());
+    let p = put_fields(out, at, &[number, part.len()]);
     put_table(out, p, part)
 }
 
 // The fields of each loop; gives the place after them.
-fn put_loops(
-    uses: &[Use],
-    numbers: &[u32],
-    ways: &[u32],
-    stretches: &[Span],
-    out: &mut [u8],
-) -> usize
-    requires { Following ways.now stretches.now × (length stretches.now ≤ 2048) × (length ways.now ≤ 2048) }
-    ensures { Wrote out.old 0 (field_bytes (round_rows uses.now numbers.now (loops_in ways.now stretches.now))) out.new result }
+fn put_loops(uses: &[Use], numbers: &[u32], rounds: &Rounds<'_>, out: &mut [u8]) -> usize
+    ensures { Wrote out.old 0 (field_bytes (round_rows uses.now numbers.now rounds.now)) out.new result }
 {
+    let ways = rounds.ways;
     let mut p = 0;
-    for s in stretches {
-        p = put_loop(
-            uses,
-            numbers,
-            &ways[s.start as usize..s.end as usize],
-            out,
-            p,
-        );
+    for s in rounds.stretches {
+        p = put_loop(uses, numbers, &ways[s.range()], out, p);
     }
     p
 }
@@ -209,14 +167,12 @@ fn put_loops(
 pub fn write_loops(
     uses: &[Use],
     numbers: &[u32],
-    ways: &[u32],
-    stretches: &[Span],
+    rounds: &Rounds<'_>,
     out: &mut [u8],
 ) -> Result<usize, Refusal>
-    requires { Following ways.now stretches.now × (length stretches.now ≤ 2048) × (length ways.now ≤ 2048) }
-    ensures { Staged (round_rows uses.now numbers.now (loops_in ways.now stretches.now)) out.old out.new result }
+    ensures { Staged (round_rows uses.now numbers.now rounds.now) out.old out.new result }
 {
-    write_fitting(out, |out| put_loops(uses, numbers, ways, stretches, out))
+    write_fitting(out, |out| put_loops(uses, numbers, rounds, out))
 }
 
 // MERGED FACES OF A BOUNDARY, for the shells

@@ -222,9 +222,6 @@ through_fold step f gives (x ∷ xs) s t e =
 
 -- BOUNDARIES
 
-pub boundaries_length : (us : List Use) (ts : List ℕ) (faces : ℕ) → length (boundaries us ts faces) ≡ faces
-boundaries_length us ts faces = joined_all_length (λ _. true) (face_of_use us) (other_face us ts) faces (below (length us))
-
 module _ (us : List Use) (ts : List ℕ) (faces : ℕ) (face : (h : ℕ) → h < length us → face_of_use us h < faces) (twin : (h : ℕ) → h < length us → twin_of ts h < length us) where
   boundary_inside : (h : ℕ) → h ∈ below (length us) → true ≡ true → (face_of_use us h < faces) × (other_face us ts h < faces)
   boundary_inside h m _ = let q = below_in (length us) h m in (face h q, face (twin_of ts h) (twin h q))

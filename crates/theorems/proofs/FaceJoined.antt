@@ -7,7 +7,6 @@ use Rattle.lists.specs.Members.{keep_append}
 use Rattle.lists.specs.Counts.{keep_map_length, keep_nothing}
 use Rattle.rules.specs.declared.Use.{Use}
 use Rattle.rules.specs.declared.Face.{Face}
-use Rattle.rules.specs.declared.KeptVertexLoop.{KeptVertexLoop}
 use Rattle.rules.specs.Outcome.{Ok}
 use Rattle.rules.proofs.OutcomeLaws.{ok_one}
 use Rattle.rules.specs.Frame.{Record, framed_all}
@@ -16,7 +15,6 @@ use Rattle.rules.specs.Load.{loaded}
 use Rattle.rules.specs.Read.{uses_of}
 use Rattle.rules.specs.Groups.{lowest_members}
 use Rattle.rules.specs.Rules.{Table}
-use Rattle.rules.specs.Edges.{FaceLoop}
 use Rattle.rules.specs.Shells.{Nested}
 use Rattle.rules.specs.Body.{BodyFace, Body, body_faces, solid_body, empty_body, vertex_record, edge_record, loop_record}
 use Rattle.rules.specs.Body.{vertex_loop_record, face_records, lump_records, body_records, rec}
@@ -33,6 +31,7 @@ use Rattle.theorems.specs.Reporting.{Begins, Solid}
 use Rattle.theorems.proofs.Reporting.{sewn_body, rebuild_cases, through_joined, joined_walks}
 use Rattle.theorems.proofs.Assembly.{empty_begins, solid_begins}
 use Rattle.theorems.specs.FaceJoins.{EachQuestion, is_face, faces_written, FacesTold, FaceJoins}
+use Rattle.rules.proofs.SizeLaws.{length_body_faces}
 
 -- THE RECORDS
 
@@ -76,11 +75,6 @@ body_faces_lem b =
       all_faces b.faces,
       no_lumps b.lumps,
     )
-
-length_body_faces : (fs : List Face) (groups actives : List ℕ) (ls : List FaceLoop) (ks : List KeptVertexLoop) (f : ℕ) (ms : List ℕ) → length (body_faces fs groups actives ls ks f ms) ≡ length ms
-unfolding body_faces
-length_body_faces fs groups actives ls ks f [] = refl
-length_body_faces fs groups actives ls ks f (m ∷ ms) = ap suc (length_body_faces fs groups actives ls ks (suc f) ms)
 
 pub fan_of : (j : Job) (w : Walked) → (fans_of j w).walk ≡ w
 unfolding fans_of

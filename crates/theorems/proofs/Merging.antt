@@ -26,7 +26,8 @@ use Rattle.theorems.specs.Linked.{Twins, Linked}
 use Rattle.theorems.specs.Connected.{Connected, Equivalence}
 use Rattle.theorems.proofs.Connected.{value_equivalence, connected_by, join_step, join_counting}
 use Rattle.theorems.proofs.Connected.{counting_groups, joined_all_fewer, joined_all_length, joined_all_lowest}
-use Rattle.theorems.proofs.Connected.{joined_all_connected, joined_all_within, through_fold, boundaries_length}
+use Rattle.theorems.proofs.Connected.{joined_all_connected, joined_all_within, through_fold}
+use Rattle.rules.proofs.SizeLaws.{boundaries_length}
 use Rattle.theorems.proofs.Connected.{boundaries_twin}
 use Rattle.theorems.specs.Merging.{Told, surface_joins, SameSurface, merge_grouping}
 

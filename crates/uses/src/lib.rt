@@ -36,12 +36,6 @@ pub fn use_face(uses: &[Use], h: usize) -> usize
     use_at(uses, h).face as usize
 }
 
-pub fn use_sense(uses: &[Use], h: usize) -> Sense
-    ensures { result ≡ (use_at uses.now h).sense }
-{
-    use_at(uses, h).sense
-}
-
 // The old successor.
 pub fn use_next(uses: &[Use], h: usize) -> usize
     ensures { (result ≡ old_successor uses.now h) × (result < 4294967296) }

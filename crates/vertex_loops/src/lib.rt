@@ -2,42 +2,46 @@
 
 #![tactic(auto)]
 
-ghost use Rattle.std.specs.Prelude.{◌≡◌, ◌+◌, ◌≤◌, ◌<◌, length, take, Ok, IfOk};
+ghost use Rattle.std.specs.Prelude.{◌≡◌, ◌+◌, ◌≤◌, ◌<◌, length, Ok, IfOk};
 ghost use Rattle.rules.specs.Outcome.{◌>>=◌ as ◌and_then◌};
 ghost use Rattle.rules.specs.VertexLoops.{already_there, keep_unless_there, vertex_loop_step, vertex_loops};
 ghost use Rattle.loaded.specs.Told.{loop_at};
 ghost use Rattle.vertex_loops.specs.Kept.{held_against};
 
-use fields::get;
+use fields::{Filled, entry};
 use loaded::Loaded;
 use rules::{KeptVertexLoop, Kind, Refusal};
 
-// The point is that of a kept vertex loop, which is asked only where the merged face is the same.
+// What a table of kept vertex loops holds before it is filled.
+const NO_VERTEX_LOOP: KeptVertexLoop = KeptVertexLoop { face: 0, point: 0 };
+
+// The point is that of a kept vertex loop, which is asked only where the merged face is the same. It and the loop below are
+// inlined: this is asked of every two vertex loops, and most are of two merged faces.
+#[inline(always)]
 #[tactic(auto, unfolding(rules::specs::Kinds::number_of))]
 fn held_against(
     job: &Loaded<'_>,
     kept: KeptVertexLoop,
-    face: usize,
-    point: usize,
+    face: u32,
+    point: u32,
 ) -> Result<bool, Refusal>
-    requires { point < 4294967296 }
     ensures { result ≡ held_against job.now.answers face point kept }
 {
-    if kept.face as usize != face {
+    if kept.face != face {
         return Ok(false);
     }
-    ask::ask_same(job, Kind::Points, point, kept.point as usize)
+    ask::ask_same(job, Kind::Points, point, kept.point)
 }
 
 // The point is already in the merged face: held against those kept there, in order, up to the first that is the same.
+#[inline(always)]
 #[tactic(auto, using(std::proofs::lemmas::List::drop_more), unfolding(rules::specs::VertexLoops::already_there))]
 fn already_there(
     job: &Loaded<'_>,
     kept: &[KeptVertexLoop],
-    face: usize,
-    point: usize,
+    face: u32,
+    point: u32,
 ) -> Result<bool, Refusal>
-    requires { point < 4294967296 }
     ensures { result ≡ already_there job.now.answers face point kept.now }
 {
     for k in kept {
@@ -48,63 +52,57 @@ fn already_there(
     Ok(false)
 }
 
-// Kept unless the same point is already in the merged face. Gives how many are kept.
+// Kept unless the same point is already in the merged face.
 #[tactic(auto, unfolding(rules::specs::VertexLoops::keep_unless_there))]
-fn keep_unless_there(
+fn keep_unless_there<const LOOPS: usize>(
     job: &Loaded<'_>,
-    kept: &mut [KeptVertexLoop],
-    count: usize,
-    face: usize,
-    point: usize,
-) -> Result<usize, Refusal>
-    requires { (count < length kept.old) × (face < 4294967296) × (point < 4294967296) }
-    ensures { ((result and_then λ k. Ok (take k kept.new)) ≡ keep_unless_there job.now.answers face point (take count kept.old))
-        × IfOk result (λ k. k ≤ count + 1) }
+    kept: &mut Filled<KeptVertexLoop, LOOPS>,
+    face: u32,
+    point: u32,
+) -> Result<(), Refusal>
+    requires { length kept.old < LOOPS }
+    ensures keeps { (result and_then λ _. Ok kept.new) ≡ keep_unless_there job.now.answers face point kept.old }
+    ensures one { length kept.new ≤ length kept.old + 1 }
 {
-    if already_there(job, &kept[..count], face, point)? {
-        return Ok(count);
+    if already_there(job, kept.as_slice(), face, point)? {
+        return Ok(());
     }
-    kept[count] = KeptVertexLoop {
-        face: face as u32,
-        point: point as u32,
-    };
-    Ok(count + 1)
+    kept.push(KeptVertexLoop { face, point });
+    Ok(())
 }
 
-// Loop l of the job, where it is a vertex loop. Gives how many are kept.
-fn keep_loop(
+// Loop l of the job, where it is a vertex loop.
+fn keep_loop<const LOOPS: usize>(
     job: &Loaded<'_>,
     numbers: &[u32],
-    kept: &mut [KeptVertexLoop],
-    count: usize,
+    kept: &mut Filled<KeptVertexLoop, LOOPS>,
     l: usize,
-) -> Result<usize, Refusal>
-    requires { (l < length job.now.loops) × (count < length kept.old) }
-    ensures { ((result and_then λ k. Ok (take k kept.new)) ≡ vertex_loop_step job.now.answers job.now.points numbers.now (loop_at job.now.loops l) (take count kept.old))
-        × IfOk result (λ k. k ≤ count + 1) }
+) -> Result<(), Refusal>
+    requires { (l < length job.now.loops) × (length kept.old < LOOPS) }
+    ensures keeps { (result and_then λ _. Ok kept.new) ≡ vertex_loop_step job.now.answers job.now.points numbers.now (loop_at job.now.loops l) kept.old }
+    ensures one { length kept.new ≤ length kept.old + 1 }
 {
     let Some(v) = job.loop_vertex(l) else {
-        return Ok(count);
+        return Ok(());
     };
-    let face = get(numbers, job.loop_face(l));
-    keep_unless_there(job, kept, count, face, job.point(v))
+    let face = entry(numbers, job.loop_face(l) as usize, 0);
+    keep_unless_there(job, kept, face, job.point(v))
 }
 
-// By ascending face and then loop, from the merged face of each selected face. Gives how many are kept.
+// By ascending face and then loop, from the merged face of each selected face.
 #[tactic(auto, using(std::proofs::lemmas::List::drop_more), unfolding(rules::specs::Outcome::throughout))]
-pub fn vertex_loops(
+pub fn vertex_loops<const LOOPS: usize>(
     job: &Loaded<'_>,
     numbers: &[u32],
-    kept: &mut [KeptVertexLoop],
-) -> Result<usize, Refusal>
-    requires { length job.now.loops ≤ length kept.old }
-    ensures { ((result and_then λ k. Ok (take k kept.new)) ≡ vertex_loops job.now.answers job.now.points numbers.now job.now.loops)
-        × IfOk result (λ k. k ≤ length job.now.loops) }
+) -> Result<Filled<KeptVertexLoop, LOOPS>, Refusal>
+    requires { length job.now.loops ≤ LOOPS }
+    ensures keeps { result ≡ vertex_loops job.now.answers job.now.points numbers.now job.now.loops }
+    ensures few { IfOk result (λ kept. length kept ≤ length job.now.loops) }
 {
-    let mut count = 0;
+    let mut kept = Filled::new(NO_VERTEX_LOOP);
     // by number: a loop's parts are read where they stand in the job
     for l in 0..job.loops() {
-        count = keep_loop(job, numbers, kept, count, l)?;
+        keep_loop(job, numbers, &mut kept, l)?;
     }
-    Ok(count)
+    Ok(kept)
 }

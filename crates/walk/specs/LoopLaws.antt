@@ -11,7 +11,7 @@ use Rattle.std.proofs.Math.ListN.{length, get_or, length-replicate}
 use Rattle.std.proofs.lemmas.List.Edits.{sets-eq}
 use Rattle.std.proofs.Math.Seq.{length-sets}
 use Rattle.lists.specs.Lists.{from, below, ◌∈◌, has, some}
-use Rattle.lists.specs.Tests.{both_ways, or_second, none_or, or_assoc, or_comm, equal_or_not, cond_true, cond_false}
+use Rattle.lists.specs.Tests.{both_ways, or_second, none_or, or_assoc, or_comm, equal_or_not}
 use Rattle.lists.specs.Runs.{below_snoc, pigeon_below, length_table, get_or_table}
 use Rattle.lists.specs.Members.{flat_map_append, flat_map_in, foldl_append}
 use Rattle.lists.specs.Membership.{get_or_in}

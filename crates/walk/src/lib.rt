@@ -5,11 +5,13 @@
 ghost use Rattle.std.specs.Prelude.{◌≡◌, ◌+◌, ◌*◌, ◌<◌, ◌≤◌, false, length, take};
 ghost use Rattle.lists.specs.Lists.{sum_of};
 ghost use Rattle.rules.specs.Walk.{pass as pass_of, successors as successors_of, passed_counts, successor as successor_at, circuit, circuit_uses, circuits, loops_of};
-ghost use Rattle.theorems.specs.Circuits.{Permuted};
 ghost use Rattle.walk.specs.Walks.{Met, Succeeds, Closes, Round, loops_in, Following, Walking, unvisited};
 
-use fields::{Span, UNSET, entry, get, is_set, put, put_entry, put_flag};
-use rules::Use;
+mod steps;
+
+use fields::{Span, entry, get, is_set, put, put_entry};
+use rules::{MOST_USES, UNSET, Use};
+pub use steps::{Rounds, Steps};
 use uses::use_next;
 
 // The use that passing over meets, or the unset mark, and how many uses it passed over.
@@ -35,7 +37,7 @@ fn pass(uses: &[Use], twins: &[u32], removed: &[bool], from: usize) -> Passed
         h = use_next(uses, t);
     }
     Passed {
-        at: UNSET,
+        at: UNSET as usize,
         passed: 0,
     }
 }
@@ -47,7 +49,7 @@ fn passing(uses: &[Use], twins: &[u32], removed: &[bool], h: usize) -> Passed
 {
     if is_set(removed, h) {
         return Passed {
-            at: UNSET,
+            at: UNSET as usize,
             passed: 0,
         };
     }
@@ -81,7 +83,7 @@ pub fn successors(
 pub fn successor(succ: &[u32], h: usize) -> usize
     ensures { (result ≡ successor_at succ.now h) × (result < 4294967296) }
 {
-    entry(succ, h, UNSET as u32) as usize
+    entry(succ, h, UNSET) as usize
 }
 
 // One loop: the uses from `start` on until the successor is the start, written to `ways` from `at` on and marked as visited.
@@ -95,7 +97,7 @@ fn walk_loop(succ: &[u32], start: usize, visited: &mut [bool], ways: &mut [u32],
     // by number: p is where the next use goes, and one more is what is given
     for p in at..end {
         put(ways, p, h);
-        put_flag(visited, h, true);
+        put_entry(visited, h, true);
         h = successor(succ, h);
         if h == start {
             return p + 1;
@@ -111,23 +113,23 @@ struct Reached {
     at: usize,
 }
 
-// The loop that starts at use h, if that is kept and in none so far.
+// The loop that starts at use h, if that is kept and in none so far. The tables are lent side by side: `ways` and `stretches`
+// are the caller's, and a turn writes each at a place of its own while it looks at `visited`.
 fn walk_from(
-    removed: &[bool],
-    succ: &[u32],
+    steps: &Steps<'_>,
     visited: &mut [bool],
     ways: &mut [u32],
     stretches: &mut [Span],
     h: usize,
     so: Reached,
 ) -> Reached
-    requires { Permuted (length succ.now) removed.now succ.now × (length succ.now ≤ 2048) × (h < length succ.now) × Walking removed.now succ.now h visited.old ways.old stretches.old so.count so.at }
-    ensures { Walking removed.now succ.now (h + 1) visited.new ways.new stretches.new result.count result.at }
+    requires { (h < length steps.now.succ.now) × Walking steps.now.removed.now steps.now.succ.now h visited.old ways.old stretches.old so.count so.at }
+    ensures { Walking steps.now.removed.now steps.now.succ.now (h + 1) visited.new ways.new stretches.new result.count result.at }
 {
-    if is_set(removed, h) || is_set(visited, h) {
+    if is_set(steps.removed, h) || is_set(visited, h) {
         return so;
     }
-    let end = walk_loop(succ, h, visited, ways, so.at);
+    let end = walk_loop(steps.succ, h, visited, ways, so.at);
     put_entry(
         stretches,
         so.count,
@@ -144,30 +146,33 @@ fn walk_from(
 
 // The loops, which start at ascending kept uses that are in none so far; `visited` is unset at first.
 fn walk_all(
-    removed: &[bool],
-    succ: &[u32],
+    steps: &Steps<'_>,
     visited: &mut [bool],
     ways: &mut [u32],
     stretches: &mut [Span],
 ) -> usize
-    requires so_far { Permuted (length succ.now) removed.now succ.now × (length succ.now ≤ 2048) × (visited.old ≡ unvisited (length succ.now)) }
-    requires room { (length ways.old ≡ length succ.now) × (length stretches.old ≡ length succ.now) }
-    ensures { (loops_in ways.new (take result stretches.new) ≡ loops_of (circuits removed.now succ.now)) × (result ≤ length succ.now) × Following ways.new (take result stretches.new) }
+    requires unset { visited.old ≡ unvisited (length steps.now.succ.now) }
+    requires room { (length ways.old ≡ length steps.now.succ.now) × (length stretches.old ≡ length steps.now.succ.now) }
+    ensures { (loops_in ways.new (take result stretches.new) ≡ loops_of (circuits steps.now.removed.now steps.now.succ.now))
+        × (result ≤ length steps.now.succ.now) × Following ways.new (take result stretches.new) }
 {
+    // a copy of its own: what is stored in the tables cannot be a part of it, so that it is not read anew for each use
+    let own = *steps;
     let mut so = Reached { count: 0, at: 0 };
     // by number: a turn reads and writes the tables at other uses than h
-    for h in 0..succ.len() {
-        so = walk_from(removed, succ, visited, ways, stretches, h, so);
+    for h in 0..own.succ.len() {
+        so = walk_from(&own, visited, ways, stretches, h, so);
     }
     so.count
 }
 
 // The loops, their uses one after the other in `ways`; loop k in stretch k. Gives how many there are.
-pub fn loops(removed: &[bool], succ: &[u32], ways: &mut [u32], stretches: &mut [Span]) -> usize
-    requires { Permuted (length succ.now) removed.now succ.now × (length succ.now ≤ 2048) × (length ways.old ≡ length succ.now) × (length stretches.old ≡ length succ.now) }
-    ensures { (loops_in ways.new (take result stretches.new) ≡ loops_of (circuits removed.now succ.now)) × (result ≤ length succ.now) × Following ways.new (take result stretches.new) }
+pub fn loops(steps: &Steps<'_>, ways: &mut [u32], stretches: &mut [Span]) -> usize
+    requires { (length ways.old ≡ length steps.now.succ.now) × (length stretches.old ≡ length steps.now.succ.now) }
+    ensures { (loops_in ways.new (take result stretches.new) ≡ loops_of (circuits steps.now.removed.now steps.now.succ.now))
+        × (result ≤ length steps.now.succ.now) × Following ways.new (take result stretches.new) }
 {
-    let n = succ.len();
-    let mut visited = [false; 2048];
-    walk_all(removed, succ, &mut visited[..n], ways, stretches)
+    let n = steps.succ.len();
+    let mut visited = [false; MOST_USES];
+    walk_all(steps, &mut visited[..n], ways, stretches)
 }

@@ -12,7 +12,7 @@ pub put_members-r-requires : goal.put_members-r-requires
 put_members-r-requires c = (
   omega arith,
   rw (c.new-members.ensures, c.groups-groups.ensures.0)
-      (leading_at _ _ _ (get_or c.members-lowest.result.now c.loop-f.f 0) (rw c.members-lowest.ensures.0 c.requires.1.own) c.loop-f-test.true refl),
+      (leading_at _ _ _ (get_or c.members-lowest.result.now c.loop-f.f 0) (rw c.members-lowest.ensures.0 c.args.s.now.sized.own) c.loop-f-test.true refl),
 )
 
 pub loop-f-preserved : goal.loop-f-preserved

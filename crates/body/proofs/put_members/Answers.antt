@@ -15,7 +15,7 @@ loop-i-preserved c = member_step _ _ c.loop-i.invariant c.in-Some.ensures.steps 
 
 pub returns : goal.returns
 returns c = (
-  wrote_record _ _ _ _ _ _ _ _ _ (rw c.number.ensures at c.put_head-p.ensures)
+  wrote_record _ _ _ _ _ _ _ _ _ c.put_head-p.ensures
       (omega (arith, length_members c.args.job.now.faces (members_of c.args.members.now c.args.m), c.count-size.ensures.0))
       (member_all _ c.loop-i.invariant c.in-None.ensures.steps.0),
   omega (arith, length_head, member_place _ c.loop-i.invariant c.of-i-items.ensures.1),

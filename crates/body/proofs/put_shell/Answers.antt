@@ -7,6 +7,6 @@ put_shell_faces-requires c = omega (arith, length_head)
 
 pub returns : goal.returns
 returns c = (
-  wrote_record _ _ _ _ _ _ _ _ _ (rw c.number.ensures at c.put_head-p.ensures) c.count_shell_faces-size.ensures.0 c.put_shell_faces.ensures.0,
+  wrote_record _ _ _ _ _ _ _ _ _ c.put_head-p.ensures c.count_shell_faces-size.ensures.0 c.put_shell_faces.ensures.0,
   omega (arith, length_head),
 )

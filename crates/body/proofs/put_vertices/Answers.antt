@@ -9,7 +9,7 @@ loop-edge-init c = (omega arith, met_start _ _ _ _ _ _ (c.fill.ensures.after (λ
 
 pub meet_ends-count-requires : goal.meet_ends-count-requires
 meet_ends-count-requires c =
-    (c.requires.0, omega (arith, c.loop-edge.invariant.0), rw (c.loop-edge.auto.vertices, c.fill.ensures.len) (c.requires.2 _ (get_or_in _ _ _ (omega arith))))
+    (omega (arith, c.loop-edge.invariant.0), rw (c.loop-edge.auto.vertices, c.fill.ensures.len) (c.requires.1 _ (get_or_in _ _ _ (omega arith))))
 
 pub loop-edge-preserved : goal.loop-edge-preserved
 loop-edge-preserved c =

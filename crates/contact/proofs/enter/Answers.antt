@@ -3,4 +3,4 @@ use Rattle.std.proofs.Common.{rules}
 use Rattle.contact.proofs.enter.Goals as goal
 
 pub returns : goal.returns
-returns c = search (rules, bucketed_more)
+returns g c = search (rules, bucketed_more)

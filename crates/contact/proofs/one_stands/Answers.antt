@@ -5,7 +5,8 @@ use Rattle.contact.specs.Buckets.{stands_with}
 use Rattle.contact.proofs.one_stands.Goals as goal
 
 pub returns : goal.returns
-returns c =
+returns g c =
     let f = c.args.fans.now in
-    some_yielded (λ k. stands_with f.uses.now f.starts.now f.labels.now c.args.p c.args.l (get_or f.names.now k 0)) _ _ _ c.any.ensures.ran
-    (YieldsList-from_first (λ h. h) (λ hs. hs) _ c.new.ensures) (λ x b q k. search (rules, tests))
+    rw (← c.get-entry.ensures.0)
+    (some_yielded (λ k. stands_with f.uses.now f.starts.now f.labels.now c.args.p c.args.l (get_or f.names.now k 0)) _ _ _ c.any.ensures.ran
+    (YieldsList-from_first (λ h. h) (λ hs. hs) _ c.new.ensures) (λ x b q k. search (rules, tests)))

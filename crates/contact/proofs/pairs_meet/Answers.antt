@@ -7,7 +7,7 @@ loop-h-init c = search (rules, meeting_start)
 
 pub returns-then-meet : goal.returns-then-meet
 returns-then-meet c =
-    meeting_stop _ _ _ _ _ _ c.loop-h.invariant.1 c.requires.0 c.in-Some.h c.next.new.self _ _ (search rules) c.meet.ensures.0 c.meet.ensures.1 c.if-meet.true
+    meeting_stop _ _ _ _ _ _ c.loop-h.invariant.1 c.args.pairs.now.low c.in-Some.h c.next.new.self _ _ (search rules) c.meet.ensures.0 c.meet.ensures.1 c.if-meet.true
 
 pub loop-h-preserved : goal.loop-h-preserved
 loop-h-preserved c = search (rules, meeting_step)

@@ -3,4 +3,4 @@ use Rattle.groups.specs.ParentLaws.{Labelling}
 use Rattle.groups.proofs.labels_of.Given as goal
 
 abbrev pub invariant-loop-i : goal.invariant-loop-i
-invariant-loop-i l = Labelling l.fn.g.parents (length l.initial.labels) l.i l.g.parents l.labels
+invariant-loop-i l = Labelling l.fn.g (length l.initial.labels) l.i l.g l.labels

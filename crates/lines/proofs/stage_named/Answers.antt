@@ -5,7 +5,7 @@ use Rattle.std.proofs.lemmas.Iterator.Search.{find_from_yields_List}
 use Rattle.lists.specs.Lists.{same}
 use Rattle.rules.specs.Operation.{all_stages}
 use Rattle.lines.specs.Text.{stage_name, stage_named}
-use Rattle.lines.specs.LineLaws.{pointwise_same}
+use Rattle.lists.specs.SameLists.{pointwise_same}
 use Rattle.lines.proofs.stage_named.Goals as goal
 
 pub returns : goal.returns

@@ -1,6 +1,7 @@
 use Rattle.std.proofs.Common.{arith, sym, ◌∙◌}
 use Rattle.rules.specs.Outcome.{need}
 use Rattle.std.specs.Prelude.{◌/◌}
+use Rattle.rules.proofs.FieldLaws.{length_fields}
 use Rattle.records.specs.Limits.{whole_fields}
 use Rattle.load.specs.Judged.{judged}
 use Rattle.load.specs.SourcesKept.{face_room}
@@ -14,8 +15,11 @@ pub returns-then-limit_passed : goal.returns-then-limit_passed
 unfolding need
 returns-then-limit_passed c = grind (arith, judged c.requires.0)
 
+pub new-payload-requires : goal.new-payload-requires
+new-payload-requires c = omega (arith, c.requires.0.small, c.requires.0.low)
+
 pub fields_permitted-requires : goal.fields_permitted-requires
-fields_permitted-requires c = (grind (arith, whole_fields c.args.header.kind c.args.header.size), omega (arith, c.requires.0.small, c.requires.0.low))
+fields_permitted-requires c = grind (arith, whole_fields c.args.header.kind c.args.header.size, length_fields)
 
 pub is_selected-requires-clause-room : goal.is_selected-requires-clause-room
 is_selected-requires-clause-room c =

@@ -1,20 +1,24 @@
-use Rattle.std.proofs.Common.{arith, sym, ap, ◌∙◌}
+use Rattle.std.proofs.Common.{◌≡◌, arith, sym, ap, ◌∙◌}
 use Rattle.rules.specs.Outcome.{Err}
+use Rattle.rules.specs.Load.{no_counts}
 use Rattle.rules.proofs.OutcomeLaws.{bind_stop, hands_on}
 use Rattle.load.specs.Follows.{load_long, load_empty, going_start, follows_start, follows_on, follows_refused, follows_done}
 use Rattle.load.proofs.load.Goals as goal
 
-pub returns-then-job-gt65536-clause-loads : goal.returns-then-job-gt65536-clause-loads
-returns-then-job-gt65536-clause-loads c = ap Err c.at.ensures ∙ sym (load_long c.args.job.now c.if-job-gt65536.true)
+pub returns-then-job-gt-MOST_BYTES-clause-loads : goal.returns-then-job-gt-MOST_BYTES-clause-loads
+returns-then-job-gt-MOST_BYTES-clause-loads c = ap Err c.at.ensures ∙ sym (load_long c.args.job.now c.if-job-gt-MOST_BYTES.true)
 
 pub returns-then-is_empty-clause-loads : goal.returns-then-is_empty-clause-loads
 returns-then-is_empty-clause-loads c = ap Err c.at-then-is_empty.ensures ∙ sym (load_empty c.args.job.now (grind arith))
 
 pub loop-at-init : goal.loop-at-init
-loop-at-init c = (
-  going_start c.args.job.now c.args.index.now _ c.nothing-c.result c.requires c.new-sources.ensures c.nothing-c.ensures c.if-job-gt65536.false,
-  follows_start c.args.job.now c.args.index.now c.nothing-c.result c.nothing-c.ensures c.if-job-gt65536.false (grind arith),
-)
+loop-at-init c =
+    let n = c.default-c.ensures in
+    let nothing : c.default-c.result ≡ no_counts =
+    λ i. record { part = n.0 i; vertices = n.1.0 i; edges = n.1.1.0 i; faces = n.1.1.1.0 i; loops = n.1.1.1.1.0 i; uses = n.1.1.1.1.1.0 i; answers = n.1.1.1.1.1.1 i } in (
+      going_start c.args.job.now c.args.index.now _ c.default-c.result c.requires c.new-sources.ensures nothing c.if-job-gt-MOST_BYTES.false,
+      follows_start c.args.job.now c.args.index.now c.default-c.result nothing c.if-job-gt-MOST_BYTES.false (grind arith),
+    )
 
 pub returns-in_err-c-clause-loads : goal.returns-in_err-c-clause-loads
 returns-in_err-c-clause-loads c =

@@ -4,10 +4,10 @@ use Rattle.lists.specs.Lists.{keep}
 use lib.ListN.{length, take}
 use Rattle.maximal_edges.proofs.join_all.Given as goal
 
-abbrev pub invariant-sweeps : goal.invariant-sweeps
-invariant-sweeps g l =
+abbrev pub invariant-loop-change : goal.invariant-loop-change
+invariant-loop-change g l =
     Going l.run.job.now.answers l.run.points.now l.run.names.now l.initial.rows l.count l.items l.initial.stretches l.rows l.made.edges l.links l.corners l.made.joins
     l.made.rings l.from
 
-abbrev pub decreases-sweeps : goal.decreases-sweeps
-decreases-sweeps g l = length (keep (two_ends (take l.made.edges l.rows)) l.run.names.now)
+abbrev pub decreases-loop-change : goal.decreases-loop-change
+decreases-loop-change g l = length (keep (two_ends (take l.made.edges l.rows)) l.run.names.now)

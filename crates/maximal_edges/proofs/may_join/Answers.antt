@@ -1,7 +1,7 @@
 use Rattle.std.proofs.Common.{arith, ◌≡◌}
 use Rattle.rules.specs.Join.{not_singular, may_join}
 use Rattle.rules.specs.Kinds.{number_of}
-use Rattle.maximal_edges.specs.SweepLaws.{pointwise_same}
+use Rattle.lists.specs.SameLists.{pointwise_same}
 use Rattle.maximal_edges.proofs.may_join.Goals as goal
 
 -- the attribute finds this alone; with `first`, a wrong edge fails at that line and not at a limit of the search

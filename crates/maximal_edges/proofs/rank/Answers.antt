@@ -6,13 +6,13 @@ use mathlib.Core.Path.{refl}
 use Rattle.maximal_edges.proofs.rank.Goals as goal
 
 pub put-requires : goal.put-requires
-put-requires c =
-    let pre = c.requires in
-    omega (arith, pigeon_below 2048 c.args.names.now pre.0 (λ v m. omega (arith, pre.2 v m, pre.1)))
+put-requires g c =
+    let run = c.args.run.now in
+    omega (arith, pigeon_below 2048 run.names.now run.nodup (λ v m. omega (arith, run.inside v m, c.requires)))
 
 pub loop-i-preserved : goal.loop-i-preserved
-loop-i-preserved c =
+loop-i-preserved g c =
     let l = c.loop-i in
-    let pre = c.requires in
-    ranked_more c.args.names.now l.ranks pre.0 c.loop-i-test.true refl
-    (omega (arith, pre.2 _ (get_or_in c.args.names.now l.i 0 c.loop-i-test.true))) c.put.ensures l.invariant
+    let run = c.args.run.now in
+    ranked_more run.names.now l.ranks run.nodup c.loop-i-test.true refl
+    (omega (arith, run.inside _ (get_or_in run.names.now l.i 0 c.loop-i-test.true))) c.put.ensures l.invariant

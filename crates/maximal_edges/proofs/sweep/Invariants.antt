@@ -7,13 +7,13 @@ use mathlib.Core.Path.{◌≡◌}
 use Rattle.maximal_edges.proofs.sweep.Given as goal
 
 abbrev pub invariant-edges : goal.invariant-edges
-invariant-edges l = Scan l.rows l.v l.a (get_or l.e-items 1 0) l.seen l.e-index
+invariant-edges g l = Scan l.rows l.v l.a (get_or l.e-items 1 0) l.seen l.e-index
 
 abbrev pub invariant-corners : goal.invariant-corners
-invariant-corners l = record {
+invariant-corners g l = record {
   none : l.change ≡ None;
   passed : Passed l.run.job.now.answers l.run.points.now l.run.names.now l.rows l.from.low l.i;
 }
 
 abbrev pub decreases-corners : goal.decreases-corners
-decreases-corners l = length l.run.names.now - l.i
+decreases-corners g l = length l.run.names.now - l.i

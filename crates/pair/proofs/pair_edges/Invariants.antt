@@ -6,5 +6,5 @@ use Rattle.pair.proofs.pair_edges.Given as goal
 
 abbrev pub invariant-loop-e : goal.invariant-loop-e
 invariant-loop-e l =
-    let edges = length l.job.edges in
-    pair l.job.answers l.linked.uses edges ≡ (throughout (pair_edge l.job.answers l.linked.uses) (from l.e (edges - l.e)) l.twins >>= complete)
+    let edges = length l.pairing.job.now.edges in
+    pair l.pairing.job.now.answers l.pairing.linked.now.uses edges ≡ (throughout (pair_edge l.pairing.job.now.answers l.pairing.linked.now.uses) (from l.e (edges - l.e)) l.twins >>= complete)

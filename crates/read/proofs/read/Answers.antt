@@ -6,12 +6,12 @@ pub slice_bounds-read_loop-end : goal.slice_bounds-read_loop-end
 slice_bounds-read_loop-end c =
     omega (
       arith,
-      reading_room _ _ _ _ c.loop-l.invariant (omega arith) _ _ _ _ (omega arith) c.items-items.ensures c.len.ensures.0 c.loop_face-face.ensures.0 (ap (λ f. f.selected) c.face-selected.ensures),
+      reading_room _ _ _ _ c.loop-l.invariant (omega arith) _ _ _ _ (omega arith) c.items-items.ensures c.len.ensures.0 c.loop_face-face.ensures (ap (λ f. f.selected) c.face-selected.ensures),
     )
 
 pub loop-l-preserved : goal.loop-l-preserved
 loop-l-preserved c =
-    reading_more _ _ _ _ c.loop-l.invariant (omega arith) _ _ _ _ (omega arith) c.items-items.ensures c.len.ensures.0 c.loop_face-face.ensures.0 (ap (λ f. f.selected) c.face-selected.ensures) _
+    reading_more _ _ _ _ c.loop-l.invariant (omega arith) _ _ _ _ (omega arith) c.items-items.ensures c.len.ensures.0 c.loop_face-face.ensures (ap (λ f. f.selected) c.face-selected.ensures) _
     c.read_loop.ensures
 
 pub returns : goal.returns

@@ -1,16 +1,11 @@
-use Rattle.records.specs.Joints.{all_joints, joints_past}
+use Rattle.records.specs.Joints.{all_joints, joins_on}
 use Rattle.job.specs.Raw.{points as points_of, edges as edges_of}
-use Rattle.rules.specs.Job.{of_ring, end_point, item_at}
-use Rattle.std.specs.Prelude.{◌+◌, ◌*◌, ◌-◌, ◌≡◌, false}
+use Rattle.rules.specs.Job.{items_of}
+use Rattle.std.specs.Prelude.{◌*◌, ◌≡◌, drop}
 use Rattle.records.proofs.joined.Given as goal
 
 abbrev pub invariant-loop-i : goal.invariant-loop-i
 invariant-loop-i l =
     let points = points_of l.raw in
     let edges = edges_of l.raw in
-    let before = item_at l.raw.bytes.now (l.body + 8 * (l.i - 1)) in
-    record {
-      plain : of_ring edges before ≡ false;
-      ends : l.end ≡ end_point points edges before;
-      rest : all_joints points edges l.raw.bytes.now l.body l.n ≡ joints_past points edges l.raw.bytes.now l.body l.i l.n;
-    }
+    all_joints points edges l.payload ≡ joins_on points edges l.first.start l.end (items_of (drop (2 * l.i) l.payload))

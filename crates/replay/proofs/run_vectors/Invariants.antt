@@ -1,6 +1,6 @@
-use Rattle.replay.specs.Counted.{Counted}
-use Prim.Native.Nat.{◌<◌}
+use Rattle.std.proofs.Common.{◌*◌, ◌≤◌}
 use Rattle.replay.proofs.run_vectors.Given as goal
 
-abbrev pub invariant-loop : goal.invariant-loop
-invariant-loop g l = Counted l.t × (l.t.at < 4294967296)
+-- a vector has fewer than 2^32 answers
+abbrev pub invariant-loop-vector : goal.invariant-loop-vector
+invariant-loop-vector g l = (l.answers ≤ 4294967295 * l.vector) × (l.differences ≤ 4294967295 * l.vector)

@@ -14,7 +14,9 @@ pub put_loop-p-requires : goal.put_loop-p-requires
 put_loop-p-requires c = (c.loop_items.ensures.1, omega (arith, c.loop-k.invariant.small))
 
 pub loop-k-preserved : goal.loop-k-preserved
-loop-k-preserved c = rowed_step c.loop-k.invariant (rw (face_at c.args.j.now.loops c.loop-k.k c.loop_faces-faces.ensures.0 (omega arith), c.loop_items.ensures.0) at c.put_loop-p.ensures.0) c.put_loop-p.ensures.1
+loop-k-preserved c =
+    let own = face_at c.args.j.now.loops c.loop-k.k c.loop_faces-faces.ensures.0 (omega arith) in
+    rowed_step c.loop-k.invariant (rw (own, c.loop_items.ensures.0) at c.put_loop-p.ensures.0) c.put_loop-p.ensures.1
 
 pub returns : goal.returns
 returns c = fields_members face_loop_fields _ _ c.loop-k.invariant (omega (arith, faces_count c.args.j.now.loops c.loop_faces-faces.ensures.0))

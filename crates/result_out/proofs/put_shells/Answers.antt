@@ -2,7 +2,8 @@ use Rattle.std.proofs.Common.{arith, sym, ◌∙◌}
 use Rattle.stages_out.specs.Writing.{rowed_start, rowed_step, fields_members, wrote_same}
 use Rattle.lists.specs.Rows.{flat_map_map}
 use Rattle.rules.specs.Stage.{shell_fields}
-use Rattle.shells.specs.Table.{no_row, shell_in}
+use Rattle.shells.specs.declared.ShellRow.{ShellRow}
+use Rattle.shells.specs.Table.{no_row, nested_row}
 use Rattle.result_out.proofs.RowLaws.{flag_kind}
 use Rattle.result_out.proofs.put_shells.Goals as goal
 
@@ -14,5 +15,6 @@ loop-s-preserved c = rowed_step c.loop-s.invariant (rw (c.from-outer.ensures ∙
 
 pub returns : goal.returns
 returns c =
-    let shell = shell_in c.args.faces.now.boundaries c.args.faces.now.members in
-    wrote_same _ _ _ _ _ _ (sym (flat_map_map shell_fields shell c.args.shells.now)) (fields_members (λ s. shell_fields (shell s)) _ no_row c.loop-s.invariant (omega arith))
+    let s = c.args.shells.now in
+    let shell = λ (x : ShellRow). (nested_row s x).shell in
+    wrote_same _ _ _ _ _ _ (sym (flat_map_map shell_fields shell s.rows.now)) (fields_members (λ x. shell_fields (shell x)) s.rows.now no_row c.loop-s.invariant (omega arith))

@@ -2,11 +2,8 @@ use Rattle.std.proofs.Common.{arith, ◌∙◌}
 use Rattle.rules.specs.Walk.{loops_of}
 use Rattle.stages_out.specs.Rows.{round_rows_lem}
 use Rattle.progress.specs.Chain.{after_walks}
-use Rattle.progress.specs.KnownLaws.{seen, settled_permuted, paired_few}
+use Rattle.progress.specs.KnownLaws.{seen}
 use Rattle.sewing.proofs.on_walks.Goals as goal
-
-pub put_loops-requires : goal.put_loops-requires
-put_loops-requires c = (settled_permuted c.w.invariant, paired_few c.w.invariant.keeps.grouped.paired)
 
 pub returns-then-is_asked : goal.returns-then-is_asked
 unfolding after_walks

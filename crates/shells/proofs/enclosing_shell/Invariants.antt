@@ -1,8 +1,7 @@
 use Rattle.shells.specs.NestLaws.{EnclosingAt}
 use Rattle.shells.specs.Steps.{taken_of}
-use Rattle.std.proofs.Common.{◌<◌, IfSome}
 use Rattle.shells.proofs.enclosing_shell.Given as goal
 
 abbrev pub invariant-loop-s : goal.invariant-loop-s
 invariant-loop-s l =
-    IfSome l.taken (λ o. o < 4294967296) × EnclosingAt l.job.answers l.void l.shells l.s-index (taken_of l.taken)
+    EnclosingAt l.job.answers l.void l.shells l.s-index (taken_of l.taken)

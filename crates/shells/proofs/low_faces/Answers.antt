@@ -1,6 +1,6 @@
-use Rattle.std.proofs.Common.{arith, sym, ap, ◌∙◌, ◌≡◌, length, set, subst}
+use Rattle.std.proofs.Common.{arith, refl, sym, ap, ◌∙◌, ◌≡◌, length, set, subst}
 use Rattle.lists.specs.Tables.{length_snoc}
-use Rattle.shells.specs.Backwards.{left_all, left_fewer, left_taken}
+use Rattle.lists.specs.Backwards.{left_all, left_fewer, left_taken}
 use Rattle.shells.specs.ShellLaws.{LowFrom, low_start, low_step}
 use Rattle.shells.proofs.low_faces.Goals as goal
 
@@ -10,7 +10,7 @@ loop-f-init c =
     let all = ap (λ e. e.iter.rest.now) from ∙ ap (λ i. i.rest.now) c.enumerate.ensures.source ∙ c.iter.ensures.rest ∙ c.members-members.ensures.0 in (
       ap (λ e. e.count) from ∙ c.enumerate.ensures.count,
       left_all _ _ all,
-      subst (LowFrom _ _ _) (sym (ap length all)) (low_start _ _ _ c.requires),
+      subst (LowFrom _ _ _) (sym (ap length all)) (low_start _ _ _ refl),
     )
 
 pub loop-f-preserved : goal.loop-f-preserved

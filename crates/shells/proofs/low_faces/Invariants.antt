@@ -1,5 +1,5 @@
 use Rattle.std.proofs.Common.{◌≡◌, length}
-use Rattle.shells.specs.Backwards.{LeftOf}
+use Rattle.lists.specs.Backwards.{LeftOf}
 use Rattle.shells.specs.ShellLaws.{LowFrom}
 use Rattle.shells.proofs.low_faces.Given as goal
 

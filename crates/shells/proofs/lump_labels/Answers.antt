@@ -1,16 +1,13 @@
 use Rattle.shells.specs.LumpLaws.{labels_start, labels_few, labels_own, labels_old, labels_end}
-use Rattle.std.proofs.Common.{arith, refl, sym, ap, subst, ◌∙◌, length}
-use Rattle.rules.specs.Groups.{Lowest}
+use Rattle.std.proofs.Common.{arith, refl, ap, ◌∙◌}
 use Rattle.shells.proofs.lump_labels.Goals.{then-b-f, else-b-f}
 use Rattle.shells.proofs.lump_labels.Goals as goal
 
 pub loop-f-init : goal.loop-f-init
-loop-f-init c =
-    let told = sym c.boundaries-boundaries.ensures.0 in
-    labels_start _ _ _ (subst Lowest told c.requires.0) (c.requires.1 ∙ ap length told)
+loop-f-init c = labels_start _ _ _ c.requires.0 c.requires.1
 
 pub overflow_add-count : goal.overflow_add-count
-overflow_add-count c = omega (arith, labels_few _ _ _ _ _ c.loop-f.invariant c.loop-f-test.true, c.loop-f-test.true, c.boundaries-boundaries.ensures.1)
+overflow_add-count c = omega (arith, labels_few _ _ _ _ _ c.loop-f.invariant c.loop-f-test.true, c.loop-f-test.true)
 
 pub loop-f-preserved : goal.loop-f-preserved
 loop-f-preserved c =
@@ -24,4 +21,4 @@ loop-f-preserved c =
     ]
 
 pub returns : goal.returns
-returns c = rw (← c.boundaries-boundaries.ensures.0) (labels_end _ _ _ _ _ c.loop-f.invariant (omega arith))
+returns c = λ bs members. labels_end _ bs members _ _ _ _ c.loop-f.invariant (omega arith)

@@ -7,7 +7,7 @@ pub loop-k-init : goal.loop-k-init
 loop-k-init c = rowed_start
 
 pub loop-k-preserved : goal.loop-k-preserved
-loop-k-preserved c = fields_step _ c.loop-k.invariant c.put_two-p.ensures (search rules)
+loop-k-preserved c = fields_step _ c.loop-k.invariant c.put_fields-p.ensures.0 (search rules)
 
 pub returns : goal.returns
 returns c = fields_members kept_fields _ (record { face = 0; point = 0 }) c.loop-k.invariant (omega arith)

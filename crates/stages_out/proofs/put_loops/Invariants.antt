@@ -7,4 +7,4 @@ use Rattle.stages_out.proofs.put_loops.Given as goal
 
 abbrev pub invariant-loop-s : goal.invariant-loop-s
 invariant-loop-s l =
-    Rowed (λ i. field_bytes (round_row l.uses l.numbers (loop_in l.ways (span_at l.stretches i)))) 8200 l.initial.out 0 l.out l.p l.s-index
+    Rowed (λ i. field_bytes (round_row l.uses l.numbers (loop_in l.ways (span_at l.s-items i)))) 8200 l.initial.out 0 l.out l.p l.s-index

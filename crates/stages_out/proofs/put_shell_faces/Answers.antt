@@ -1,8 +1,7 @@
 use Rattle.std.proofs.Common.{arith, ◌∙◌, sym, eq-eqb, ne_eqb}
 use Rattle.fields.specs.Tabled.{length_bytes32}
-use Rattle.fields.specs.Wrote.{wrote_none}
-use Rattle.stages_out.specs.Writing.{rowed_start, rowed_step, rowed_as}
-use Rattle.stages_out.proofs.ShellFaces.{face_rows}
+use Rattle.stages_out.specs.Writing.{rowed_start, row_step, none_step, rows_kept, wrote_same}
+use Rattle.stages_out.proofs.ShellFaces.{own_faces}
 use Rattle.stages_out.proofs.put_shell_faces.Goals.{then-get-b, else-get-b}
 use Rattle.stages_out.proofs.put_shell_faces.Goals as goal
 
@@ -13,13 +12,12 @@ pub loop-f-preserved : goal.loop-f-preserved
 loop-f-preserved c =
     elim c.if-get-b.branch [
       | then-get-b w ↦ rw (w.out-is, w.p-is)
-          (rowed_step c.loop-f.invariant (rw (eq-eqb _ _ (sym c.get.ensures.0 ∙ w.if-get-b.true)) w.put_word-p.ensures) (omega (arith, length_bytes32)))
-      | else-get-b w ↦ rw (w.out-is, w.p-is)
-          (rowed_step c.loop-f.invariant (rw (ne_eqb _ _ (λ e. w.if-get-b.false (c.get.ensures.0 ∙ e))) (wrote_none c.loop-f.out c.loop-f.p)) (omega arith))
+          (row_step _ _ c.loop-f.invariant (eq-eqb _ _ (sym c.get.ensures.0 ∙ w.if-get-b.true)) w.put_word-p.ensures (omega (arith, length_bytes32)))
+      | else-get-b w ↦ rw (w.out-is, w.p-is) (none_step _ _ c.loop-f.invariant (ne_eqb _ _ (λ e. w.if-get-b.false (c.get.ensures.0 ∙ e))))
     ]
 
 pub returns : goal.returns
 returns c = (
-  rw (← c.members-members.ensures.0, ← c.boundaries-boundaries.ensures.0) (rowed_as c.loop-f.invariant (face_rows _ _ _ _ (omega arith))),
+  rw (← c.members-members.ensures.0, ← c.boundaries-boundaries.ensures.0) (wrote_same _ _ _ _ _ _ (own_faces _ _ _) (rows_kept _ _ c.loop-f.invariant (omega arith))),
   omega (arith, c.loop-f.invariant.small, c.members-members.ensures.1),
 )

@@ -1,13 +1,20 @@
-use Rattle.stages_out.proofs.RowLaws.{walked_short, walked_rows}
-use Rattle.stages_out.specs.Writing.{rowed_start, fields_step, fields_as}
-use Rattle.std.proofs.Common.{arith}
+use Rattle.std.proofs.Common.{arith, rules}
+use Rattle.lists.specs.Tests.{not_is, is_not}
+use Rattle.stages_out.specs.Rows.{walk_rows}
+use Rattle.stages_out.specs.Writing.{rowed_start, row_step, none_step, fields_kept}
+use Rattle.stages_out.proofs.put_walks.Goals.{then-not-is_set, else-not-is_set}
 use Rattle.stages_out.proofs.put_walks.Goals as goal
 
 pub loop-h-init : goal.loop-h-init
 loop-h-init c = rowed_start
 
 pub loop-h-preserved : goal.loop-h-preserved
-loop-h-preserved c = fields_step _ c.loop-h.invariant c.put_walked-p.ensures (omega (arith, walked_short c.args.removed.now c.args.succ.now c.args.passed.now c.loop-h.h))
+loop-h-preserved c =
+    elim c.if-not-is_set.branch [
+      | then-not-is_set w ↦ rw (w.out-is, w.p-is) (row_step _ _ c.loop-h.invariant (search (rules, not_is)) (search rules) (omega arith))
+      | else-not-is_set w ↦ rw (w.out-is, w.p-is) (none_step _ _ c.loop-h.invariant (search (rules, is_not)))
+    ]
 
 pub returns : goal.returns
-returns c = fields_as _ c.loop-h.invariant (walked_rows _ _ _ _ (omega arith))
+unfolding walk_rows
+returns c = fields_kept _ _ c.loop-h.invariant (omega arith)

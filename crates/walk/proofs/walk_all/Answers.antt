@@ -6,4 +6,4 @@ pub loop-h-init : goal.loop-h-init
 loop-h-init c = search (rules, walking_start)
 
 pub returns : goal.returns
-returns c = walking_end _ _ c.requires.so_far.0 _ _ _ _ _ _ (omega arith) (omega arith) c.loop-h.invariant.0
+returns c = walking_end _ _ c.args.steps.now.permuted _ _ _ _ _ _ (omega arith) (omega arith) c.loop-h.invariant.0

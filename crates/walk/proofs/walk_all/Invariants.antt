@@ -4,5 +4,5 @@ use Rattle.walk.proofs.walk_all.Given as goal
 
 abbrev pub invariant-loop-h : goal.invariant-loop-h
 invariant-loop-h l =
-    Walking l.removed l.succ l.h l.visited l.ways l.stretches l.so.count l.so.at × (length l.visited ≡ length l.initial.visited)
+    Walking l.steps.removed.now l.steps.succ.now l.h l.visited l.ways l.stretches l.so.count l.so.at × (length l.visited ≡ length l.initial.visited)
     × (length l.ways ≡ length l.initial.ways) × (length l.stretches ≡ length l.initial.stretches)

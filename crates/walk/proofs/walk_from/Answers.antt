@@ -5,7 +5,7 @@ use Rattle.walk.proofs.walk_from.Goals.{then-is_set-via-then-is_set, then-is_set
 
 pub returns-then-is_set : goal.returns-then-is_set
 returns-then-is_set c =
-    walking_skips _ _ c.requires.0 _ _ _ _ _ _ c.requires.2 c.requires.3
+    walking_skips _ _ c.args.steps.now.permuted _ _ _ _ _ _ c.requires.0 c.requires.1
     (elim c.then-is_set.branch [ then-is_set-via-then-is_set w ↦ grind arith | then-is_set-via-else-is_set+then-is_set-2 w ↦ grind arith ])
 
 pub walk_loop-end-requires : goal.walk_loop-end-requires
@@ -15,11 +15,11 @@ pub overflow_cast-end : goal.overflow_cast-end
 overflow_cast-end c =
     omega (
       arith,
-      walking_room _ _ c.requires.0 _ _ _ _ _ _ c.requires.2 c.requires.3 (sym c.is_set.ensures ∙ c.if-is_set.false)
+      walking_room _ _ c.args.steps.now.permuted _ _ _ _ _ _ c.requires.0 c.requires.1 (sym c.is_set.ensures ∙ c.if-is_set.false)
           (sym c.is_set-else-is_set.ensures ∙ c.if-is_set-2.false) _ _ _ c.walk_loop-end.ensures,
     )
 
 pub returns : goal.returns
 returns c =
-    walking_starts _ _ c.requires.0 _ _ _ _ _ _ c.requires.2 c.requires.3 (sym c.is_set.ensures ∙ c.if-is_set.false)
+    walking_starts _ _ c.args.steps.now.permuted _ _ _ _ _ _ c.requires.0 c.requires.1 (sym c.is_set.ensures ∙ c.if-is_set.false)
     (sym c.is_set-else-is_set.ensures ∙ c.if-is_set-2.false) _ _ _ c.walk_loop-end.ensures _ c.put_entry.ensures

@@ -3,4 +3,4 @@ use mathlib.Core.Path.{ap, ◌∙◌}
 use Rattle.job.proofs.RawJob.loop_size.Goals as goal
 
 pub returns : goal.returns
-returns c = (c.word.ensures.0 ∙ ap (le32 c.args.self.now.bytes.now) c.get.ensures.0, c.word.ensures.1)
+returns c = (c.word.ensures.0 ∙ ap (le32 c.args.self.now.bytes.now) c.entry.ensures.0, c.word.ensures.1)

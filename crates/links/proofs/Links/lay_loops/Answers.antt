@@ -10,8 +10,8 @@ loop-k-init g c = upto_none _ _ _ _ _
 
 pub loop-k-preserved : goal.loop-k-preserved
 loop-k-preserved g c =
-    upto_part _ _ _ _ _ (subst (λ (t : LinkTables). Laid t.stretches c.args.items.now) (sym c.self.view_is) c.requires) _ _ _ _
-    c.loop-k-test.true c.loop-k.invariant c.get.ensures.0 c.lay_loop.ensures
+    rw c.range.ensures.0 (rw c.range.ensures.1 (upto_part _ _ _ _ _ (subst (λ (t : LinkTables). Laid t.stretches c.args.items.now) (sym c.self.view_is) c.requires) _ _ _ _
+    c.loop-k-test.true c.loop-k.invariant c.get.ensures.0 (rw c.range.ensures.0 at (rw c.range.ensures.1 at c.lay_loop.ensures))))
 
 pub returns : goal.returns
 returns g c =

@@ -18,7 +18,7 @@ loop-s-preserved g c = (
   c.loop-s.invariant.0,
   linking_more _ _ _ _ _ _ c.requires.1 _
       c.requires.3 _ _ _ _ _ _ _
-      c.loop-s.invariant.1 c.loop-s.auto.s c.loop-s-test.true c.get-x.ensures.0 c.next_slot-q.ensures.0 c.put.ensures
+      c.loop-s.invariant.1 c.loop-s.auto.s c.loop-s-test.true c.get-x.ensures.0 c.place_after-q.ensures.0 c.put.ensures
       c.put-in-loop-s.ensures c.put-in-loop-s-2.ensures c.put-in-loop-s-3.ensures,
 )
 

@@ -6,4 +6,4 @@ use Rattle.loaded.proofs.Loaded.loop_face.Goals as goal
 
 pub returns : goal.returns
 unfolding loop_in
-returns c = (c.loop_face.ensures.0 ∙ ap (λ (l : Loop). l.face) (loop_is c.self.invariant c.self.view_is _ c.requires), c.loop_face.ensures.1)
+returns c = c.loop_face.ensures ∙ ap (λ (l : Loop). l.face) (loop_is c.self.invariant c.self.view_is _ c.requires)

@@ -1,7 +1,7 @@
 use Rattle.std.proofs.Common.{arith, sym, ap, ◌∙◌, ◌≡◌, ◌<◌, suc, length, get_or, subst}
 use Rattle.std.proofs.lemmas.List.{length-append}
 use Rattle.lists.specs.Tables.{length_snoc}
-use Rattle.members.specs.Backwards.{left_all, left_fewer, left_taken}
+use Rattle.lists.specs.Backwards.{left_all, left_fewer, left_taken}
 use Rattle.members.specs.Chain.{Chaining, chaining_start, chaining_step}
 use Rattle.members.proofs.Members.new.Goals as goal
 

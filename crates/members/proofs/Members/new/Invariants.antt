@@ -1,5 +1,5 @@
 use Rattle.std.proofs.Common.{◌≡◌, length}
-use Rattle.members.specs.Backwards.{LeftOf}
+use Rattle.lists.specs.Backwards.{LeftOf}
 use Rattle.members.specs.Chain.{Chaining}
 use Rattle.members.proofs.Members.new.Given as goal
 

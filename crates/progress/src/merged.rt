@@ -1,0 +1,47 @@
+// A job between merging and the walks.
+
+use loaded::Loaded;
+use merge_faces::Faces;
+use rules::{KeptVertexLoop, Use};
+use std::marker::Model;
+
+// A job once its faces are merged: its uses, the twin of each, and the merged faces. Contracts see the merging of the
+// definitions, with the uses that it removes.
+#[derive(Drop)]
+pub struct Merged<'a> {
+    pub job: &'a Loaded<'a>,
+    pub uses: &'a [Use],
+    pub twins: &'a [u32],
+    pub faces: &'a Faces,
+}
+
+impl<'a> Model for Merged<'a> {
+    ghost use Rattle.progress.specs.Known.{Merging, Grouped, merged_by};
+
+    ghost Value = { Merging };
+
+    ghost view = { λ m. record { job = m.job.now; uses = m.uses.now; twins = m.twins.now; merged = merged_by m.uses.now m.twins.now m.faces.now } };
+
+    ghost invariant = { λ m. Grouped m.job.now m.uses.now m.twins.now m.faces.now };
+}
+
+// And once its vertex loops are kept. Contracts see the walks that these make.
+#[derive(Drop)]
+pub struct Kept<'a> {
+    pub job: &'a Loaded<'a>,
+    pub uses: &'a [Use],
+    pub twins: &'a [u32],
+    pub faces: &'a Faces,
+    pub vertex_loops: &'a [KeptVertexLoop],
+}
+
+impl<'a> Model for Kept<'a> {
+    ghost use Rattle.rules.specs.Sew.{walks_of};
+    ghost use Rattle.progress.specs.Known.{Walking, Kept as KeptBy, merged_by};
+
+    ghost Value = { Walking };
+
+    ghost view = { λ k. record { job = k.job.now; walked = walks_of k.uses.now k.twins.now (merged_by k.uses.now k.twins.now k.faces.now) k.vertex_loops.now } };
+
+    ghost invariant = { λ k. KeptBy k.job.now k.uses.now k.twins.now k.faces.now k.vertex_loops.now };
+}
