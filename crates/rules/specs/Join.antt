@@ -12,7 +12,6 @@ use Rattle.rules.specs.Job.{unset, Answer}
 use Rattle.rules.specs.Questions.{ask_yes, ask_same}
 use Rattle.rules.specs.Fans.{fan_point}
 use Rattle.rules.specs.Edges.{FaceLoop}
-use Rattle.rules.specs.Rules.{Changes, all_changes, at_most}
 
 -- the edges ever made and the loops, and how many joins and rings made them so
 pub record Joining : Type 0 where
@@ -228,13 +227,8 @@ abbrev pub after_sweep : Tried → Joining → (Joining → Outcome Joining) →
 after_sweep unchanged s again = Ok s
 after_sweep (changed next) s again = again next
 
--- Joining: at most so many changes
+-- Joining: at most so many changes; each takes a corner away, so that there are at most as many as fans
 unfoldable pub maximal_edges : List Answer → List ℕ → List ℕ → ℕ → Joining → Outcome Joining
 maximal_edges answers starts names zero s = Ok s
 maximal_edges answers starts names (suc most) s =
     sweep answers starts s names >>= λ t. after_sweep t s (maximal_edges answers starts names most)
-
--- how many changes are allowed; each takes a corner away, so there are at most as many as fans
-abbrev pub allowed : Changes → List ℕ → ℕ
-allowed all_changes names = length names
-allowed (at_most n) names = n

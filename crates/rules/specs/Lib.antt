@@ -30,4 +30,5 @@ pub mod Parts
 pub mod Cases
 pub mod MoreCases
 pub mod RequestCases
+pub mod TableCases
 pub mod FaultNumbers

@@ -5,7 +5,8 @@ use Rattle.rules.specs.Outcome.{Outcome, Ok, ◌>>=◌, Err, fault_number}
 use Rattle.rules.specs.Frame.{Record, framed_all}
 use Rattle.rules.specs.Job.{unset}
 use Rattle.rules.specs.Load.{loaded}
-use Rattle.rules.specs.Rules.{Rules}
+use Rattle.rules.specs.declared.Rules.{Rules}
+use Rattle.rules.specs.Rules.{with_table, table_of}
 use Rattle.rules.specs.Body.{body_records}
 use Rattle.rules.specs.Sew.{rebuild, fitting}
 
@@ -79,3 +80,11 @@ sewn_records rules job room = loaded job >>= λ j. rebuild rules j >>= λ b.
 -- Listing: a program lends 65,536 bytes for the body
 abbrev pub listing : Rules → List ℕ → List ℕ
 listing rules job = listing_of (sewn_records rules job 65536)
+
+-- the same with a joining table
+unfoldable pub records_with_table : List ℕ → List ℕ → ℕ → Outcome (List Record)
+records_with_table table job room = table_of table >>= λ t. sewn_records (with_table t) job room
+
+-- Listing, of a job sewn with a joining table
+abbrev pub listing_with_table : List ℕ → List ℕ → List ℕ
+listing_with_table table job = listing_of (records_with_table table job 65536)

@@ -13,7 +13,7 @@ use Rattle.rules.specs.Questions.{surface_answer, ask}
 use Rattle.rules.specs.Read.{face_of_use, stored_sense}
 use Rattle.rules.specs.Groups.{alone, label_of, joined, Grouping, join_groups, group_numbers}
 use Rattle.rules.specs.Pair.{twin_of}
-use Rattle.rules.specs.Rules.{Table}
+use Rattle.rules.specs.declared.Table.{Table}
 use Rattle.rules.specs.declared.Fault.TheVariants.{AnswerUndecided, NormalsVanish}
 
 -- the selected face of a use's twin
@@ -31,8 +31,8 @@ boundaries us ts faces = foldl (boundary_step us ts) (alone faces) (below (lengt
 -- Merging: whether an answer joins the groups, by whether the stored senses are equal; 21 where it is undecided, 22 where normals vanish
 unfoldable pub joins_faces : Table → Bool → SurfaceAnswer → Outcome Bool
 joins_faces t equal Different = Ok false
-joins_faces t equal Agreeing = Ok (cond equal t.agreeing_equal t.agreeing_different)
-joins_faces t equal Opposed = Ok (cond equal t.opposed_equal t.opposed_different)
+joins_faces t equal Agreeing = Ok (cond equal t.agreeing.equal t.agreeing.different)
+joins_faces t equal Opposed = Ok (cond equal t.opposed.equal t.opposed.different)
 joins_faces t equal Vanishing = refuse NormalsVanish 8
 joins_faces t equal Undecided = refuse AnswerUndecided 8
 

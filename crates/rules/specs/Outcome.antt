@@ -2,7 +2,7 @@
 use Rattle.std.specs.Prelude.{ℕ, List, [], ◌∷◌, Bool, true, false, ◌&&◌, eqb, Result}
 use Rattle.rules.specs.declared.Fault.{Fault}
 use Rattle.rules.specs.declared.Fault.TheVariants.{TooLong, CutShort, Misplaced, FieldNotPermitted, LimitPassed, LoopJoints, AnsweredTwice, EqualSenses, OddUses, SamePredecessor, NoTwin, Unanswered}
-use Rattle.rules.specs.declared.Fault.TheVariants.{AnswerUndecided, NormalsVanish, NotRound, PairsInBoundary, FansInBoundary, FansInLump, PairsInLump, NoOuterShell, NoRoom, SelectedTwice}
+use Rattle.rules.specs.declared.Fault.TheVariants.{AnswerUndecided, NormalsVanish, NotRound, PairsInBoundary, FansInBoundary, FansInLump, PairsInLump, NoOuterShell, NoRoom, SelectedTwice, WrongTable}
 use Rattle.rules.specs.declared.Refusal.{Refusal}
 pub use Rattle.std.specs.Prelude.{Ok, Err}
 
@@ -37,6 +37,7 @@ fault_number PairsInLump = 33
 fault_number NoOuterShell = 34
 fault_number NoRoom = 40
 fault_number SelectedTwice = 45
+fault_number WrongTable = 48
 
 -- one refusal: the number and the place are the same
 abbrev pub same_refusal : Refusal → Refusal → Bool

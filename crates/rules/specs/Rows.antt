@@ -11,7 +11,8 @@ use Rattle.rules.specs.Job.{Job}
 use Rattle.rules.specs.Load.{loaded}
 use Rattle.rules.specs.Read.{uses_of}
 use Rattle.rules.specs.Pair.{pair}
-use Rattle.rules.specs.Rules.{Rules}
+use Rattle.rules.specs.declared.Rules.{Rules}
+use Rattle.rules.specs.Rules.{with_table, table_of}
 use Rattle.rules.specs.Merge.{merge_faces}
 use Rattle.rules.specs.Walk.{loops_of}
 use Rattle.rules.specs.Fans.{kept_with_ends}
@@ -122,3 +123,11 @@ rows_of Lumps = lump_rows
 unfoldable pub stage_listing : Option Stage → Rules → List ℕ → ℕ → List ℕ
 stage_listing None rules job room = []
 stage_listing (Some stage) rules job room = rows_listing (staged_rows (rows_of stage) rules job room)
+
+-- the rows of the walk stage with a joining table
+unfoldable pub walk_rows_with_table : List ℕ → List ℕ → ℕ → Outcome (List (List ℕ))
+walk_rows_with_table table job room = table_of table >>= λ t. staged_rows walk_rows (with_table t) job room
+
+-- the lines of the walk stage with a joining table
+abbrev pub walk_listing_with_table : List ℕ → List ℕ → ℕ → List ℕ
+walk_listing_with_table table job room = rows_listing (walk_rows_with_table table job room)

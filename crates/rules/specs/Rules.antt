@@ -1,31 +1,50 @@
--- What a caller may set: document 01's own rules are `ordinary`.
-use Rattle.std.specs.Prelude.{ℕ, Bool, true, false}
+-- What a caller may set: document 01's own rules are `ordinary`. The joining table of document 02's request Eleven, and refusal 48.
+use Rattle.std.specs.Prelude.{ℕ, List, Bool, true, false, ◌&&◌, ◌||◌, length, get_or, eqb}
+use Rattle.rules.specs.declared.Table.{Table}
+use Rattle.rules.specs.declared.Rules.{Rules}
+use Rattle.rules.specs.declared.Fault.TheVariants.{WrongTable}
+use Rattle.rules.specs.Outcome.{Outcome, Ok, need}
 
--- which surface answers join: 1 or 2, with stored senses equal or different
-pub record Table : Type 0 where
-  pub agreeing_equal : Bool
-  pub agreeing_different : Bool
-  pub opposed_equal : Bool
-  pub opposed_different : Bool
+-- THE RULES
 
 -- Merging: values 1 and 2 join when (value is 1) equals (stored senses are equal)
 abbrev pub full_table : Table
-full_table = record { agreeing_equal = true; agreeing_different = false; opposed_equal = false; opposed_different = true }
+full_table = record {
+  agreeing = record { equal = true; different = false };
+  opposed = record { equal = false; different = true };
+}
 
--- which contacts a boundary may have
-pub data Profile : Type 0 where
-  any_contact : Profile
+-- document 01's rules, but for the table
+abbrev pub with_table : Table → Rules
+with_table t = record { table = t }
 
--- how many changes joining may make
-pub data Changes : Type 0 where
-  all_changes : Changes
-  at_most : ℕ → Changes
-
-pub record Rules : Type 0 where
-  pub table : Table
-  pub profile : Profile
-  pub changes : Changes
-
--- the rules of document 01
+-- the rules of document 01; Eleven: all but the two operations that take a table keep these
 abbrev pub ordinary : Rules
-ordinary = record { table = full_table; profile = any_contact; changes = all_changes }
+ordinary = with_table full_table
+
+-- THE JOINING TABLE AS BYTES
+
+-- Eleven: each entry is 0 or 1, and a 1 is permitted only where document 01's merging rule joins
+abbrev pub permitted : Bool → ℕ → Bool
+permitted joins byte = eqb byte 0 || (joins && eqb byte 1)
+
+-- byte i of a table
+abbrev pub byte_at : List ℕ → ℕ → ℕ
+byte_at bytes i = get_or bytes i 0
+
+-- Eleven: four bytes, rows by answer, columns equal then different
+abbrev pub table_in : List ℕ → Table
+table_in bytes = record {
+  agreeing = record { equal = eqb (byte_at bytes 0) 1; different = eqb (byte_at bytes 1) 1 };
+  opposed = record { equal = eqb (byte_at bytes 2) 1; different = eqb (byte_at bytes 3) 1 };
+}
+
+-- Eleven, 48: a table of other length or entry, length tested first, place 4 for length or the first faulty byte
+unfoldable pub table_of : List ℕ → Outcome Table
+table_of bytes =
+    need (eqb (length bytes) 4) WrongTable 4
+    (need (permitted full_table.agreeing.equal (byte_at bytes 0)) WrongTable 0
+    (need (permitted full_table.agreeing.different (byte_at bytes 1)) WrongTable 1
+    (need (permitted full_table.opposed.equal (byte_at bytes 2)) WrongTable 2
+    (need (permitted full_table.opposed.different (byte_at bytes 3)) WrongTable 3
+    (Ok (table_in bytes))))))

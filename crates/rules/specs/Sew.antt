@@ -10,14 +10,15 @@ use Rattle.rules.specs.Load.{loaded}
 use Rattle.rules.specs.Read.{uses_of}
 use Rattle.rules.specs.Groups.{lowest_members}
 use Rattle.rules.specs.Pair.{pair}
-use Rattle.rules.specs.Rules.{Rules}
+use Rattle.rules.specs.declared.Rules.{Rules}
+use Rattle.rules.specs.Rules.{with_table, table_of}
 use Rattle.rules.specs.Merge.{Merged, merge_faces, merged_faces}
 use Rattle.rules.specs.VertexLoops.{vertex_loops}
 use Rattle.rules.specs.Walk.{successors, passed_counts, Circuit, circuits, loops_of}
 use Rattle.rules.specs.Fans.{fans, fan_names, start_points}
 use Rattle.rules.specs.Contact.{edges_clear, points_clear}
 use Rattle.rules.specs.Edges.{edges_of, face_loops}
-use Rattle.rules.specs.Join.{Joining, maximal_edges, allowed}
+use Rattle.rules.specs.Join.{Joining, maximal_edges}
 use Rattle.rules.specs.Shells.{Shell, all_shell_faces, shells, Nested, nested, lumps, lump_labels}
 use Rattle.rules.specs.Body.{Totals, Body, empty_body, solid_body, body_records}
 use Rattle.rules.specs.declared.Fault.TheVariants.{PairsInBoundary, FansInBoundary, FansInLump, PairsInLump, NoRoom}
@@ -109,7 +110,7 @@ edged rules j = fanned rules j >>= λ f.
 unfoldable pub through_joining : Rules → Job → Outcome Joined
 through_joining rules j = edged rules j >>= λ x.
     let f = x.fan in
-    maximal_edges j.answers f.starts f.names (allowed rules.changes f.names) x.joining >>= λ s.
+    maximal_edges j.answers f.starts f.names (length f.names) x.joining >>= λ s.
     Ok (record { fan = f; joining = s })
 
 -- SHELLS AND THE BODY
@@ -169,6 +170,10 @@ fitting room bytes = need (leb (length bytes) room) NoRoom (length bytes) (Ok by
 -- Endings: sewing a job into an output of so many bytes gives the bytes written, or the refusal
 unfoldable pub sewn : Rules → List ℕ → ℕ → Outcome (List ℕ)
 sewn rules job room = loaded job >>= λ j. rebuild rules j >>= λ b. fitting room (framed_all (body_records b))
+
+-- Eleven: sewing with a table supplied with the call; 48 comes before all else
+unfoldable pub sewn_with_table : List ℕ → List ℕ → ℕ → Outcome (List ℕ)
+sewn_with_table table job room = table_of table >>= λ t. sewn (with_table t) job room
 
 -- Endings: a refusal writes nothing; success fills the start, later bytes of the output stay
 abbrev pub written : Outcome (List ℕ) → List ℕ → List ℕ

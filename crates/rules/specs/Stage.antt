@@ -12,7 +12,8 @@ use Rattle.rules.specs.Load.{loaded}
 use Rattle.rules.specs.Read.{uses_of}
 use Rattle.rules.specs.Groups.{label_of}
 use Rattle.rules.specs.Pair.{pair}
-use Rattle.rules.specs.Rules.{Rules}
+use Rattle.rules.specs.declared.Rules.{Rules}
+use Rattle.rules.specs.Rules.{with_table, table_of}
 use Rattle.rules.specs.Merge.{Merged, merge_faces, merged_faces, is_removed, merged_face_of}
 use Rattle.rules.specs.Walk.{successor, loops_of}
 use Rattle.rules.specs.Fans.{kept_with_ends, fan_point}
@@ -105,6 +106,10 @@ vertex_loop_stage rules job room = loaded job >>= λ j. walked rules j >>= λ w.
 
 unfoldable pub walk_stage : Rules → List ℕ → ℕ → Outcome (List ℕ)
 walk_stage rules job room = loaded job >>= λ j. walked rules j >>= λ w. stage_bytes room (flat_map (walk_fields w) (kept_uses w.merge.removed))
+
+-- Eleven: the walk stage with a table supplied with the call; 48 comes before all else
+unfoldable pub walk_stage_with_table : List ℕ → List ℕ → ℕ → Outcome (List ℕ)
+walk_stage_with_table table job room = table_of table >>= λ t. walk_stage (with_table t) job room
 
 unfoldable pub loop_stage : Rules → List ℕ → ℕ → Outcome (List ℕ)
 loop_stage rules job room = loaded job >>= λ j. walked rules j >>= λ w. stage_bytes room (flat_map (loop_fields w) (loops_of w.circuits))

@@ -2,13 +2,14 @@
 
 #![tactic(auto)]
 
-ghost use Rattle.std.specs.Prelude.{◌≡◌, ◌<◌};
+ghost use Rattle.std.specs.Prelude.{◌≡◌, ◌<◌, cond};
 ghost use Rattle.rules.specs.Outcome.{fault_number};
 ghost use Rattle.rules.specs.Sense.{reverse};
 ghost use Rattle.rules.specs.Operation.{stage_number, stage_of, is_asked};
 ghost use Rattle.rules.specs.Kinds.{number_of};
 ghost use Rattle.rules.specs.Job.{ring, start_by, end_by};
 ghost use Rattle.rules.specs.Read.{stored_sense};
+ghost use Rattle.rules.specs.Rules.{with_table, ordinary};
 
 use std::ops::Mul;
 
@@ -187,6 +188,66 @@ impl From<usize> for SurfaceAnswer {
             3 => SurfaceAnswer::Vanishing,
             _ => SurfaceAnswer::Undecided,
         }
+    }
+}
+
+// Whether a surface answer joins faces whose stored senses are equal, and faces whose stored senses are different.
+#[derive(Clone, Copy)]
+pub struct TableRow {
+    pub equal: bool,
+    pub different: bool,
+}
+
+impl TableRow {
+    // The entry for stored senses that are equal, or for others.
+    pub fn entry(self, equal: bool) -> bool
+        ensures { result ≡ cond equal self.equal self.different }
+    {
+        if equal {
+            return self.equal;
+        }
+        self.different
+    }
+}
+
+// The joining table: a row for answer 1, normals agreeing, and one for answer 2, normals opposed.
+#[derive(Clone, Copy)]
+pub struct Table {
+    pub agreeing: TableRow,
+    pub opposed: TableRow,
+}
+
+// Document 01's table: an answer joins faces when (it is 1) equals (their stored senses are equal).
+pub const FULL_TABLE: Table = Table {
+    agreeing: TableRow {
+        equal: true,
+        different: false,
+    },
+    opposed: TableRow {
+        equal: false,
+        different: true,
+    },
+};
+
+// What a caller may set. It goes from the entry on as one value.
+#[derive(Clone, Copy)]
+pub struct Rules {
+    pub table: Table,
+}
+
+impl Rules {
+    // Document 01's rules, with a joining table.
+    pub fn with_table(table: Table) -> Rules
+        ensures { result ≡ with_table table }
+    {
+        Rules { table }
+    }
+
+    // The rules of document 01.
+    pub fn ordinary() -> Rules
+        ensures { result ≡ ordinary }
+    {
+        Rules::with_table(FULL_TABLE)
     }
 }
 
@@ -402,6 +463,7 @@ pub enum Fault {
     NoOuterShell = 34,
     NoRoom = 40,
     SelectedTwice = 45,
+    WrongTable = 48,
 }
 
 impl Fault {

@@ -1,4 +1,4 @@
--- Demand 3 for every job and every joining table.
+-- Demand 3 for every job, whatever the rules that sewing runs by.
 use Rattle.std.specs.Prelude.{ℕ, ◌+◌, ◌<◌, ◌≤◌, ◌≡◌, refl, true, false, ◌&&◌, not, List, length, eqb}
 use Rattle.std.proofs.Common.{arith, sym, ap, ◌∙◌, subst, subst₂, ⊎_elim, eqb-true}
 use Rattle.lists.specs.Lists.{below, ◌∈◌, Nodup, keep}
@@ -9,14 +9,14 @@ use Rattle.rules.specs.Outcome.{Ok}
 use Rattle.rules.specs.Frame.{framed_all}
 use Rattle.rules.specs.Job.{unset, Job}
 use Rattle.rules.specs.Load.{loaded}
-use Rattle.rules.specs.Rules.{Table}
+use Rattle.rules.specs.declared.Rules.{Rules}
 use Rattle.rules.specs.Merge.{is_removed}
 use Rattle.rules.specs.Join.{Joining, maximal_edges}
 use Rattle.rules.specs.Shells.{Nested}
 use Rattle.rules.specs.Body.{Body, empty_body, body_kind, body_records}
 use Rattle.rules.specs.Sew.{Walked, Fanned, fans_of, unjoined, Joined, through_joining, totals_of, body_of, sewn}
 use Rattle.theorems.specs.Demand3.{holds_kept, reached, passed_sum, WalksHold, Change, Run, rings_of, joins_of, Reports}
-use Rattle.theorems.specs.Demand3.{with_table, Settled, JoiningHolds, Demand3}
+use Rattle.theorems.specs.Demand3.{Settled, JoiningHolds, Demand3}
 use Rattle.theorems.proofs.Loading.{no_face_no_use, faces_few}
 use Rattle.theorems.proofs.ChangeRuns.{runs_to_end, run_few, run_counts}
 use Rattle.theorems.proofs.Balance.{run_balance}
@@ -63,9 +63,9 @@ empty_begins bytes e =
     subst (λ b. Begins b empty_body.totals) (sym e)
     (begins_body empty_body (record { uses = omega arith; removed = omega arith; passed = omega arith; joins = omega arith; rings = omega arith; face_joins = omega arith }))
 
-module _ (t : Table) (job : List ℕ) (j : Job) (w : Walked) (l : loaded job ≡ Ok j) (s : Settled t j w) where
+module _ (rules : Rules) (job : List ℕ) (j : Job) (w : Walked) (l : loaded job ≡ Ok j) (s : Settled rules j w) where
   abbrev G : Ground j w
-  G = ground t job j w l s
+  G = ground rules job j w l s
 
   abbrev F : FansHold j w
   F = fans_hold j w G
@@ -109,8 +109,8 @@ module _ (t : Table) (job : List ℕ) (j : Job) (w : Walked) (l : loaded job ≡
       }
 
   -- what holds of joining, but for the body's report
-  holds : (bytes : List ℕ) (ending : Joining) → through_joining (with_table t) j ≡ Ok (record { fan = fans_of j w; joining = ending })
-      → (R : Ran ending) → Reports j w R.changes bytes → JoiningHolds t j w bytes
+  holds : (bytes : List ℕ) (ending : Joining) → through_joining rules j ≡ Ok (record { fan = fans_of j w; joining = ending })
+      → (R : Ran ending) → Reports j w R.changes bytes → JoiningHolds rules j w bytes
   holds bytes ending e R reports =
       let E : EdgesHold j w = edges_hold j w G F in
       record {
@@ -140,10 +140,10 @@ module _ (t : Table) (job : List ℕ) (j : Job) (w : Walked) (l : loaded job ≡
   removed_few = omega (arith, keep_length (is_removed w.merge.removed) (below (length w.uses)), length_below (length w.uses))
 
   -- a job without faces
-  empty_holds : (bytes : List ℕ) → eqb (length j.faces) 0 ≡ true → bytes ≡ framed_all (body_records empty_body) → JoiningHolds t j w bytes
+  empty_holds : (bytes : List ℕ) → eqb (length j.faces) 0 ≡ true → bytes ≡ framed_all (body_records empty_body) → JoiningHolds rules j w bytes
   empty_holds bytes f e =
-      let none : length w.uses ≡ 0 = ap length (sym (settled_uses t j w s)) ∙ no_face_no_use job j l (eqb-true (length j.faces) 0 f) in
-      let q = none_joined t j w none (settled_walked t j w s) in
+      let none : length w.uses ≡ 0 = ap length (sym (settled_uses rules j w s)) ∙ no_face_no_use job j l (eqb-true (length j.faces) 0 f) in
+      let q = none_joined rules j w none (settled_walked rules j w s) in
       let R : Ran start = ran start q.1 in
       let B : Begins bytes empty_body.totals = empty_begins bytes e in
       holds bytes start q.0 R
@@ -161,7 +161,7 @@ module _ (t : Table) (job : List ℕ) (j : Job) (w : Walked) (l : loaded job ≡
   pub totals_small : (ending : Joining) → maximal_edges j.answers fan.starts fan.names (length fan.names) start ≡ Ok ending → Small (totals_of w ending)
   totals_small ending e =
       let R : Ran ending = ran ending e in
-      let passed = passed_total t j w G.linked.size s in
+      let passed = passed_total rules j w G.linked.size s in
       record {
         uses = G.few;
         removed = omega (arith, removed_count, removed_few, G.few);
@@ -172,23 +172,23 @@ module _ (t : Table) (job : List ℕ) (j : Job) (w : Walked) (l : loaded job ≡
       }
 
   -- the bytes of a body begin with the totals of its walks and its joining
-  pub solid_begins : (bytes : List ℕ) (x : Joined) (ns : List Nested) → through_joining (with_table t) j ≡ Ok x → bytes ≡ framed_all (body_records (body_of j x ns))
+  pub solid_begins : (bytes : List ℕ) (x : Joined) (ns : List Nested) → through_joining rules j ≡ Ok x → bytes ≡ framed_all (body_records (body_of j x ns))
       → Begins bytes (totals_of w x.joining)
   solid_begins bytes x ns q e =
-      let r = through_joined t j w x (settled_walked t j w s) q in
+      let r = through_joined rules j w x (settled_walked rules j w s) q in
       let same : x.joining ≡ r.0 = ap (λ (y : Joined). y.joining) r.1 in
       let T : (body_of j x ns).totals ≡ totals_of w x.joining =
       body_totals j x ns ∙ ap (λ (y : Joined). totals_of y.fan.walk x.joining) r.1 ∙ fan_walk j w x.joining in
       subst₂ Begins (sym e) T (begins_body (body_of j x ns) (subst Small (ap (totals_of w) (sym same) ∙ sym T) (totals_small r.0 r.2)))
 
   -- a job with faces
-  solid_holds : (bytes : List ℕ) (x : Joined) (ns : List Nested) → eqb (length j.faces) 0 ≡ false → through_joining (with_table t) j ≡ Ok x
-      → bytes ≡ framed_all (body_records (body_of j x ns)) → JoiningHolds t j w bytes
+  solid_holds : (bytes : List ℕ) (x : Joined) (ns : List Nested) → eqb (length j.faces) 0 ≡ false → through_joining rules j ≡ Ok x
+      → bytes ≡ framed_all (body_records (body_of j x ns)) → JoiningHolds rules j w bytes
   solid_holds bytes x ns f q e =
-      let r = through_joined t j w x (settled_walked t j w s) q in
+      let r = through_joined rules j w x (settled_walked rules j w s) q in
       let ending : Joining = r.0 in
       let R : Ran ending = ran ending r.2 in
-      let passed = passed_total t j w G.linked.size s in
+      let passed = passed_total rules j w G.linked.size s in
       let B : Begins bytes (totals_of w ending) = subst (λ (y : Joined). Begins bytes (totals_of w y.joining)) r.1 (solid_begins bytes x ns q e) in
       holds bytes ending (q ∙ ap Ok r.1) R
       (record {
@@ -201,14 +201,14 @@ module _ (t : Table) (job : List ℕ) (j : Job) (w : Walked) (l : loaded job ≡
         rings = B.rings ∙ R.rings;
       })
 
-  accepted_holds : (room : ℕ) (bytes : List ℕ) → sewn (with_table t) job room ≡ Ok bytes → JoiningHolds t j w bytes
+  accepted_holds : (room : ℕ) (bytes : List ℕ) → sewn rules job room ≡ Ok bytes → JoiningHolds rules j w bytes
   accepted_holds room bytes e =
-      let a = sewn_body (with_table t) job room bytes j l e in
+      let a = sewn_body rules job room bytes j l e in
       ⊎_elim
       (λ r. empty_holds bytes r.0 (a.2 ∙ ap (λ b. framed_all (body_records b)) r.1))
       (λ r. solid_holds bytes r.1.joined r.1.nests r.0 r.1.joining (a.2 ∙ ap (λ b. framed_all (body_records b)) r.1.body))
-      (rebuild_cases (with_table t) j a.0 a.1)
+      (rebuild_cases rules j a.0 a.1)
 
--- demand 3, for each joining table and every job
-pub demand3 : (t : Table) (job : List ℕ) → Demand3 t job
-demand3 t job j w l s = ((ground t job j w l s).walks, accepted_holds t job j w l s)
+-- demand 3, for all rules and every job
+pub demand3 : (rules : Rules) (job : List ℕ) → Demand3 rules job
+demand3 rules job j w l s = ((ground rules job j w l s).walks, accepted_holds rules job j w l s)

@@ -6,7 +6,6 @@ use Rattle.lists.specs.Lists.{keep}
 use Rattle.lists.specs.Members.{keep_append}
 use Rattle.lists.specs.Counts.{keep_map_length, keep_nothing}
 use Rattle.rules.specs.declared.Use.{Use}
-use Rattle.rules.specs.declared.Face.{Face}
 use Rattle.rules.specs.Outcome.{Ok}
 use Rattle.rules.proofs.OutcomeLaws.{ok_one}
 use Rattle.rules.specs.Frame.{Record, framed_all}
@@ -14,12 +13,12 @@ use Rattle.rules.specs.Job.{Job}
 use Rattle.rules.specs.Load.{loaded}
 use Rattle.rules.specs.Read.{uses_of}
 use Rattle.rules.specs.Groups.{lowest_members}
-use Rattle.rules.specs.Rules.{Table}
+use Rattle.rules.specs.declared.Rules.{Rules}
 use Rattle.rules.specs.Shells.{Nested}
-use Rattle.rules.specs.Body.{BodyFace, Body, body_faces, solid_body, empty_body, vertex_record, edge_record, loop_record}
+use Rattle.rules.specs.Body.{BodyFace, Body, solid_body, empty_body, vertex_record, edge_record, loop_record}
 use Rattle.rules.specs.Body.{vertex_loop_record, face_records, lump_records, body_records, rec}
 use Rattle.rules.specs.Sew.{Walked, fans_of, Joined, totals_of, body_of, rebuild, sewn}
-use Rattle.theorems.specs.Demand3.{with_table, Settled}
+use Rattle.theorems.specs.Demand3.{Settled}
 use Rattle.theorems.specs.Linked.{Twins}
 use Rattle.theorems.specs.Sound.{Sound}
 use Rattle.theorems.proofs.Reading.{use_face_below}
@@ -86,9 +85,9 @@ solid_faces j x ns = length_body_faces j.faces x.fan.walk.merge.groups _ x.joini
 
 -- AN ACCEPTED JOB
 
-module _ (t : Table) (job : List ℕ) (j : Job) (l : loaded job ≡ Ok j) where
+module _ (rules : Rules) (job : List ℕ) (j : Job) (l : loaded job ≡ Ok j) where
   -- a job without faces
-  empty_told : (b : Body) (bytes : List ℕ) → rebuild (with_table t) j ≡ Ok b → bytes ≡ framed_all (body_records b) → length j.faces ≡ 0 → b ≡ empty_body → FacesTold t j bytes
+  empty_told : (b : Body) (bytes : List ℕ) → rebuild rules j ≡ Ok b → bytes ≡ framed_all (body_records b) → length j.faces ≡ 0 → b ≡ empty_body → FacesTold rules j bytes
   empty_told b bytes r e n z =
       let B : Begins bytes empty_body.totals = empty_begins bytes (e ∙ ap (λ x. framed_all (body_records x)) z) in
       let none : faces_written (body_records b) ≡ 0 = body_faces_lem b ∙ ap (λ (x : Body). length x.faces) z in
@@ -96,21 +95,21 @@ module _ (t : Table) (job : List ℕ) (j : Job) (l : loaded job ≡ Ok j) where
         body = b;
         rebuilt = r;
         written = e;
-        joins = λ w q. omega (arith, B.face_joins, (ground t job j w l (walked_settled t j w q)).fewer);
+        joins = λ w q. omega (arith, B.face_joins, (ground rules job j w l (walked_settled rules j w q)).fewer);
         faces = omega (arith, none, B.face_joins);
         empty = λ _. (n, B.face_joins, none);
       }
 
   -- a job with faces
-  solid_told : (b : Body) (bytes : List ℕ) → rebuild (with_table t) j ≡ Ok b → bytes ≡ framed_all (body_records b) → Solid (with_table t) j b → FacesTold t j bytes
+  solid_told : (b : Body) (bytes : List ℕ) → rebuild rules j ≡ Ok b → bytes ≡ framed_all (body_records b) → Solid rules j b → FacesTold rules j bytes
   solid_told b bytes r e S =
       let x : Joined = S.joined in
-      let walk = joined_walks t j x S.joining in
+      let walk = joined_walks rules j x S.joining in
       let w : Walked = walk.0 in
-      let s : Settled t j w = walked_settled t j w walk.1 in
-      let B : Begins bytes (totals_of w x.joining) = solid_begins t job j w l s bytes x S.nests S.joining (e ∙ ap (λ y. framed_all (body_records y)) S.body) in
-      let fewer = (ground t job j w l s).fewer in
-      let same : x.fan.walk ≡ w = ap (λ (y : Joined). y.fan.walk) (through_joined t j w x walk.1 S.joining).1 ∙ fan_of j w in
+      let s : Settled rules j w = walked_settled rules j w walk.1 in
+      let B : Begins bytes (totals_of w x.joining) = solid_begins rules job j w l s bytes x S.nests S.joining (e ∙ ap (λ y. framed_all (body_records y)) S.body) in
+      let fewer = (ground rules job j w l s).fewer in
+      let same : x.fan.walk ≡ w = ap (λ (y : Joined). y.fan.walk) (through_joined rules j w x walk.1 S.joining).1 ∙ fan_of j w in
       let many : faces_written (body_records b) ≡ length (lowest_members w.merge.groups) =
       body_faces_lem b ∙ ap (λ (y : Body). length y.faces) S.body ∙ solid_faces j x S.nests ∙ ap (λ (v : Walked). length (lowest_members v.merge.groups)) same in
       record {
@@ -122,21 +121,21 @@ module _ (t : Table) (job : List ℕ) (j : Job) (l : loaded job ≡ Ok j) where
         empty = λ z. absurd (omega (arith, B.solid, z));
       }
 
-  told : (room : ℕ) (bytes : List ℕ) → sewn (with_table t) job room ≡ Ok bytes → FacesTold t j bytes
+  told : (room : ℕ) (bytes : List ℕ) → sewn rules job room ≡ Ok bytes → FacesTold rules j bytes
   told room bytes e =
-      let a = sewn_body (with_table t) job room bytes j l e in
+      let a = sewn_body rules job room bytes j l e in
       ⊎_elim
       (λ q. empty_told a.0 bytes a.1 a.2 (eqb-true (length j.faces) 0 q.0) q.1)
       (λ q. solid_told a.0 bytes a.1 a.2 q.1)
-      (rebuild_cases (with_table t) j a.0 a.1)
+      (rebuild_cases rules j a.0 a.1)
 
-  each : EachQuestion t j
+  each : EachQuestion rules j
   each ts p h few s s' b e =
       let S : Sound j = loaded_sound job j l in
       let us : List Use = uses_of j in
       let T : Twins us ts = pairs_fully j.answers us ts (length j.edges) (omega (arith, S.few)) p in
-      step_tells t j.answers j.faces us ts h s b (use_face_below j S) T.below few s' e
+      step_tells rules.table j.answers j.faces us ts h s b (use_face_below j S) T.below few s' e
 
--- a surface question makes a face join where it changes the face groups; faces selected less face joins equals faces written: for each joining table and every job
-pub face_joins : (t : Table) (job : List ℕ) → FaceJoins t job
-face_joins t job j l = (each t job j l, told t job j l)
+-- a surface question makes a face join where it changes the face groups; faces selected less face joins equals faces written: for all rules and every job
+pub face_joins : (rules : Rules) (job : List ℕ) → FaceJoins rules job
+face_joins rules job j l = (each rules job j l, told rules job j l)

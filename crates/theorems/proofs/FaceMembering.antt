@@ -17,14 +17,14 @@ use Rattle.rules.specs.Load.{loaded}
 use Rattle.rules.specs.Read.{uses_of}
 use Rattle.rules.specs.Groups.{label_of, members_of, is_lowest, lowest_members, Lowest}
 use Rattle.rules.proofs.GroupLaws.{members_once}
-use Rattle.rules.specs.Rules.{Table}
+use Rattle.rules.specs.declared.Rules.{Rules}
 use Rattle.rules.specs.Edges.{FaceLoop}
 use Rattle.rules.specs.Shells.{Nested}
 use Rattle.rules.specs.Body.{BodyFace, Body, body_face, body_faces, solid_body, empty_body, member_at, members_record}
 use Rattle.rules.specs.Body.{vertex_record, edge_record, loop_record, vertex_loop_record, face_records, lump_records}
 use Rattle.rules.specs.Body.{body_records, rec}
 use Rattle.rules.specs.Sew.{Walked, walked, Joined, body_of, rebuild, sewn}
-use Rattle.theorems.specs.Demand3.{with_table, Settled}
+use Rattle.theorems.specs.Demand3.{Settled}
 use Rattle.theorems.specs.Linked.{Twins}
 use Rattle.theorems.specs.Sound.{Sound}
 use Rattle.theorems.proofs.Reading.{use_face_below}
@@ -105,17 +105,17 @@ none_behind g e = ap (λ n. map (members_of g) (keep (is_lowest g) (below n))) (
 
 -- AN ACCEPTED JOB
 
-module _ (t : Table) (job : List ℕ) (j : Job) (l : loaded job ≡ Ok j) where
+module _ (rules : Rules) (job : List ℕ) (j : Job) (l : loaded job ≡ Ok j) where
   -- the merged groups are of the selected faces, each with the label of its lowest member
-  grouped : (w : Walked) → walked (with_table t) j ≡ Ok w → Lowest w.merge.groups × (length w.merge.groups ≡ length j.faces)
+  grouped : (w : Walked) → walked rules j ≡ Ok w → Lowest w.merge.groups × (length w.merge.groups ≡ length j.faces)
   grouped w e =
-      let s : Settled t j w = walked_settled t j w e in
+      let s : Settled rules j w = walked_settled rules j w e in
       let S : Sound j = loaded_sound job j l in
       let us : List Use = uses_of j in
       let T : Twins us w.twins = pairs_fully j.answers us w.twins (length j.edges) (omega (arith, S.few)) s.pairs in (
-        merged_lowest t j.answers j.faces us w.twins (merge_grouping w.merge)
-            (merge_groups t j.answers j.faces us w.twins w.merge s.surfaces) (use_face_below j S) T.below,
-        merge_groups_length t j.answers j.faces us w.twins w.merge s.surfaces,
+        merged_lowest rules.table j.answers j.faces us w.twins (merge_grouping w.merge)
+            (merge_groups rules.table j.answers j.faces us w.twins w.merge s.surfaces) (use_face_below j S) T.below,
+        merge_groups_length rules.table j.answers j.faces us w.twins w.merge s.surfaces,
       )
 
   -- no two selected faces have the same body and source face number
@@ -123,7 +123,7 @@ module _ (t : Table) (job : List ℕ) (j : Job) (l : loaded job ≡ Ok j) where
   named i k h m e = faces_distinct job j l i k h m (ap (λ x. x.body) e) (ap (λ x. x.source) e)
 
   -- a job without faces
-  empty_told : (b : Body) (bytes : List ℕ) → rebuild (with_table t) j ≡ Ok b → bytes ≡ framed_all (body_records b) → length j.faces ≡ 0 → b ≡ empty_body → MembersTold t j bytes
+  empty_told : (b : Body) (bytes : List ℕ) → rebuild rules j ≡ Ok b → bytes ≡ framed_all (body_records b) → length j.faces ≡ 0 → b ≡ empty_body → MembersTold rules j bytes
   empty_told b bytes r e n z = record {
     body = b;
     rebuilt = r;
@@ -138,14 +138,14 @@ module _ (t : Table) (job : List ℕ) (j : Job) (l : loaded job ≡ Ok j) where
   }
 
   -- a job with faces
-  solid_told : (b : Body) (bytes : List ℕ) → rebuild (with_table t) j ≡ Ok b → bytes ≡ framed_all (body_records b) → Solid (with_table t) j b → MembersTold t j bytes
+  solid_told : (b : Body) (bytes : List ℕ) → rebuild rules j ≡ Ok b → bytes ≡ framed_all (body_records b) → Solid rules j b → MembersTold rules j bytes
   solid_told b bytes r e S =
       let x : Joined = S.joined in
-      let walk = joined_walks t j x S.joining in
+      let walk = joined_walks rules j x S.joining in
       let w : Walked = walk.0 in
       let g : List ℕ = w.merge.groups in
       let G = grouped w walk.1 in
-      let same : x.fan.walk ≡ w = ap (λ (y : Joined). y.fan.walk) (through_joined t j w x walk.1 S.joining).1 ∙ fan_of j w in
+      let same : x.fan.walk ≡ w = ap (λ (y : Joined). y.fan.walk) (through_joined rules j w x walk.1 S.joining).1 ∙ fan_of j w in
       let faces : map record_of b.faces ≡ map (members_told j.faces) (behind_faces w) =
       ap (λ (y : Body). map record_of y.faces) S.body ∙ solid_members j x S.nests ∙ ap (λ (v : Walked). map (members_told j.faces) (behind_faces v)) same in
       record {
@@ -164,14 +164,14 @@ module _ (t : Table) (job : List ℕ) (j : Job) (l : loaded job ≡ Ok j) where
         named = named;
       }
 
-  told : (room : ℕ) (bytes : List ℕ) → sewn (with_table t) job room ≡ Ok bytes → MembersTold t j bytes
+  told : (room : ℕ) (bytes : List ℕ) → sewn rules job room ≡ Ok bytes → MembersTold rules j bytes
   told room bytes e =
-      let a = sewn_body (with_table t) job room bytes j l e in
+      let a = sewn_body rules job room bytes j l e in
       ⊎_elim
       (λ q. empty_told a.0 bytes a.1 a.2 (eqb-true (length j.faces) 0 q.0) q.1)
       (λ q. solid_told a.0 bytes a.1 a.2 q.1)
-      (rebuild_cases (with_table t) j a.0 a.1)
+      (rebuild_cases rules j a.0 a.1)
 
--- each selected face stands in exactly one record of members, for each joining table and every job
-pub face_members : (t : Table) (job : List ℕ) → FaceMembers t job
-face_members t job j room bytes l e = told t job j l room bytes e
+-- each selected face stands in exactly one record of members, for all rules and every job
+pub face_members : (rules : Rules) (job : List ℕ) → FaceMembers rules job
+face_members rules job j room bytes l e = told rules job j l room bytes e

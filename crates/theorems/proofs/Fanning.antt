@@ -12,7 +12,7 @@ use Rattle.rules.specs.Outcome.{Ok}
 use Rattle.rules.specs.Sense.{reverse}
 use Rattle.rules.specs.Job.{Job, edge_at, ring, start_by, end_by, point_at}
 use Rattle.rules.specs.Load.{loaded}
-use Rattle.rules.specs.Rules.{Table}
+use Rattle.rules.specs.declared.Rules.{Rules}
 use Rattle.rules.specs.Read.{no_use, use_at, edge_of_use, use_start, old_successor}
 use Rattle.rules.specs.Groups.{label_of, is_lowest, Lowest}
 use Rattle.rules.specs.Merge.{is_removed}
@@ -164,9 +164,9 @@ module _ (j : Job) (w : Walked) (G : Ground j w) where
   }
 
 -- for every job that loads and pairs, merges and walks
-pub fan_starts_lem : (t : Table) (job : List ℕ) (j : Job) (w : Walked) → loaded job ≡ Ok j → Settled t j w → OneStart j w
-fan_starts_lem t job j w l s h k e f one =
-    let G = ground t job j w l s in
+pub fan_starts_lem : (rules : Rules) (job : List ℕ) (j : Job) (w : Walked) → loaded job ≡ Ok j → Settled rules j w → OneStart j w
+fan_starts_lem rules job j w l s h k e f one =
+    let G = ground rules job j w l s in
     let F = fans_hold j w G in
     let at = point_is j w G in
     sym (at h e.0) ∙ sym (F.one_point h e) ∙ ap (fan_point (fan_starts j w)) one ∙ F.one_point k f ∙ at k f.0

@@ -37,3 +37,4 @@ pub mod Requests
 pub mod FaceJoined
 pub mod FaceMembering
 pub mod Promised
+pub mod JoiningTables

@@ -19,7 +19,7 @@ use Rattle.rules.specs.Read.{face_of_use, old_successor}
 use Rattle.rules.specs.Groups.{alone, label_of, Grouping, join_groups, lowest_members, Lowest}
 use Rattle.rules.proofs.GroupLaws.{joined_same, separate_changes}
 use Rattle.rules.specs.Pair.{twin_of}
-use Rattle.rules.specs.Rules.{Table}
+use Rattle.rules.specs.declared.Table.{Table}
 use Rattle.rules.specs.Merge.{other_face, boundaries, joins_faces, equal_senses, surface_step, unasked, merge_step}
 use Rattle.rules.specs.Merge.{ungrouped, merged_groups, removes, removed_uses, is_removed, Merged, merge_faces}
 use Rattle.theorems.specs.Linked.{Twins, Linked}

@@ -35,7 +35,7 @@ use Rattle.rules.specs.Questions.{ask_yes}
 use Rattle.rules.specs.Groups.{label_of, members_of, is_lowest, lowest_members}
 use Rattle.rules.proofs.GroupLaws.{label_within, group_numbers_within}
 use Rattle.rules.specs.Pair.{twin_of}
-use Rattle.rules.specs.Rules.{Table}
+use Rattle.rules.specs.declared.Rules.{Rules}
 use Rattle.rules.specs.Merge.{merged_faces, merged_face_of}
 use Rattle.rules.specs.VertexLoops.{already_there, keep_unless_there, content_step, vertex_loop_step, vertex_loops}
 use Rattle.rules.specs.Fans.{start_points, fan_point}
@@ -51,7 +51,7 @@ use Rattle.rules.specs.Body.{item_fields, loop_record, vertex_loop_record, membe
 use Rattle.rules.specs.Body.{body_records}
 use Rattle.rules.specs.Sew.{Walked, walked, fans_of, unjoined, Joined, through_joining, shells_of, totals_of, body_of}
 use Rattle.rules.specs.Sew.{rebuild}
-use Rattle.theorems.specs.Demand3.{with_table, Settled}
+use Rattle.theorems.specs.Demand3.{Settled}
 use Rattle.theorems.proofs.Loading.{also_has, record_taken, loading_keeps, faces_few}
 use Rattle.theorems.proofs.Merging.{merge_groups_length}
 use Rattle.theorems.specs.Changes.{Made}
@@ -453,12 +453,12 @@ records_narrow b L r m =
 
 -- THE WHOLE
 
-module _ (t : Table) (job : List ℕ) (bytes : Below 256 job) (j : Job) (l : loaded job ≡ Ok j) (w : Walked) (q : walked (with_table t) j ≡ Ok w) where
-  S : Settled t j w
-  S = walked_settled t j w q
+module _ (rules : Rules) (job : List ℕ) (bytes : Below 256 job) (j : Job) (l : loaded job ≡ Ok j) (w : Walked) (q : walked rules j ≡ Ok w) where
+  S : Settled rules j w
+  S = walked_settled rules j w q
 
   G : Ground j w
-  G = ground t job j w l S
+  G = ground rules job j w l S
 
   L : LowJob j
   L = loaded_low job j bytes l
@@ -478,7 +478,7 @@ module _ (t : Table) (job : List ℕ) (bytes : Below 256 job) (j : Job) (l : loa
 
   -- the merged groups are few
   pub groups_few : length w.merge.groups ≤ 256
-  groups_few = omega (arith, merge_groups_length t j.answers j.faces (uses_of j) w.twins w.merge S.surfaces, faces_few job j l)
+  groups_few = omega (arith, merge_groups_length rules.table j.answers j.faces (uses_of j) w.twins w.merge S.surfaces, faces_few job j l)
 
   -- merged faces and fans have four bytes
   pub number_low : (f : ℕ) → Low (get_or (merged_faces w.merge) f 0)
@@ -521,22 +521,22 @@ module _ (t : Table) (job : List ℕ) (bytes : Below 256 job) (j : Job) (l : loa
   ended_few s e =
       let n : ℕ = length (unjoined j (fans_of j w)).edges in
       let c = joining_count j.answers (fans_of j w).starts (fans_of j w).names (length (fans_of j w).names) n (unjoined j (fans_of j w)) s e (omega (arith, (no_counts_lem j (fans_of j w)).0)) in
-      omega (arith, c, start_few, (totals_small t job j w l S s e).joins)
+      omega (arith, c, start_few, (totals_small rules job j w l S s e).joins)
 
   pub ended_low : (s : Joining) → maximal_edges j.answers (fans_of j w).starts (fans_of j w).names (length (fans_of j w).names) (unjoined j (fans_of j w)) ≡ Ok s → LowEdges s.edges
   ended_low s e = joining_low j.answers (fans_of j w).starts (fans_of j w).names (length (fans_of j w).names) (unjoined j (fans_of j w)) s e start_low
 
-  pub body_low : (x : Joined) (ss : List Shell) (ns : List Nested) → through_joining (with_table t) j ≡ Ok x → shells_of j x.fan.walk ≡ Ok ss → nested j.answers ss ≡ Ok ns
+  pub body_low : (x : Joined) (ss : List Shell) (ns : List Nested) → through_joining rules j ≡ Ok x → shells_of j x.fan.walk ≡ Ok ss → nested j.answers ss ≡ Ok ns
       → LowBody (body_of j x ns)
   unfolding body_of fans_of
   body_low x ss ns e f g =
-      let r = through_joined t j w x q e in
+      let r = through_joined rules j w x q e in
       let s : Joining = r.0 in
       let n : ℕ = length w.merge.groups in
-      let each = nested_few j.answers n ss ns (shells_few j.answers j.proven w.merge.boundaries w.merge.groups ss (joined_shells t j w x ss q e f)) g in
+      let each = nested_few j.answers n ss ns (shells_few j.answers j.proven w.merge.boundaries w.merge.groups ss (joined_shells rules j w x ss q e f)) g in
       subst (λ (y : Joined). LowBody (body_of j y ns)) (sym r.1)
       (solid_low (totals_of w s) j.faces w.merge.groups (fans_of j w).starts s.edges s.loops (lowest_members w.merge.groups) w.vertex_loops (lumps ns)
-      (totals_small t job j w l S s r.2)
+      (totals_small rules job j w l S s r.2)
       L.faces
       starts_low
       (ended_low s r.2)
@@ -545,8 +545,8 @@ module _ (t : Table) (job : List ℕ) (bytes : Below 256 job) (j : Job) (l : loa
       (λ lump m shell k v i. let a = (lumps_few n ns each lump m shell k).0 v i in omega (arith, a, groups_few)))
 
 -- each number of a body that rebuilding gives for a job of bytes has four bytes
-pub rebuilt_low : (t : Table) (job : List ℕ) (j : Job) (b : Body) → Below 256 job → loaded job ≡ Ok j → rebuild (with_table t) j ≡ Ok b → LowBody b
-rebuilt_low t job j b bytes l e =
+pub rebuilt_low : (rules : Rules) (job : List ℕ) (j : Job) (b : Body) → Below 256 job → loaded job ≡ Ok j → rebuild rules j ≡ Ok b → LowBody b
+rebuilt_low rules job j b bytes l e =
     ⊎_elim
     (λ r. subst LowBody (sym r.1) (record {
       totals = record { uses = omega arith; removed = omega arith; passed = omega arith; joins = omega arith; rings = omega arith; face_joins = omega arith };
@@ -559,11 +559,11 @@ rebuilt_low t job j b bytes l e =
       lumps = λ k m. absurd (Memᴰ.not-nil m);
     }))
     (λ r.
-    let p : Solid (with_table t) j b = r.1 in
-    let w = joined_walks t j p.joined p.joining in
-    subst LowBody (sym p.body) (body_low t job bytes j l w.0 w.1 p.joined p.oriented p.nests p.joining p.shells p.nesting))
-    (rebuild_cases (with_table t) j b e)
+    let p : Solid rules j b = r.1 in
+    let w = joined_walks rules j p.joined p.joining in
+    subst LowBody (sym p.body) (body_low rules job bytes j l w.0 w.1 p.joined p.oriented p.nests p.joining p.shells p.nesting))
+    (rebuild_cases rules j b e)
 
 -- its records have kinds of two bytes and fields of four
-pub rebuilt_narrow : (t : Table) (job : List ℕ) (j : Job) (b : Body) → Below 256 job → loaded job ≡ Ok j → rebuild (with_table t) j ≡ Ok b → (r : Record) → r ∈ body_records b → Narrow r
-rebuilt_narrow t job j b bytes l e = records_narrow b (rebuilt_low t job j b bytes l e)
+pub rebuilt_narrow : (rules : Rules) (job : List ℕ) (j : Job) (b : Body) → Below 256 job → loaded job ≡ Ok j → rebuild rules j ≡ Ok b → (r : Record) → r ∈ body_records b → Narrow r
+rebuilt_narrow rules job j b bytes l e = records_narrow b (rebuilt_low rules job j b bytes l e)

@@ -17,7 +17,8 @@ use Rattle.rules.specs.Frame.{Record, framed, framed_all}
 use Rattle.rules.specs.Job.{Job}
 use Rattle.rules.specs.Load.{loaded}
 use Rattle.rules.specs.Read.{uses_of}
-use Rattle.rules.specs.Rules.{Table, Rules}
+use Rattle.rules.specs.declared.Rules.{Rules}
+use Rattle.rules.specs.declared.Rules.{Rules}
 use Rattle.rules.specs.Merge.{is_removed}
 use Rattle.rules.specs.Walk.{passed_of, passed_counts}
 use Rattle.rules.specs.Fans.{names_fan}
@@ -28,7 +29,7 @@ use Rattle.rules.specs.Body.{Totals, Body, empty_body, solid_body, body_kind, to
 use Rattle.rules.specs.Sew.{Walked, walks_of, walked, Fanned, fans_of, fanned, unjoined, Joined, edged, through_joining}
 use Rattle.rules.specs.Sew.{shells_of, lumps_clear, totals_of, body_of, solid, rebuild, fitting, sewn}
 use Rattle.rules.specs.Stage.{kept_uses}
-use Rattle.theorems.specs.Demand3.{passed_sum, with_table, Settled}
+use Rattle.theorems.specs.Demand3.{passed_sum, Settled}
 use Rattle.theorems.proofs.Ground.{settled_uses}
 use Rattle.theorems.specs.Fanning.{fan_labels}
 use Rattle.theorems.specs.Reporting.{Small, Begins, Solid}
@@ -129,13 +130,13 @@ edged_walks rules j x e =
     (c.0, c.1, sym (ok_one b.2) ∙ ap (λ (z : Fanned). record { fan = z; joining = unjoined j z }) c.2)
 
 -- with the walks w, edge joining starts from their fans, edges and loops
-pub through_joined : (t : Table) (j : Job) (w : Walked) (x : Joined) → walked (with_table t) j ≡ Ok w → through_joining (with_table t) j ≡ Ok x
+pub through_joined : (rules : Rules) (j : Job) (w : Walked) (x : Joined) → walked rules j ≡ Ok w → through_joining rules j ≡ Ok x
     → (s : Joining) × (x ≡ record { fan = fans_of j w; joining = s })
     × (maximal_edges j.answers (fans_of j w).starts (fans_of j w).names (length (fans_of j w).names) (unjoined j (fans_of j w)) ≡ Ok s)
 unfolding through_joining
-through_joined t j w x q e =
-    let a = bind_ok (edged (with_table t) j) _ x e in
-    let c = edged_walks (with_table t) j a.0 a.1 in
+through_joined rules j w x q e =
+    let a = bind_ok (edged rules j) _ x e in
+    let c = edged_walks rules j a.0 a.1 in
     through a.0 (c.2 ∙ ap (λ (v : Walked). record { fan = fans_of j v; joining = unjoined j (fans_of j v) }) (ok_one (sym c.1 ∙ q))) a.2
   where
     through : (y : Joined) → y ≡ record { fan = fans_of j w; joining = unjoined j (fans_of j w) }
@@ -149,18 +150,18 @@ through_joined t j w x q e =
         (m.0, sym (ok_one m.2), m.1)
 
 -- joining is reached from the walks
-pub joined_walks : (t : Table) (j : Job) (x : Joined) → through_joining (with_table t) j ≡ Ok x → (w : Walked) × (walked (with_table t) j ≡ Ok w)
+pub joined_walks : (rules : Rules) (j : Job) (x : Joined) → through_joining rules j ≡ Ok x → (w : Walked) × (walked rules j ≡ Ok w)
 unfolding through_joining
-joined_walks t j x e =
-    let a = bind_ok (edged (with_table t) j) _ x e in
-    let c = edged_walks (with_table t) j a.0 a.1 in
+joined_walks rules j x e =
+    let a = bind_ok (edged rules j) _ x e in
+    let c = edged_walks rules j a.0 a.1 in
     (c.0, c.1)
 
 -- the shells after joining are those of the walks
-pub joined_shells : (t : Table) (j : Job) (w : Walked) (x : Joined) (ss : List Shell) → walked (with_table t) j ≡ Ok w → through_joining (with_table t) j ≡ Ok x
+pub joined_shells : (rules : Rules) (j : Job) (w : Walked) (x : Joined) (ss : List Shell) → walked rules j ≡ Ok w → through_joining rules j ≡ Ok x
     → shells_of j x.fan.walk ≡ Ok ss → shells_of j w ≡ Ok ss
 unfolding fans_of
-joined_shells t j w x ss q e f = ap (λ (y : Joined). shells_of j y.fan.walk) (sym (through_joined t j w x q e).1) ∙ f
+joined_shells rules j w x ss q e f = ap (λ (y : Joined). shells_of j y.fan.walk) (sym (through_joined rules j w x q e).1) ∙ f
 
 nil_of : {A : Type 0} (l : List A) → length l ≡ 0 → l ≡ []
 nil_of [] e = refl
@@ -177,21 +178,21 @@ no_edge_touches fault us ts labels edges e =
     ap (λ u. edges_clear fault u ts labels edges) e ∙ ap (clear fault) (keep_nothing (edge_touches [] ts labels) (below edges) (λ x m. refl))
 
 -- without uses joining finds nothing to do
-pub none_joined : (t : Table) (j : Job) (w : Walked) → length w.uses ≡ 0 → walked (with_table t) j ≡ Ok w
-    → (through_joining (with_table t) j ≡ Ok (record { fan = fans_of j w; joining = unjoined j (fans_of j w) }))
+pub none_joined : (rules : Rules) (j : Job) (w : Walked) → length w.uses ≡ 0 → walked rules j ≡ Ok w
+    → (through_joining rules j ≡ Ok (record { fan = fans_of j w; joining = unjoined j (fans_of j w) }))
     × (maximal_edges j.answers (fans_of j w).starts (fans_of j w).names (length (fans_of j w).names) (unjoined j (fans_of j w)) ≡ Ok (unjoined j (fans_of j w)))
 unfolding through_joining edged fanned maximal_edges contact_points
-none_joined t j w e q =
+none_joined rules j w e q =
     let F : Fanned = fans_of j w in
     let names : F.names ≡ [] = no_names j w e in
     let m : maximal_edges j.answers F.starts F.names (length F.names) (unjoined j F) ≡ Ok (unjoined j F) =
     ap (λ (l : List ℕ). maximal_edges j.answers F.starts F.names (length l) (unjoined j F)) names in
     let c : edges_clear PairsInBoundary w.uses w.twins w.merge.boundaries (length j.edges) ≡ Ok tt =
     no_edge_touches PairsInBoundary w.uses w.twins w.merge.boundaries (length j.edges) (nil_of w.uses e) in
-    let f : fanned (with_table t) j ≡ Ok F = bind_on _ q ∙ bind_on _ c in
+    let f : fanned rules j ≡ Ok F = bind_on _ q ∙ bind_on _ c in
     let p : points_clear FansInBoundary F.walk.uses F.starts F.walk.merge.boundaries F.names ≡ Ok tt =
     ap (λ l. points_clear FansInBoundary F.walk.uses F.starts F.walk.merge.boundaries l) names in
-    let d : edged (with_table t) j ≡ Ok (record { fan = F; joining = unjoined j F }) = bind_on _ f ∙ bind_on _ p in
+    let d : edged rules j ≡ Ok (record { fan = F; joining = unjoined j F }) = bind_on _ f ∙ bind_on _ p in
     (bind_on _ d ∙ bind_on _ m, m)
 
 -- THE PASSED TOTAL
@@ -214,10 +215,10 @@ passed_sum_lem us ts rm e =
     ∙ ap (λ n. sum_of (λ h. get_or (map (passed_of us ts rm) (below (length us))) h 0) (below n)) e
     ∙ sum_same _ (passed_of us ts rm) (below (length us)) (λ h m. get_or_table (passed_of us ts rm) (length us) h 0 (below_in (length us) h m)))
 
-pub passed_total : (t : Table) (j : Job) (w : Walked) → length w.merge.removed ≡ length w.uses → Settled t j w → sum_of (λ k. k) w.passed ≡ passed_sum w
+pub passed_total : (rules : Rules) (j : Job) (w : Walked) → length w.merge.removed ≡ length w.uses → Settled rules j w → sum_of (λ k. k) w.passed ≡ passed_sum w
 unfolding walks_of
-passed_total t j w e s =
-    let us : uses_of j ≡ w.uses = settled_uses t j w s in
+passed_total rules j w e s =
+    let us : uses_of j ≡ w.uses = settled_uses rules j w s in
     let p : passed_counts w.uses w.twins w.merge.removed ≡ w.passed =
     ap (λ (u : List Use). passed_counts u w.twins w.merge.removed) (sym us) ∙ sym (ap (λ (x : Walked). x.passed) s.walks) in
     subst (λ l. sum_of (λ k. k) l ≡ sum_of (λ h. get_or l h 0) (kept_uses w.merge.removed)) p (passed_sum_lem w.uses w.twins w.merge.removed e)

@@ -30,7 +30,7 @@ use Rattle.rules.specs.Read.{uses_of, no_use, use_at, face_of_use}
 use Rattle.rules.specs.Groups.{label_of, Lowest}
 use Rattle.rules.proofs.GroupLaws.{label_within}
 use Rattle.rules.specs.Pair.{pair, twin_of}
-use Rattle.rules.specs.Rules.{Table}
+use Rattle.rules.specs.declared.Rules.{Rules}
 use Rattle.rules.specs.Merge.{Merged, merge_faces, merged_faces, merged_face_of}
 use Rattle.rules.specs.Walk.{successor, passed_counts, loops_of}
 use Rattle.rules.specs.Fans.{kept_with_ends, fan_point}
@@ -46,7 +46,7 @@ use Rattle.rules.specs.Rows.{read_rows, pair_rows, merge_rows, vertex_loop_rows,
 use Rattle.rules.specs.Rows.{edge_rows, joining_rows, shell_rows, lump_rows_from, lump_rows}
 use Rattle.theorems.specs.Sound.{Sound}
 use Rattle.theorems.specs.Linked.{Twins}
-use Rattle.theorems.specs.Demand3.{KeptUse, with_table, Settled}
+use Rattle.theorems.specs.Demand3.{KeptUse, Settled}
 use Rattle.theorems.proofs.Loading.{loaded_sound, loaded_limits, faces_few}
 use Rattle.theorems.proofs.Reading.{next_below, use_edge_below, use_face_below}
 use Rattle.theorems.proofs.Pairing.{pairs_fully}
@@ -200,12 +200,12 @@ lump_rows_lem n bound (lump ∷ ls) few small each row m =
 
 -- THE STAGES
 
-module _ (t : Table) (job : List ℕ) (bytes : Below 256 job) (j : Job) (l : loaded job ≡ Ok j) where
+module _ (rules : Rules) (job : List ℕ) (bytes : Below 256 job) (j : Job) (l : loaded job ≡ Ok j) where
   sound : Sound j
   sound = loaded_sound job j l
 
   -- `read`: four fields
-  pub read_shaped : (rows : List (List ℕ)) → read_rows (with_table t) j ≡ Ok rows → AllShaped 4 0 rows
+  pub read_shaped : (rows : List (List ℕ)) → read_rows rules j ≡ Ok rows → AllShaped 4 0 rows
   unfolding read_rows
   read_shaped rows e =
       subst (AllShaped 4 0) (ok_one e) (each_shaped use_fields 4 0 (uses_of j) (λ u m.
@@ -224,7 +224,7 @@ module _ (t : Table) (job : List ℕ) (bytes : Below 256 job) (j : Job) (l : loa
   twins_of_lem ts e = pairs_fully j.answers (uses_of j) ts (length j.edges) (omega (arith, sound.few)) e
 
   -- `pair`: one field
-  pub pair_shaped : (rows : List (List ℕ)) → pair_rows (with_table t) j ≡ Ok rows → AllShaped 1 0 rows
+  pub pair_shaped : (rows : List (List ℕ)) → pair_rows rules j ≡ Ok rows → AllShaped 1 0 rows
   unfolding pair_rows
   pair_shaped rows e =
       let a = bind_ok (pair j.answers (uses_of j) (length j.edges)) _ rows e in
@@ -235,47 +235,47 @@ module _ (t : Table) (job : List ℕ) (bytes : Below 256 job) (j : Job) (l : loa
       plain 1 (x ∷ []) refl (one_low x [] (omega (arith, below, r.2, sound.few)) none_low)))
 
   -- `merge`: two fields
-  pub merge_shaped : (rows : List (List ℕ)) → merge_rows (with_table t) j ≡ Ok rows → AllShaped 2 0 rows
+  pub merge_shaped : (rows : List (List ℕ)) → merge_rows rules j ≡ Ok rows → AllShaped 2 0 rows
   unfolding merge_rows
   merge_shaped rows e =
       let us : List Use = uses_of j in
       let a = bind_ok (pair j.answers us (length j.edges)) _ rows e in
       let ts : List ℕ = a.0 in
-      let b = bind_ok (merge_faces t j.answers j.faces us ts) _ rows a.2 in
+      let b = bind_ok (merge_faces rules.table j.answers j.faces us ts) _ rows a.2 in
       let m : Merged = b.0 in
       let T : Twins us ts = twins_of_lem ts a.1 in
       let face : (h : ℕ) → h < length us → face_of_use us h < length j.faces = use_face_below j sound in
       let groups : Lowest m.groups =
-      merged_lowest t j.answers j.faces us ts (merge_grouping m) (merge_groups t j.answers j.faces us ts m b.1) face T.below in
+      merged_lowest rules.table j.answers j.faces us ts (merge_grouping m) (merge_groups rules.table j.answers j.faces us ts m b.1) face T.below in
       let boundaries : Lowest m.boundaries =
-      subst Lowest (sym (merge_boundaries t j.answers j.faces us ts m b.1)) (boundaries_lowest us ts (length j.faces) face T.below) in
+      subst Lowest (sym (merge_boundaries rules.table j.answers j.faces us ts m b.1)) (boundaries_lowest us ts (length j.faces) face T.below) in
       let few = faces_few job j l in
       subst (AllShaped 2 0) (ok_one b.2) (each_shaped (group_fields m) 2 0 (below (length j.faces)) (λ f i.
       plain 2 (group_fields m f) refl
       (two_low (label_of m.boundaries f) (label_of m.groups f)
-      (omega (arith, label_within boundaries f, merge_boundaries_length t j.answers j.faces us ts m b.1, few))
-      (omega (arith, label_within groups f, merge_groups_length t j.answers j.faces us ts m b.1, few)))))
+      (omega (arith, label_within boundaries f, merge_boundaries_length rules.table j.answers j.faces us ts m b.1, few))
+      (omega (arith, label_within groups f, merge_groups_length rules.table j.answers j.faces us ts m b.1, few)))))
 
-  module _ (w : Walked) (q : walked (with_table t) j ≡ Ok w) where
-    S : Settled t j w
-    S = walked_settled t j w q
+  module _ (w : Walked) (q : walked rules j ≡ Ok w) where
+    S : Settled rules j w
+    S = walked_settled rules j w q
 
     G : Ground j w
-    G = ground t job j w l S
+    G = ground rules job j w l S
 
     -- the rows of the stages through the walks
     kept_each : AllShaped 2 0 (map kept_fields w.vertex_loops)
     kept_each =
         each_shaped kept_fields 2 0 w.vertex_loops (λ k m.
         let r = kept_has j.answers j.points (merged_faces w.merge) j.loops (λ (k : KeptVertexLoop). Low k.face × Low k.point) w.vertex_loops
-        (λ f v. (number_low t job bytes j l w q f, at_has Low j.points v 0 (omega arith) (loaded_low job j bytes l).points)) S.vertices k m in
+        (λ f v. (number_low rules job bytes j l w q f, at_has Low j.points v 0 (omega arith) (loaded_low job j bytes l).points)) S.vertices k m in
         plain 2 (kept_fields k) refl (two_low k.face k.point r.0 r.1))
 
     passed_low : (h : ℕ) → h < length w.uses → Low (get_or w.passed h 0)
     unfolding walks_of
     passed_low h lt =
         let e : w.passed ≡ passed_counts w.uses w.twins w.merge.removed =
-        ap (λ (x : Walked). x.passed) S.walks ∙ ap (λ (u : List Use). passed_counts u w.twins w.merge.removed) (settled_uses t j w S) in
+        ap (λ (x : Walked). x.passed) S.walks ∙ ap (λ (u : List Use). passed_counts u w.twins w.merge.removed) (settled_uses rules j w S) in
         omega (arith, ap (λ p. get_or p h 0) e, passing_few G.linked h lt, G.few)
 
     walk_each : AllShaped 3 0 (map (walk_fields w) (kept_uses w.merge.removed))
@@ -292,7 +292,7 @@ module _ (t : Table) (job : List ℕ) (bytes : Below 256 job) (j : Job) (l : loa
         let F = fans_hold j w G in
         let E = edges_hold j w G F in
         let uses : Below (length w.uses) hs = λ h i. (loop_kept_lem j w G F E hs m h i).0 in
-        counted_shaped (merged_face_of w.uses (merged_faces w.merge) (get_or hs 0 0)) hs (number_low t job bytes j l w q (face_of_use w.uses (get_or hs 0 0)))
+        counted_shaped (merged_face_of w.uses (merged_faces w.merge) (get_or hs 0 0)) hs (number_low rules job bytes j l w q (face_of_use w.uses (get_or hs 0 0)))
         (omega (arith, pigeon_below (length w.uses) hs (loop_nodup j w G F E hs m) uses, G.few))
         (λ h i. omega (arith, uses h i, G.few)))
 
@@ -304,15 +304,15 @@ module _ (t : Table) (job : List ℕ) (bytes : Below 256 job) (j : Job) (l : loa
         plain 3 (fan_fields (fans_of j w) h) refl
         (three_low h (label_of (fans_of j w).fans h) (fan_point (fans_of j w).starts h)
         (omega (arith, below_in (length w.uses) h (keep_in ended (below (length w.uses)) h m).0, G.few))
-        (label_low t job bytes j l w q h)
-        (at_has Low (fans_of j w).starts h 0 (omega arith) (starts_low t job bytes j l w q))))
+        (label_low rules job bytes j l w q h)
+        (at_has Low (fans_of j w).starts h 0 (omega arith) (starts_low rules job bytes j l w q))))
 
     -- where joining starts and where it ends
     start_faces : (k : FaceLoop) → k ∈ (unjoined j (fans_of j w)).loops → Low k.face
     unfolding unjoined fans_of face_loop
     start_faces k m =
         let a = map_in (face_loop w.uses w.twins w.merge.removed (merged_faces w.merge)) (loops_of w.circuits) k m in
-        subst (λ (x : FaceLoop). Low x.face) (sym a.2) (number_low t job bytes j l w q (face_of_use w.uses (get_or a.0 0 0)))
+        subst (λ (x : FaceLoop). Low x.face) (sym a.2) (number_low rules job bytes j l w q (face_of_use w.uses (get_or a.0 0 0)))
 
     start_table : LowTable (unjoined j (fans_of j w))
     start_table =
@@ -321,25 +321,25 @@ module _ (t : Table) (job : List ℕ) (bytes : Below 256 job) (j : Job) (l : loa
         record {
           joins = omega (arith, c.0);
           rings = omega (arith, c.1);
-          few = omega (arith, start_few t job bytes j l w q);
-          edges = start_low t job bytes j l w q;
+          few = omega (arith, start_few rules job bytes j l w q);
+          edges = start_low rules job bytes j l w q;
           faces = start_faces;
           loops = starts_sound j w G F (edges_hold j w G F);
         }
 
-    joined_table : (x : Joined) → through_joining (with_table t) j ≡ Ok x → LowTable x.joining
+    joined_table : (x : Joined) → through_joining rules j ≡ Ok x → LowTable x.joining
     joined_table x e =
-        let r = through_joined t j w x q e in
+        let r = through_joined rules j w x q e in
         let s : Joining = r.0 in
-        let small = totals_small t job j w l S s r.2 in
+        let small = totals_small rules job j w l S s r.2 in
         subst (λ (y : Joined). LowTable y.joining) (sym r.1) (record {
           joins = omega (arith, small.joins);
           rings = omega (arith, small.rings);
-          few = ended_few t job bytes j l w q s r.2;
-          edges = ended_low t job bytes j l w q s r.2;
+          few = ended_few rules job bytes j l w q s r.2;
+          edges = ended_low rules job bytes j l w q s r.2;
           faces = joining_keeps j.answers (fans_of j w).starts (fans_of j w).names (λ (u : Joining). (k : FaceLoop) → k ∈ u.loops → Low k.face) (λ x y v _. made_faces x y v)
               (length (fans_of j w).names) (unjoined j (fans_of j w)) s r.2 start_faces;
-          loops = joining_sound t job j w l S s r.2;
+          loops = joining_sound rules job j w l S s r.2;
         })
 
     -- the rows of shells and of lumps
@@ -347,63 +347,63 @@ module _ (t : Table) (job : List ℕ) (bytes : Below 256 job) (j : Job) (l : loa
     shell_each ss e =
         each_shaped shell_fields 2 1 ss (λ s m.
         let f = shells_few j.answers j.proven w.merge.boundaries w.merge.groups ss e s m in
-        let few = groups_few t job bytes j l w q in
+        let few = groups_few rules job bytes j l w q in
         counted_shaped (body_kind s.outer) s.faces (kind_low s.outer) (omega (arith, f.1, few)) (λ v i. omega (arith, f.0 v i, few)))
 
     lump_each : (ss : List Shell) (ns : List Nested) → shells_of j w ≡ Ok ss → nested j.answers ss ≡ Ok ns → AllShaped 2 1 (lump_rows_from 0 (lumps ns))
     lump_each ss ns e f =
         let n : ℕ = length w.merge.groups in
-        let few : n ≤ 256 = groups_few t job bytes j l w q in
+        let few : n ≤ 256 = groups_few rules job bytes j l w q in
         let shell = shells_few j.answers j.proven w.merge.boundaries w.merge.groups ss e in
         let count = lumps_count j.answers j.proven w.merge.boundaries w.merge.groups ss ns e f in
-        let size = merge_boundaries_length t j.answers j.faces (uses_of j) w.twins w.merge S.surfaces in
+        let size = merge_boundaries_length rules.table j.answers j.faces (uses_of j) w.twins w.merge S.surfaces in
         lump_rows_lem 0 n (lumps ns) (omega (arith, count, size, faces_few job j l)) (omega arith) (lumps_few n ns (nested_few j.answers n ss ns shell f))
 
   -- `vertex-loops`: two fields
-  pub vertex_loops_shaped : (rows : List (List ℕ)) → vertex_loop_rows (with_table t) j ≡ Ok rows → AllShaped 2 0 rows
+  pub vertex_loops_shaped : (rows : List (List ℕ)) → vertex_loop_rows rules j ≡ Ok rows → AllShaped 2 0 rows
   unfolding vertex_loop_rows
   vertex_loops_shaped rows e =
-      let a = bind_ok (walked (with_table t) j) _ rows e in
+      let a = bind_ok (walked rules j) _ rows e in
       subst (AllShaped 2 0) (ok_one a.2) (kept_each a.0 a.1)
 
   -- `walk`: three fields
-  pub walk_shaped : (rows : List (List ℕ)) → walk_rows (with_table t) j ≡ Ok rows → AllShaped 3 0 rows
+  pub walk_shaped : (rows : List (List ℕ)) → walk_rows rules j ≡ Ok rows → AllShaped 3 0 rows
   unfolding walk_rows
   walk_shaped rows e =
-      let a = bind_ok (walked (with_table t) j) _ rows e in
+      let a = bind_ok (walked rules j) _ rows e in
       subst (AllShaped 3 0) (ok_one a.2) (walk_each a.0 a.1)
 
   -- `loops`: two fields, and the uses that the second counts
-  pub loops_shaped : (rows : List (List ℕ)) → loop_rows (with_table t) j ≡ Ok rows → AllShaped 2 1 rows
+  pub loops_shaped : (rows : List (List ℕ)) → loop_rows rules j ≡ Ok rows → AllShaped 2 1 rows
   unfolding loop_rows
   loops_shaped rows e =
-      let a = bind_ok (walked (with_table t) j) _ rows e in
+      let a = bind_ok (walked rules j) _ rows e in
       subst (AllShaped 2 1) (ok_one a.2) (loop_each a.0 a.1)
 
   -- `fans`: three fields
-  pub fans_shaped : (rows : List (List ℕ)) → fan_rows (with_table t) j ≡ Ok rows → AllShaped 3 0 rows
+  pub fans_shaped : (rows : List (List ℕ)) → fan_rows rules j ≡ Ok rows → AllShaped 3 0 rows
   unfolding fan_rows fans_of
   fans_shaped rows e =
-      let a = bind_ok (fanned (with_table t) j) _ rows e in
-      let c = fanned_walks (with_table t) j a.0 a.1 in
+      let a = bind_ok (fanned rules j) _ rows e in
+      let c = fanned_walks rules j a.0 a.1 in
       subst (AllShaped 3 0) (ok_one a.2)
       (subst (λ (f : Fanned). AllShaped 3 0 (map (fan_fields f) (keep (kept_with_ends j.edges f.walk.uses f.walk.merge.removed) (below (length f.walk.uses))))) (sym c.2)
       (fan_each c.0 c.1))
 
   -- `edges`: counts, edges, loops
-  pub edges_laid : (rows : List (List ℕ)) → edge_rows (with_table t) j ≡ Ok rows → Laid rows
+  pub edges_laid : (rows : List (List ℕ)) → edge_rows rules j ≡ Ok rows → Laid rows
   unfolding edge_rows
   edges_laid rows e =
-      let a = bind_ok (edged (with_table t) j) _ rows e in
-      let c = edged_walks (with_table t) j a.0 a.1 in
+      let a = bind_ok (edged rules j) _ rows e in
+      let c = edged_walks rules j a.0 a.1 in
       subst Laid (ok_one a.2) (subst (λ (x : Joined). Laid (table_rows x.joining)) (sym c.2) (table_laid (unjoined j (fans_of j c.0)) (start_table c.0 c.1)))
 
   -- in `edges` the first two numbers are 0 and every edge is active
-  pub edges_fresh : (rows : List (List ℕ)) → edge_rows (with_table t) j ≡ Ok rows → Fresh rows
+  pub edges_fresh : (rows : List (List ℕ)) → edge_rows rules j ≡ Ok rows → Fresh rows
   unfolding edge_rows table_rows unjoined fans_of
   edges_fresh rows e =
-      let a = bind_ok (edged (with_table t) j) _ rows e in
-      let c = edged_walks (with_table t) j a.0 a.1 in
+      let a = bind_ok (edged rules j) _ rows e in
+      let c = edged_walks rules j a.0 a.1 in
       let s : Joining = unjoined j (fans_of j c.0) in
       record {
         edges = s.edges;
@@ -413,30 +413,30 @@ module _ (t : Table) (job : List ℕ) (bytes : Below 256 job) (j : Job) (l : loa
       }
 
   -- `joining`: counts, edges, loops
-  pub joining_laid : (rows : List (List ℕ)) → joining_rows (with_table t) j ≡ Ok rows → Laid rows
+  pub joining_laid : (rows : List (List ℕ)) → joining_rows rules j ≡ Ok rows → Laid rows
   unfolding joining_rows
   joining_laid rows e =
-      let a = bind_ok (through_joining (with_table t) j) _ rows e in
-      let w = joined_walks t j a.0 a.1 in
+      let a = bind_ok (through_joining rules j) _ rows e in
+      let w = joined_walks rules j a.0 a.1 in
       subst Laid (ok_one a.2) (table_laid a.0.joining (joined_table w.0 w.1 a.0 a.1))
 
   -- `shells`: two fields, and the faces that the second counts
-  pub shells_shaped : (rows : List (List ℕ)) → shell_rows (with_table t) j ≡ Ok rows → AllShaped 2 1 rows
+  pub shells_shaped : (rows : List (List ℕ)) → shell_rows rules j ≡ Ok rows → AllShaped 2 1 rows
   unfolding shell_rows
   shells_shaped rows e =
-      let a = bind_ok (through_joining (with_table t) j) _ rows e in
+      let a = bind_ok (through_joining rules j) _ rows e in
       let x : Joined = a.0 in
       let b = bind_ok (shells_of j x.fan.walk) _ rows a.2 in
-      let w = joined_walks t j x a.1 in
-      subst (AllShaped 2 1) (ok_one b.2) (shell_each w.0 w.1 b.0 (joined_shells t j w.0 x b.0 w.1 a.1 b.1))
+      let w = joined_walks rules j x a.1 in
+      subst (AllShaped 2 1) (ok_one b.2) (shell_each w.0 w.1 b.0 (joined_shells rules j w.0 x b.0 w.1 a.1 b.1))
 
   -- `lumps`: two fields, and the faces that the second counts
-  pub lumps_shaped : (rows : List (List ℕ)) → lump_rows (with_table t) j ≡ Ok rows → AllShaped 2 1 rows
+  pub lumps_shaped : (rows : List (List ℕ)) → lump_rows rules j ≡ Ok rows → AllShaped 2 1 rows
   unfolding lump_rows
   lumps_shaped rows e =
-      let a = bind_ok (through_joining (with_table t) j) _ rows e in
+      let a = bind_ok (through_joining rules j) _ rows e in
       let x : Joined = a.0 in
       let b = bind_ok (shells_of j x.fan.walk) _ rows a.2 in
       let c = bind_ok (nested j.answers b.0) _ rows b.2 in
-      let w = joined_walks t j x a.1 in
-      subst (AllShaped 2 1) (ok_one c.2) (lump_each w.0 w.1 b.0 c.0 (joined_shells t j w.0 x b.0 w.1 a.1 b.1) c.1)
+      let w = joined_walks rules j x a.1 in
+      subst (AllShaped 2 1) (ok_one c.2) (lump_each w.0 w.1 b.0 c.0 (joined_shells rules j w.0 x b.0 w.1 a.1 b.1) c.1)

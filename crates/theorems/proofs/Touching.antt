@@ -12,7 +12,7 @@ use Rattle.rules.specs.Job.{Job}
 use Rattle.rules.specs.Load.{loaded}
 use Rattle.rules.specs.Read.{uses_of, face_of_use, old_successor}
 use Rattle.rules.specs.Groups.{label_of, lowest_members}
-use Rattle.rules.specs.Rules.{Table}
+use Rattle.rules.specs.declared.Rules.{Rules}
 use Rattle.rules.specs.Merge.{boundaries}
 use Rattle.rules.specs.Walk.{over, turn}
 use Rattle.rules.specs.Fans.{kept_with_ends}
@@ -29,12 +29,12 @@ use Rattle.theorems.proofs.Ground.{ground, settled_uses}
 use Rattle.theorems.specs.Fanning.{twin, succ, EndedUse, fan_labels}
 use Rattle.theorems.proofs.Fanning.{ended_kept, succ_below, fan_lowest, fan_size}
 
-module _ (t : Table) (job : List ℕ) (j : Job) (w : Walked) (l : loaded job ≡ Ok j) (s : Settled t j w) where
+module _ (rules : Rules) (job : List ℕ) (j : Job) (w : Walked) (l : loaded job ≡ Ok j) (s : Settled rules j w) where
   abbrev G : Ground j w
-  G = ground t job j w l s
+  G = ground rules job j w l s
 
   face : (h : ℕ) → h < length w.uses → face_of_use w.uses h < length j.faces
-  face = subst (λ (u : List Use). (h : ℕ) → h < length u → face_of_use u h < length j.faces) (settled_uses t j w s) (use_face_below j (loaded_sound job j l))
+  face = subst (λ (u : List Use). (h : ℕ) → h < length u → face_of_use u h < length j.faces) (settled_uses rules j w s) (use_face_below j (loaded_sound job j l))
 
   -- the boundary of a use's face
   abbrev side : ℕ → ℕ
@@ -67,7 +67,7 @@ module _ (t : Table) (job : List ℕ) (j : Job) (w : Walked) (l : loaded job ≡
       let lt : h < length (fan_labels j w) = omega (arith, e.0, fan_size j w G) in
       let below : label_of (fan_labels j w) h < length w.uses = omega (arith, (fan_lowest j w G).low h lt, e.0) in
       let b : w.merge.boundaries ≡ boundaries w.uses w.twins (length j.faces) =
-      merge_boundaries t j.answers j.faces (uses_of j) w.twins w.merge s.surfaces ∙ ap (λ (u : List Use). boundaries u w.twins (length j.faces)) (settled_uses t j w s) in
+      merge_boundaries rules.table j.answers j.faces (uses_of j) w.twins w.merge s.surfaces ∙ ap (λ (u : List Use). boundaries u w.twins (length j.faces)) (settled_uses rules j w s) in
       let r : side (label_of (fan_labels j w) h) ≡ side h =
       fans_within j.edges w.uses w.twins w.merge.removed w.successors (succ_below j w G) G.twins.below (value_equivalence side) corner_side
       (label_of (fan_labels j w) h) h below e.0 ((fan_lowest j w G).stands h lt) in
@@ -80,7 +80,7 @@ module _ (t : Table) (job : List ℕ) (j : Job) (w : Walked) (l : loaded job ≡
   one_lump ns h e =
       let lt : h < length (fan_labels j w) = omega (arith, e.0, fan_size j w G) in
       let below : label_of (fan_labels j w) h < length w.uses = omega (arith, (fan_lowest j w G).low h lt, e.0) in
-      let size = merge_boundaries_length t j.answers j.faces (uses_of j) w.twins w.merge s.surfaces in
+      let size = merge_boundaries_length rules.table j.answers j.faces (uses_of j) w.twins w.merge s.surfaces in
       let lump : ℕ → ℕ = λ b. get_or (map (λ (n : Nested). n.home) ns) (index_of b (lowest_members w.merge.boundaries)) 0 in
       let at : (u : ℕ) → u < length w.uses → use_label w.uses (map lump w.merge.boundaries) u ≡ lump (use_label w.uses w.merge.boundaries u) =
       (λ u lt. get_or_map lump w.merge.boundaries (face_of_use w.uses u) 0 0 (omega (arith, face u lt, size))) in

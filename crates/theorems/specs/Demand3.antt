@@ -12,7 +12,7 @@ use Rattle.rules.specs.Load.{loaded}
 use Rattle.rules.specs.Read.{uses_of, face_of_use, old_successor}
 use Rattle.rules.specs.Groups.{label_of}
 use Rattle.rules.specs.Pair.{pair}
-use Rattle.rules.specs.Rules.{Table, Rules, any_contact, all_changes}
+use Rattle.rules.specs.declared.Rules.{Rules}
 use Rattle.rules.specs.Merge.{merge_faces, merged_faces, is_removed}
 use Rattle.rules.specs.VertexLoops.{vertex_loops}
 use Rattle.rules.specs.Walk.{turn, meets, passing, successor, Circuit, closes, circuit_uses, loops_of}
@@ -196,14 +196,10 @@ pub record Reports (j : Job) (w : Walked) (cs : List Change) (bytes : List ℕ) 
 
 -- THE STATEMENT
 
--- document 01's rules, with a joining table
-abbrev pub with_table : Table → Rules
-with_table t = record { table = t; profile = any_contact; changes = all_changes }
-
 -- the job pairs fully, its surface and vertex-loop questions are answered and decided, no normal vanishes; w is what the walk stage makes of it
-pub record Settled (t : Table) (j : Job) (w : Walked) : Type 0 where
+pub record Settled (rules : Rules) (j : Job) (w : Walked) : Type 0 where
   pub pairs : pair j.answers (uses_of j) (length j.edges) ≡ Ok w.twins
-  pub surfaces : merge_faces t j.answers j.faces (uses_of j) w.twins ≡ Ok w.merge
+  pub surfaces : merge_faces rules.table j.answers j.faces (uses_of j) w.twins ≡ Ok w.merge
   pub vertices : vertex_loops j.answers j.points (merged_faces w.merge) j.loops ≡ Ok w.vertex_loops
   pub walks : w ≡ walks_of (uses_of j) w.twins w.merge w.vertex_loops
 
@@ -215,10 +211,10 @@ pub record WalksHold (w : Walked) : Type 0 where
   pub unbroken : NeverBreaks w
 
 -- what holds of edge joining and of the bytes written for an accepted job: its changes, and the edges and loops where they end
-pub record JoiningHolds (t : Table) (j : Job) (w : Walked) (bytes : List ℕ) : Type 0 where
+pub record JoiningHolds (rules : Rules) (j : Job) (w : Walked) (bytes : List ℕ) : Type 0 where
   pub changes : List Change
   pub ending : Joining
-  pub joined : through_joining (with_table t) j ≡ Ok (record { fan = fans_of j w; joining = ending })
+  pub joined : through_joining rules j ≡ Ok (record { fan = fans_of j w; joining = ending })
   pub run : Run j.answers (fans_of j w) (unjoined j (fans_of j w)) changes ending
   pub balance :
       corners_less_edges (unjoined j (fans_of j w)).edges (fans_of j w).names
@@ -228,8 +224,8 @@ pub record JoiningHolds (t : Table) (j : Job) (w : Walked) (bytes : List ℕ) : 
   pub places : EachJoin changes
   pub reports : Reports j w changes bytes
 
--- demand 3, for each joining table
-abbrev pub Demand3 : Table → List ℕ → Type 0
-Demand3 t job =
-    (j : Job) (w : Walked) → loaded job ≡ Ok j → Settled t j w
-    → WalksHold w × ((room : ℕ) (bytes : List ℕ) → sewn (with_table t) job room ≡ Ok bytes → JoiningHolds t j w bytes)
+-- demand 3, for the rules that sewing runs by
+abbrev pub Demand3 : Rules → List ℕ → Type 0
+Demand3 rules job =
+    (j : Job) (w : Walked) → loaded job ≡ Ok j → Settled rules j w
+    → WalksHold w × ((room : ℕ) (bytes : List ℕ) → sewn rules job room ≡ Ok bytes → JoiningHolds rules j w bytes)

@@ -27,3 +27,4 @@ pub mod Shapes
 pub mod FaceJoins
 pub mod FaceMembers
 pub mod Promises
+pub mod JoiningTables

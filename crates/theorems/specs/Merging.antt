@@ -9,7 +9,7 @@ use Rattle.rules.specs.Job.{Answer}
 use Rattle.rules.specs.Questions.{surface_answer, ask}
 use Rattle.rules.specs.Read.{face_of_use}
 use Rattle.rules.specs.Groups.{Grouping}
-use Rattle.rules.specs.Rules.{Table}
+use Rattle.rules.specs.declared.Table.{Table}
 use Rattle.rules.specs.Merge.{other_face, joins_faces, equal_senses, unasked, Merged}
 
 -- MERGED GROUPS

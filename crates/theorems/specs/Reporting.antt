@@ -4,7 +4,7 @@ use mathlib.Core.List.{List}
 use Rattle.rules.specs.Outcome.{Ok}
 use Rattle.rules.specs.Fields.{le16}
 use Rattle.rules.specs.Job.{Job}
-use Rattle.rules.specs.Rules.{Rules}
+use Rattle.rules.specs.declared.Rules.{Rules}
 use Rattle.rules.specs.Shells.{Shell, Nested, nested}
 use Rattle.rules.specs.Body.{Totals, Body, body_kind}
 use Rattle.rules.specs.Sew.{Joined, through_joining, shells_of, body_of}
