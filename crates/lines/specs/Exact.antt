@@ -12,7 +12,7 @@ use Rattle.rules.proofs.FieldLaws.{le32_here}
 use Rattle.rules.specs.Frame.{Record, framed, framed_all}
 use Rattle.rules.specs.Job.{Job}
 use Rattle.rules.specs.Load.{loaded}
-use Rattle.rules.specs.Rules.{Rules}
+use Rattle.rules.specs.declared.Rules.{Rules}
 use Rattle.rules.specs.Body.{Body, body_records}
 use Rattle.rules.specs.Sew.{rebuild, fitting, sewn, Ends}
 use Rattle.rules.specs.Listing.{listing_of, sewn_records, listing}
@@ -91,7 +91,7 @@ records_back rs each = cut_put record_at record_size record_some framed rs (λ r
 -- THE LISTING
 
 -- the bytes of an outcome's records
-abbrev framed_of : Outcome (List Record) → Outcome (List ℕ)
+abbrev pub framed_of : Outcome (List Record) → Outcome (List ℕ)
 framed_of (Ok rs) = Ok (framed_all rs)
 framed_of (Err refusal) = Err refusal
 
@@ -101,7 +101,7 @@ from_fit rs true n = refl
 from_fit rs false n = refl
 
 -- sewing's outcome is that of its records
-sewn_records_lem : (rules : Rules) (job : List ℕ) (room : ℕ) → sewn rules job room ≡ framed_of (sewn_records rules job room)
+pub sewn_records_lem : (rules : Rules) (job : List ℕ) (room : ℕ) → sewn rules job room ≡ framed_of (sewn_records rules job room)
 unfolding sewn sewn_records
 sewn_records_lem rules job room = from_job (loaded job)
   where
@@ -119,7 +119,7 @@ abbrev pub AllFit : Outcome (List Record) → Type 0
 AllFit (Ok rs) = (r : Record) → r ∈ rs → Fits r
 AllFit (Err refusal) = Unit {0}
 
-recorded_is : (o : Outcome (List Record)) (before after : List ℕ) (e : Outcome ℕ) → AllFit o → Ends (framed_of o) before after e → recorded after e ≡ o
+pub recorded_is : (o : Outcome (List Record)) (before after : List ℕ) (e : Outcome ℕ) → AllFit o → Ends (framed_of o) before after e → recorded after e ≡ o
 recorded_is (Ok rs) before after e h E =
     ap (recorded after) E.0 ∙ ap (λ l. Ok (records_in (take (length (framed_all rs)) l))) E.1
     ∙ ap {B = Outcome (List Record)} (λ l. Ok (records_in l)) (take_at (framed_all rs) (drop (length (framed_all rs)) before) (length (framed_all rs)) refl)

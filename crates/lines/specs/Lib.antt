@@ -7,3 +7,4 @@ pub mod Room
 pub mod Listed
 pub mod StageBytes
 pub mod StageListed
+pub mod TableListed

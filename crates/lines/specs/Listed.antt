@@ -9,12 +9,12 @@ use Rattle.rules.specs.Outcome.{Outcome, Ok, Err}
 use Rattle.rules.proofs.OutcomeLaws.{ok_one, bind_ok}
 use Rattle.rules.specs.Frame.{Record, framed, framed_all}
 use Rattle.rules.specs.Load.{loaded}
-use Rattle.rules.specs.Rules.{Table, full_table, ordinary}
+use Rattle.rules.specs.declared.Rules.{Rules}
+use Rattle.rules.specs.Rules.{ordinary}
 use Rattle.rules.specs.Body.{Body, body_records}
 use Rattle.rules.specs.Sew.{rebuild, fitting, sewn, Ends}
 use Rattle.rules.specs.Listing.{listing_of, sewn_records, listing}
 use Rattle.fields.specs.Wrote.{Wrote, wrote_as}
-use Rattle.theorems.specs.Demand3.{with_table}
 use Rattle.theorems.specs.Narrow.{Below}
 use Rattle.theorems.proofs.Narrow.{rebuilt_narrow}
 use Rattle.lines.specs.Text.{recorded}
@@ -31,27 +31,27 @@ all_fit_by (Ok rs) h = h rs refl
 all_fit_by (Err r) h = tt
 
 -- the records of a job of bytes fit their bytes
-pub all_fit : (t : Table) (job : List ℕ) (room : ℕ) → Below 256 job → room < 4294967296 → AllFit (sewn_records (with_table t) job room)
+pub all_fit : (rules : Rules) (job : List ℕ) (room : ℕ) → Below 256 job → room < 4294967296 → AllFit (sewn_records rules job room)
 unfolding sewn_records
-all_fit t job room bytes h = all_fit_by (sewn_records (with_table t) job room) (λ rs e r m.
+all_fit rules job room bytes h = all_fit_by (sewn_records rules job room) (λ rs e r m.
     let a = bind_ok (loaded job) _ rs e in
-    let b = bind_ok (rebuild (with_table t) a.0) _ rs a.2 in
+    let b = bind_ok (rebuild rules a.0) _ rs a.2 in
     let body : Body = b.0 in
     let c = bind_ok (fitting room (framed_all (body_records body))) (λ _. Ok (body_records body)) rs b.2 in
     let i : r ∈ body_records body = subst (λ l. r ∈ l) (sym (ok_one c.2)) m in
-    let narrow = rebuilt_narrow t job a.0 body bytes a.1 b.1 r i in
+    let narrow = rebuilt_narrow rules job a.0 body bytes a.1 b.1 r i in
     record {
       kind = narrow.0;
-      size = omega (arith, subst (Within room) e (sewn_within (with_table t) job room), flat_map_length framed rs, sum_member (λ s. length (framed s)) m, framed_length r);
+      size = omega (arith, subst (Within room) e (sewn_within rules job room), flat_map_length framed rs, sum_member (λ s. length (framed s)) m, framed_length r);
       fields = narrow.1;
     })
 
 -- WHAT IS LISTED OF A JOB
 
 -- the text of sewing's answer in so many bytes is that of the job's records
-pub recorded_listing : (t : Table) (job before after : List ℕ) (e : Outcome ℕ) → Below 256 job → length before < 4294967296 → Ends (sewn (with_table t) job (length before)) before after e
-    → listing_of (recorded after e) ≡ listing_of (sewn_records (with_table t) job (length before))
-recorded_listing t job before after e bytes h E = room_listing (with_table t) job before after e (all_fit t job (length before) bytes h) E
+pub recorded_listing : (rules : Rules) (job before after : List ℕ) (e : Outcome ℕ) → Below 256 job → length before < 4294967296 → Ends (sewn rules job (length before)) before after e
+    → listing_of (recorded after e) ≡ listing_of (sewn_records rules job (length before))
+recorded_listing rules job before after e bytes h E = room_listing rules job before after e (all_fit rules job (length before) bytes h) E
 
 -- what sewing a job makes of an output
 abbrev pub SewnInto : List ℕ → List ℕ → List ℕ → Type 0
@@ -68,7 +68,7 @@ Lists job page printed r = Printed (listing ordinary job) page printed 196608 r
 pub lists : (job before after page printed : List ℕ) (q : ℕ) (e : Outcome ℕ) → Below 256 job → length before ≡ 65536
     → Ends (sewn ordinary job (length before)) before after e → Wrote page 0 (listing_of (recorded after e)) printed q → Lists job page printed q
 lists job before after page printed q e bytes n E w =
-    let fit = all_fit full_table job 65536 bytes (omega arith) in
+    let fit = all_fit ordinary job 65536 bytes (omega arith) in
     prints (listing ordinary job) page printed 196608 q
     (wrote_as page printed (listing_of (recorded after e)) (listing ordinary job) 0 q (listing_is ordinary job before after e fit n E) w)
     (listed_small (sewn_records ordinary job 65536) fit (sewn_within ordinary job 65536))

@@ -10,7 +10,7 @@ use Rattle.rules.specs.Outcome.{Outcome, Ok, ◌>>=◌, need, Err, fault_number}
 use Rattle.rules.specs.Frame.{Record, framed, framed_all}
 use Rattle.rules.specs.Job.{Job, unset}
 use Rattle.rules.specs.Load.{loaded}
-use Rattle.rules.specs.Rules.{Rules}
+use Rattle.rules.specs.declared.Rules.{Rules}
 use Rattle.rules.specs.Body.{Body, body_records}
 use Rattle.rules.specs.Sew.{rebuild, fitting}
 use Rattle.rules.specs.Listing.{digits_before, decimal, word_of, field_text, vertex_text, fields_text, line_of, refused_word, listing_of, sewn_records}

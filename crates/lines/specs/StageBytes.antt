@@ -15,7 +15,7 @@ use Rattle.rules.specs.Job.{Job}
 use Rattle.rules.specs.Load.{loaded}
 use Rattle.rules.specs.Read.{uses_of}
 use Rattle.rules.specs.Pair.{pair}
-use Rattle.rules.specs.Rules.{Rules}
+use Rattle.rules.specs.declared.Rules.{Rules}
 use Rattle.rules.specs.Merge.{merge_faces}
 use Rattle.rules.specs.Walk.{loops_of}
 use Rattle.rules.specs.Fans.{kept_with_ends}

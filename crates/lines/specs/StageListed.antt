@@ -10,7 +10,8 @@ use Rattle.rules.proofs.OutcomeLaws.{ok_one, bind_ok, need_ok}
 use Rattle.rules.specs.Fields.{field_bytes}
 use Rattle.rules.specs.Job.{Job}
 use Rattle.rules.specs.Load.{loaded}
-use Rattle.rules.specs.Rules.{Rules, full_table, ordinary}
+use Rattle.rules.specs.declared.Rules.{Rules}
+use Rattle.rules.specs.Rules.{ordinary}
 use Rattle.rules.specs.Sew.{fitting, Ends}
 use Rattle.rules.specs.Rows.{read_rows, pair_rows, merge_rows, vertex_loop_rows, walk_rows, loop_rows, fan_rows, edge_rows}
 use Rattle.rules.specs.Rows.{joining_rows as joined_rows, shell_rows, lump_rows, staged_rows, row_text, rows_listing}
@@ -45,7 +46,7 @@ AllHeld stage room (Ok rows) = Held stage room rows
 AllHeld stage room (Err refusal) = Unit {0}
 
 -- rows of one shape
-shaped_held : (stage : Stage) (room fixed counted : ℕ) (rows : List (List ℕ)) → 0 < fixed → rows_in fixed counted (flat_map field_bytes rows) ≡ stage_rows stage (flat_map field_bytes rows)
+pub shaped_held : (stage : Stage) (room fixed counted : ℕ) (rows : List (List ℕ)) → 0 < fixed → rows_in fixed counted (flat_map field_bytes rows) ≡ stage_rows stage (flat_map field_bytes rows)
     → length (flat_map field_bytes rows) ≤ room → AllShaped fixed counted rows → Held stage room rows
 shaped_held stage room fixed counted rows h e le each = record {
   back = sym e ∙ rows_back fixed counted rows h each;
@@ -72,17 +73,17 @@ laid_held stage room rows e le L = record {
         (Memᴰ.cases_cons (subst (λ l. row ∈ l) L.laid m))
 
 -- what holds of the rows of every loaded job whose bytes fit holds of the outcome
-held_by : (stage : Stage) (rows_of : Rules → Job → Outcome (List (List ℕ))) (job : List ℕ) (room : ℕ)
-    → ((j : Job) (rows : List (List ℕ)) → loaded job ≡ Ok j → rows_of ordinary j ≡ Ok rows → length (flat_map field_bytes rows) ≤ room → Held stage room rows)
-    → AllHeld stage room (staged_rows rows_of ordinary job room)
+pub held_by : (rules : Rules) (stage : Stage) (rows_of : Rules → Job → Outcome (List (List ℕ))) (job : List ℕ) (room : ℕ)
+    → ((j : Job) (rows : List (List ℕ)) → loaded job ≡ Ok j → rows_of rules j ≡ Ok rows → length (flat_map field_bytes rows) ≤ room → Held stage room rows)
+    → AllHeld stage room (staged_rows rows_of rules job room)
 unfolding staged_rows
-held_by stage rows_of job room each = go (staged_rows rows_of ordinary job room) refl
+held_by rules stage rows_of job room each = go (staged_rows rows_of rules job room) refl
   where
-    go : (o : Outcome (List (List ℕ))) → staged_rows rows_of ordinary job room ≡ o → AllHeld stage room o
+    go : (o : Outcome (List (List ℕ))) → staged_rows rows_of rules job room ≡ o → AllHeld stage room o
     go (Err r) e = tt
     go (Ok rows) e =
         let a = bind_ok (loaded job) _ rows e in
-        let b = bind_ok (rows_of ordinary a.0) _ rows a.2 in
+        let b = bind_ok (rows_of rules a.0) _ rows a.2 in
         let bytes : List ℕ = flat_map field_bytes b.0 in
         let c = bind_ok (fitting room bytes) (λ _. Ok b.0) rows b.2 in
         let n = need_ok (leb (length bytes) room) NoRoom (length bytes) (Ok bytes) c.0 c.1 in
@@ -104,73 +105,73 @@ stage_known Read job b room = record {
   rows = staged_rows read_rows ordinary job room;
   lines = refl;
   bytes = read_bytes ordinary job room;
-  held = held_by Read read_rows job room (λ j rows l e le. shaped_held Read room 4 0 rows (omega arith) refl le (read_shaped full_table job b j l rows e));
+  held = held_by ordinary Read read_rows job room (λ j rows l e le. shaped_held Read room 4 0 rows (omega arith) refl le (read_shaped ordinary job b j l rows e));
 }
 stage_known Pair job b room = record {
   rows = staged_rows pair_rows ordinary job room;
   lines = refl;
   bytes = pair_bytes ordinary job room;
-  held = held_by Pair pair_rows job room (λ j rows l e le. shaped_held Pair room 1 0 rows (omega arith) refl le (pair_shaped full_table job b j l rows e));
+  held = held_by ordinary Pair pair_rows job room (λ j rows l e le. shaped_held Pair room 1 0 rows (omega arith) refl le (pair_shaped ordinary job b j l rows e));
 }
 stage_known Merge job b room = record {
   rows = staged_rows merge_rows ordinary job room;
   lines = refl;
   bytes = merge_bytes ordinary job room;
-  held = held_by Merge merge_rows job room (λ j rows l e le. shaped_held Merge room 2 0 rows (omega arith) refl le (merge_shaped full_table job b j l rows e));
+  held = held_by ordinary Merge merge_rows job room (λ j rows l e le. shaped_held Merge room 2 0 rows (omega arith) refl le (merge_shaped ordinary job b j l rows e));
 }
 stage_known VertexLoops job b room = record {
   rows = staged_rows vertex_loop_rows ordinary job room;
   lines = refl;
   bytes = vertex_loop_bytes ordinary job room;
-  held = held_by VertexLoops vertex_loop_rows job room (λ j rows l e le. shaped_held VertexLoops room 2 0 rows (omega arith) refl le (vertex_loops_shaped full_table job b j l rows e));
+  held = held_by ordinary VertexLoops vertex_loop_rows job room (λ j rows l e le. shaped_held VertexLoops room 2 0 rows (omega arith) refl le (vertex_loops_shaped ordinary job b j l rows e));
 }
 stage_known Walk job b room = record {
   rows = staged_rows walk_rows ordinary job room;
   lines = refl;
   bytes = walk_bytes ordinary job room;
-  held = held_by Walk walk_rows job room (λ j rows l e le. shaped_held Walk room 3 0 rows (omega arith) refl le (walk_shaped full_table job b j l rows e));
+  held = held_by ordinary Walk walk_rows job room (λ j rows l e le. shaped_held Walk room 3 0 rows (omega arith) refl le (walk_shaped ordinary job b j l rows e));
 }
 stage_known Loops job b room = record {
   rows = staged_rows loop_rows ordinary job room;
   lines = refl;
   bytes = loop_bytes ordinary job room;
-  held = held_by Loops loop_rows job room (λ j rows l e le. shaped_held Loops room 2 1 rows (omega arith) refl le (loops_shaped full_table job b j l rows e));
+  held = held_by ordinary Loops loop_rows job room (λ j rows l e le. shaped_held Loops room 2 1 rows (omega arith) refl le (loops_shaped ordinary job b j l rows e));
 }
 stage_known Fans job b room = record {
   rows = staged_rows fan_rows ordinary job room;
   lines = refl;
   bytes = fan_bytes_lem ordinary job room;
-  held = held_by Fans fan_rows job room (λ j rows l e le. shaped_held Fans room 3 0 rows (omega arith) refl le (fans_shaped full_table job b j l rows e));
+  held = held_by ordinary Fans fan_rows job room (λ j rows l e le. shaped_held Fans room 3 0 rows (omega arith) refl le (fans_shaped ordinary job b j l rows e));
 }
 stage_known Edges job b room = record {
   rows = staged_rows edge_rows ordinary job room;
   lines = refl;
   bytes = edge_bytes ordinary job room;
-  held = held_by Edges edge_rows job room (λ j rows l e le. laid_held Edges room rows refl le (edges_laid full_table job b j l rows e));
+  held = held_by ordinary Edges edge_rows job room (λ j rows l e le. laid_held Edges room rows refl le (edges_laid ordinary job b j l rows e));
 }
 stage_known Joining job b room = record {
   rows = staged_rows joined_rows ordinary job room;
   lines = refl;
   bytes = joining_bytes ordinary job room;
-  held = held_by Joining joined_rows job room (λ j rows l e le. laid_held Joining room rows refl le (joining_laid full_table job b j l rows e));
+  held = held_by ordinary Joining joined_rows job room (λ j rows l e le. laid_held Joining room rows refl le (joining_laid ordinary job b j l rows e));
 }
 stage_known Shells job b room = record {
   rows = staged_rows shell_rows ordinary job room;
   lines = refl;
   bytes = shell_bytes_lem ordinary job room;
-  held = held_by Shells shell_rows job room (λ j rows l e le. shaped_held Shells room 2 1 rows (omega arith) refl le (shells_shaped full_table job b j l rows e));
+  held = held_by ordinary Shells shell_rows job room (λ j rows l e le. shaped_held Shells room 2 1 rows (omega arith) refl le (shells_shaped ordinary job b j l rows e));
 }
 stage_known Lumps job b room = record {
   rows = staged_rows lump_rows ordinary job room;
   lines = refl;
   bytes = lump_bytes ordinary job room;
-  held = held_by Lumps lump_rows job room (λ j rows l e le. shaped_held Lumps room 2 1 rows (omega arith) refl le (lumps_shaped full_table job b j l rows e));
+  held = held_by ordinary Lumps lump_rows job room (λ j rows l e le. shaped_held Lumps room 2 1 rows (omega arith) refl le (lumps_shaped ordinary job b j l rows e));
 }
 
 -- WHAT IS SHOWN
 
 -- the text of an answer whose rows are read back
-held_text : (stage : Stage) (room : ℕ) (o : Outcome (List (List ℕ))) (before after : List ℕ) (e : Outcome ℕ) → AllHeld stage room o
+pub held_text : (stage : Stage) (room : ℕ) (o : Outcome (List (List ℕ))) (before after : List ℕ) (e : Outcome ℕ) → AllHeld stage room o
     → Ends (row_bytes o) before after e → stage_text stage after e ≡ rows_listing o
 held_text stage room (Ok rows) before after e H E =
     let bytes : List ℕ = flat_map field_bytes rows in
@@ -201,7 +202,7 @@ rows_eleven (row ∷ rows) some low =
     )
 
 -- rows of 131,072 bytes, or a refusal
-held_small : (stage : Stage) (o : Outcome (List (List ℕ))) → AllHeld stage 131072 o → length (rows_listing o) ≤ 360448
+pub held_small : (stage : Stage) (o : Outcome (List (List ℕ))) → AllHeld stage 131072 o → length (rows_listing o) ≤ 360448
 held_small stage (Ok rows) H = omega (arith, rows_eleven rows H.some H.low, H.within)
 held_small stage (Err r) H = omega (arith, refusal_short r)
 

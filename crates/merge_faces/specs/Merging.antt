@@ -5,12 +5,12 @@ use Rattle.lists.specs.Lists.{below}
 use Rattle.rules.specs.declared.Face.{Face}
 use Rattle.rules.specs.declared.Use.{Use}
 use Rattle.rules.specs.declared.SurfaceAnswer.{SurfaceAnswer}
+use Rattle.rules.specs.declared.Table.{Table}
 use Rattle.rules.specs.Outcome.{Outcome, Ok, Err, ◌>>=◌}
 use Rattle.rules.specs.Sense.{same_sense}
 use Rattle.rules.specs.Job.{face_at}
 use Rattle.rules.specs.Read.{stored_sense}
 use Rattle.rules.specs.Groups.{Grouping, join_groups}
-use Rattle.rules.specs.Rules.{full_table}
 use Rattle.rules.specs.Merge.{joins_faces, boundary_step}
 use Rattle.groups.specs.Parents.{Stands}
 
@@ -27,7 +27,7 @@ MergedTo (Err r) parents joins (Ok g) = ⊥
 MergedTo (Err r) parents joins (Err q) = r ≡ q
 
 -- the groups after the surface answer v about faces a and b
-abbrev pub answered_step : List Face → ℕ → ℕ → SurfaceAnswer → Grouping → Outcome Grouping
-answered_step fs a b v g =
-    joins_faces full_table (same_sense (stored_sense (face_at fs a)) (stored_sense (face_at fs b))) v >>= λ yes.
+abbrev pub answered_step : Table → List Face → ℕ → ℕ → SurfaceAnswer → Grouping → Outcome Grouping
+answered_step t fs a b v g =
+    joins_faces t (same_sense (stored_sense (face_at fs a)) (stored_sense (face_at fs b))) v >>= λ yes.
     Ok (cond yes (join_groups g a b) g)

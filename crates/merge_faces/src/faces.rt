@@ -2,13 +2,12 @@
 
 ghost use Rattle.std.specs.Prelude.{◌≡◌, ◌≤◌, length, IfOk};
 ghost use Rattle.rules.specs.Outcome.{◌>>=◌ as ◌and_then◌};
-ghost use Rattle.rules.specs.Rules.{full_table};
 ghost use Rattle.rules.specs.Merge.{merged_groups};
 ghost use Rattle.merge_faces.specs.FaceTables.{TablesOf};
 
 use fields::Filled;
 use loaded::Loaded;
-use rules::{MOST_FACES, Refusal, Use};
+use rules::{MOST_FACES, Refusal, Table, Use};
 use std::marker::Model;
 
 // The first `count` entries of three tables are those of the selected faces; `members` has those of the merged faces.
@@ -76,17 +75,22 @@ impl Faces {
     }
 }
 
-// The faces merged by the answers to the surface questions, with the boundaries, numbers and lowest members that belong to
+// The faces merged by the answers to the surface questions, as the table has it, with the boundaries, numbers and lowest members that belong to
 // their groups.
-pub fn merge_faces(job: &Loaded<'_>, uses: &[Use], twins: &[u32]) -> Result<Faces, Refusal>
+pub fn merge_faces(
+    job: &Loaded<'_>,
+    uses: &[Use],
+    twins: &[u32],
+    table: Table,
+) -> Result<Faces, Refusal>
     requires { length uses.now ≤ 2048 }
     ensures merges { (result and_then λ m. Ok (record { groups = m.groups; joins = m.joins }))
-        ≡ merged_groups full_table job.now.answers job.now.faces uses.now twins.now }
+        ≡ merged_groups table job.now.answers job.now.faces uses.now twins.now }
     ensures tables { IfOk result (TablesOf uses.now twins.now (length job.now.faces)) }
 {
     let count = job.faces();
     let mut groups = [0u32; MOST_FACES];
-    let joins = crate::merge_groups(job, uses, twins, &mut groups[..count])?;
+    let joins = crate::merge_groups(job, uses, twins, &mut groups[..count], table)?;
     let mut boundaries = [0u32; MOST_FACES];
     let mut numbers = [0u32; MOST_FACES];
     let mut members = Filled::new(0);

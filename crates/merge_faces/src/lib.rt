@@ -7,10 +7,9 @@ ghost use Rattle.lists.specs.Lists.{keep};
 ghost use Rattle.rules.specs.Outcome.{◌>>=◌ as ◌and_then◌};
 ghost use Rattle.rules.specs.Sense.{same_sense};
 ghost use Rattle.rules.specs.Job.{face_at};
-ghost use Rattle.rules.specs.Read.{face_of_use, stored_sense};
+ghost use Rattle.rules.specs.Read.{stored_sense};
 ghost use Rattle.rules.specs.Groups.{Grouping, lowest_members, group_numbers, Lowest};
-ghost use Rattle.rules.specs.Rules.{full_table};
-ghost use Rattle.rules.specs.Merge.{boundaries as boundaries_of, other_face, joins_faces, merge_step, merged_groups, removes, removed_uses};
+ghost use Rattle.rules.specs.Merge.{boundaries as boundaries_of, joins_faces, merge_step, merged_groups, removes, removed_uses};
 ghost use Rattle.groups.specs.Parents.{Ordered, Stands};
 ghost use Rattle.merge_faces.specs.Merging.{MergedTo, answered_step, JoinedPairs};
 
@@ -20,7 +19,7 @@ pub use faces::{Faces, merge_faces};
 use fields::{Filled, get, put};
 use groups::{Groups, join, join_in};
 use loaded::Loaded;
-use rules::{Fault, Kind, MOST_FACES, Refusal, SurfaceAnswer, Use};
+use rules::{Fault, Kind, MOST_FACES, Refusal, SurfaceAnswer, Table, Use};
 use uses::use_face;
 
 // BOUNDARIES
@@ -50,17 +49,17 @@ pub fn boundaries(uses: &[Use], twins: &[u32], labels: &mut [u32])
 
 // MERGED GROUPS
 
-// Whether a surface answer joins: agreeing where stored senses are equal, opposed where they differ; refused where
-// normals vanish and where it is undecided. The place of a refusal is the question's kind.
+// Whether a surface answer joins, as the table has it for stored senses that are equal or different; refused where normals
+// vanish and where it is undecided. The place of a refusal is the question's kind.
 #[tactic(auto, unfolding(rules::specs::Merge::joins_faces, rules::specs::Kinds::number_of))]
-fn joins_faces(v: SurfaceAnswer, equal: bool) -> Result<bool, Refusal>
-    ensures { result ≡ joins_faces full_table equal v }
+fn joins_faces(v: SurfaceAnswer, equal: bool, table: Table) -> Result<bool, Refusal>
+    ensures { result ≡ joins_faces table equal v }
 {
     let kind = Kind::Surface;
     match v {
         SurfaceAnswer::Different => Ok(false),
-        SurfaceAnswer::Agreeing => Ok(equal),
-        SurfaceAnswer::Opposed => Ok(!equal),
+        SurfaceAnswer::Agreeing => Ok(table.agreeing.entry(equal)),
+        SurfaceAnswer::Opposed => Ok(table.opposed.entry(equal)),
         SurfaceAnswer::Vanishing => Err(Fault::NormalsVanish.at(kind.number())),
         SurfaceAnswer::Undecided => Err(Fault::AnswerUndecided.at(kind.number())),
     }
@@ -84,11 +83,12 @@ fn join_by(
     a: usize,
     b: usize,
     v: SurfaceAnswer,
+    table: Table,
 ) -> Result<bool, Refusal>
     requires { Ordered labels.old }
-    ensures { (g : Grouping) → Stands labels.old g.groups → MergedTo result labels.new g.joins (answered_step job.now.faces a b v g) }
+    ensures { (g : Grouping) → Stands labels.old g.groups → MergedTo result labels.new g.joins (answered_step table job.now.faces a b v g) }
 {
-    let joins = joins_faces(v, equal_senses(job, a, b))?;
+    let joins = joins_faces(v, equal_senses(job, a, b), table)?;
     Ok(joins && join_in(labels, a, b))
 }
 
@@ -101,10 +101,11 @@ fn merge_use(
     twins: &[u32],
     labels: &mut [u32],
     h: usize,
+    table: Table,
 ) -> Result<bool, Refusal>
     requires { (h < 4294967296) × Ordered labels.old }
     ensures { (g : Grouping) → Stands labels.old g.groups
-        → MergedTo result labels.new g.joins (merge_step full_table job.now.answers job.now.faces uses.now twins.now h g) }
+        → MergedTo result labels.new g.joins (merge_step table job.now.answers job.now.faces uses.now twins.now h g) }
 {
     let t = get(twins, h);
     if t <= h {
@@ -116,7 +117,7 @@ fn merge_use(
         return Ok(false);
     }
     let v = ask::ask_surface(job, h as u32)?;
-    join_by(job, labels, a, b, v)
+    join_by(job, labels, a, b, v, table)
 }
 
 // The surface questions of the uses in order. Each face's label in the end, and how many joins of separate groups there were.
@@ -126,17 +127,18 @@ fn merge_groups(
     uses: &[Use],
     twins: &[u32],
     labels: &mut [u32],
+    table: Table,
 ) -> Result<usize, Refusal>
     requires { (length labels.old ≡ length job.now.faces) × (length labels.old ≤ 256) × (length uses.now ≤ 2048) }
     ensures equals { (result and_then λ joins. Ok (record { groups = labels.new; joins = joins }))
-        ≡ merged_groups full_table job.now.answers job.now.faces uses.now twins.now }
+        ≡ merged_groups table job.now.answers job.now.faces uses.now twins.now }
     ensures lowest { IfOk result (λ _. Lowest labels.new) }
 {
     groups::alone(labels);
     let mut joins = 0;
     // by number: a use's question and its twin are found by its number, and its face only after them
     for h in 0..uses.len() {
-        joins += usize::from(merge_use(job, uses, twins, labels, h)?);
+        joins += usize::from(merge_use(job, uses, twins, labels, h, table)?);
     }
     groups::settle(labels);
     Ok(joins)

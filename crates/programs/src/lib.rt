@@ -7,6 +7,7 @@ ghost use Rattle.std.specs.Prelude.{◌≤◌, length, IfOk};
 ghost use Rattle.rules.specs.Sew.{Ends};
 ghost use Rattle.rules.specs.Operation.{operation};
 ghost use Rattle.lines.specs.StageListed.{StagedInto, StageLists};
+ghost use Rattle.lines.specs.TableListed.{WalkedWith, WalkListsWith};
 
 use rules::{Refusal, Stage};
 use std::env::FillError;
@@ -17,6 +18,9 @@ use std::{fs, io};
 
 // No path is longer, its end counted.
 const PATH: usize = 4096;
+
+// A joining table has four entries; one more tells a longer word.
+pub const ENTRIES: usize = 5;
 
 // The system's number of the error that a name is too long.
 const NAME_TOO_LONG: i32 = 36;
@@ -74,6 +78,20 @@ pub fn list_stage(
     };
     let ending = operate(Some(named), job, out);
     lines::put_stage(page, named, out, ending)
+}
+
+// Runs the walk stage with the joining table of some bytes into an output of 131,072 bytes and puts its lines on a page. The
+// text is given as by `list_stage`.
+pub fn list_walk_with_table(
+    table: &[u8],
+    job: &[u8],
+    out: &mut [u8; 131072],
+    page: &mut [u8],
+) -> usize
+    ensures { WalkedWith table.now job.now out.old out.new × WalkListsWith table.now job.now page.old page.new result }
+{
+    let ending = sewing::walk_stage_with_table(table, job, out);
+    lines::put_stage(page, Stage::Walk, out, ending)
 }
 
 // WORDS OF THE COMMAND LINE
@@ -172,6 +190,54 @@ impl Program<'_> {
             }
         }
     }
+}
+
+// What the words before the job's name ask for.
+#[derive(Clone, Copy)]
+pub enum Asked<'a> {
+    // No words: document 01's rules.
+    Ordinary,
+    // `table ENTRIES`: the joining table of these bytes.
+    Table(&'a [u8]),
+}
+
+impl Asked<'_> {
+    // How many words they are.
+    pub fn words(self) -> usize
+        ensures { result ≤ 2 }
+    {
+        match self {
+            Asked::Table(_) => 2,
+            Asked::Ordinary => 0,
+        }
+    }
+}
+
+// What the words from word i on ask for; nothing where they stop short. The bytes of a table are put into the room.
+pub fn words_at<'a>(rt: &impl Env, i: usize, room: &'a mut [u8; ENTRIES]) -> Option<Asked<'a>> {
+    let mut word = [0u8; 5];
+    let Ok(length) = rt.arg(i, &mut word) else {
+        return Some(Asked::Ordinary);
+    };
+    match &word[..length] {
+        b"table" => table_at(rt, i.saturating_add(1), room),
+        _ => Some(Asked::Ordinary),
+    }
+}
+
+// The joining table that word i spells: each byte is an entry, its value less that of `0`. A word for which there is no
+// room is too long for a table, as the room itself is.
+fn table_at<'a>(rt: &impl Env, i: usize, room: &'a mut [u8; ENTRIES]) -> Option<Asked<'a>> {
+    let length = match rt.arg(i, room) {
+        Ok(length) => length,
+        Err(FillError::NotPresent) => return None,
+        Err(_) => ENTRIES,
+    };
+    let entries = &mut room[..length];
+    for entry in entries.iter_mut() {
+        *entry = entry.wrapping_sub(b'0');
+    }
+    Some(Asked::Table(entries))
 }
 
 // A text up to a mark, or all of it.

@@ -7,7 +7,7 @@ use Rattle.rules.specs.Outcome.{Ok}
 use Rattle.rules.specs.Job.{Job}
 use Rattle.rules.specs.Read.{uses_of}
 use Rattle.rules.specs.Pair.{pair}
-use Rattle.rules.specs.Rules.{full_table}
+use Rattle.rules.specs.declared.Rules.{Rules}
 use Rattle.rules.specs.Merge.{merged_groups, removed_uses, Merged}
 use Rattle.rules.specs.VertexLoops.{vertex_loops}
 use Rattle.rules.specs.Walk.{successors, passed_counts}
@@ -22,9 +22,9 @@ pub record Paired (j : Job) (us : List Use) (ts : List ℕ) : Type 0 where
   pub pairs : pair j.answers us (length j.edges) ≡ Ok ts
 
 -- its faces are merged
-pub record Grouped (j : Job) (us : List Use) (ts : List ℕ) (m : FaceTables) : Type 0 where
+pub record Grouped (rules : Rules) (j : Job) (us : List Use) (ts : List ℕ) (m : FaceTables) : Type 0 where
   pub paired : Paired j us ts
-  pub merges : merged_groups full_table j.answers j.faces us ts ≡ Ok (record { groups = m.groups; joins = m.joins })
+  pub merges : merged_groups rules.table j.answers j.faces us ts ≡ Ok (record { groups = m.groups; joins = m.joins })
   pub tables : TablesOf us ts (length j.faces) m
 
 -- what merging gave, as the definitions have it
@@ -40,27 +40,29 @@ abbrev pub merged_by : List Use → List ℕ → FaceTables → Merged
 merged_by us ts m = merged_in m (removed_uses us ts m.groups)
 
 -- its vertex loops are kept
-pub record Kept (j : Job) (us : List Use) (ts : List ℕ) (m : FaceTables) (kept : List KeptVertexLoop) : Type 0 where
-  pub grouped : Grouped j us ts m
+pub record Kept (rules : Rules) (j : Job) (us : List Use) (ts : List ℕ) (m : FaceTables) (kept : List KeptVertexLoop) : Type 0 where
+  pub grouped : Grouped rules j us ts m
   pub vertices : vertex_loops j.answers j.points m.numbers j.loops ≡ Ok kept
   pub few : length kept ≤ length j.loops
 
 -- and its walks are known by their successors; how many uses are removed, and how many were passed over in total
-pub record Settled (j : Job) (us : List Use) (ts : List ℕ) (m : FaceTables) (kept : List KeptVertexLoop) (rm : List Bool) (ss : List ℕ) (count total : ℕ) : Type 0 where
-  pub keeps : Kept j us ts m kept
+pub record Settled (rules : Rules) (j : Job) (us : List Use) (ts : List ℕ) (m : FaceTables) (kept : List KeptVertexLoop) (rm : List Bool) (ss : List ℕ) (count total : ℕ) : Type 0 where
+  pub keeps : Kept rules j us ts m kept
   pub removed : rm ≡ removed_uses us ts m.groups
   pub follows : ss ≡ successors us ts rm
   pub gone : count ≡ length (keep (λ gone. gone) rm)
   pub passed : total ≡ sum_of (λ k. k) (passed_counts us ts rm)
 
--- a job with its merged faces
+-- a job with its merged faces, by these rules
 pub record Merging : Type 0 where
+  pub rules : Rules
   pub job : Job
   pub uses : List Use
   pub twins : List ℕ
   pub merged : Merged
 
--- a job with its walks
+-- a job with its walks, by these rules
 pub record Walking : Type 0 where
+  pub rules : Rules
   pub job : Job
   pub walked : Walked

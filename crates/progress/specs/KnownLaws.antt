@@ -11,7 +11,7 @@ use Rattle.lists.specs.Lists.{below, keep, sum_of}
 use Rattle.lists.specs.Runs.{length_below}
 use Rattle.lists.specs.Members.{keep_length}
 use Rattle.rules.specs.Groups.{Lowest, is_lowest, lowest_members}
-use Rattle.rules.specs.Rules.{full_table}
+use Rattle.rules.specs.declared.Rules.{Rules}
 use Rattle.rules.specs.Pair.{pair}
 use Rattle.rules.specs.Merge.{merge_faces, merged_faces, removed_uses}
 use Rattle.rules.specs.VertexLoops.{vertex_loops}
@@ -60,42 +60,43 @@ module _ {j : Job} {us : List Use} {ts : List ℕ} (P : Paired j us ts) where
 
 -- MERGED
 
-module _ {j : Job} {us : List Use} {ts : List ℕ} {m : FaceTables} (G : Grouped j us ts m) where
+module _ {rules : Rules} {j : Job} {us : List Use} {ts : List ℕ} {m : FaceTables} (G : Grouped rules j us ts m) where
   pub grouped_lowest : Lowest m.groups
-  grouped_lowest = merged_lowest full_table j.answers j.faces us ts _ G.merges (face_below G.paired) (paired_twins G.paired).below
+  grouped_lowest = merged_lowest rules.table j.answers j.faces us ts _ G.merges (face_below G.paired) (paired_twins G.paired).below
 
   bounded_lowest : Lowest m.boundaries
   bounded_lowest = subst Lowest (sym G.tables.boundaries) (boundaries_lowest us ts (length j.faces) (face_below G.paired) (paired_twins G.paired).below)
 
   groups_length : length m.groups ≡ length j.faces
-  groups_length = merged_length full_table j.answers j.faces us ts _ G.merges
+  groups_length = merged_length rules.table j.answers j.faces us ts _ G.merges
 
   pub labels_length : length m.boundaries ≡ length j.faces
   labels_length = ap length G.tables.boundaries ∙ boundaries_length us ts (length j.faces)
 
   -- with the uses removed, this is merging
-  grouped_merges : (rm : List Bool) → rm ≡ removed_uses us ts m.groups → merge_faces full_table j.answers j.faces us ts ≡ Ok (merged_in m rm)
+  grouped_merges : (rm : List Bool) → rm ≡ removed_uses us ts m.groups → merge_faces rules.table j.answers j.faces us ts ≡ Ok (merged_in m rm)
   unfolding merge_faces
   grouped_merges rm e = bind_on _ G.merges ∙ (λ i. Ok (record { boundaries = sym G.tables.boundaries i; groups = m.groups; joins = m.joins; removed = sym e i }))
 
 -- SETTLED
 
-module _ {j : Job} {us : List Use} {ts : List ℕ} {m : FaceTables} {kept : List KeptVertexLoop} {rm : List Bool} {ss : List ℕ} {count total : ℕ} (S : Settled j us ts m kept rm ss count total) where
-  abbrev G : Grouped j us ts m
+module _ {rules : Rules} {j : Job} {us : List Use} {ts : List ℕ} {m : FaceTables} {kept : List KeptVertexLoop} {rm : List Bool} {ss : List ℕ} {count total : ℕ}
+    (S : Settled rules j us ts m kept rm ss count total) where
+  abbrev G : Grouped rules j us ts m
   G = S.keeps.grouped
 
-  settled_rules : SettledRules full_table j (walked_in us ts m rm kept)
+  settled_rules : SettledRules rules j (walked_in us ts m rm kept)
   unfolding walks_of
   settled_rules = record {
     pairs = sym (ap (λ u. pair j.answers u (length j.edges)) G.paired.uses) ∙ G.paired.pairs;
-    surfaces = sym (ap (λ u. merge_faces full_table j.answers j.faces u ts) G.paired.uses) ∙ grouped_merges G rm S.removed;
+    surfaces = sym (ap (λ u. merge_faces rules.table j.answers j.faces u ts) G.paired.uses) ∙ grouped_merges G rm S.removed;
     vertices = ap (λ n. vertex_loops j.answers j.points n j.loops) (sym G.tables.numbers) ∙ S.keeps.vertices;
     walks = ap (λ u. walks_of u ts (merged_in m rm) kept) G.paired.uses;
   }
 
   -- what they give to the stages after them
   settled_ground : Ground j (walked_in us ts m rm kept)
-  settled_ground = ground full_table G.paired.loads.bytes j (walked_in us ts m rm kept) G.paired.loads.loads settled_rules
+  settled_ground = ground rules G.paired.loads.bytes j (walked_in us ts m rm kept) G.paired.loads.loads settled_rules
 
   pub settled_linked : Linked us ts rm m.groups
   unfolding walks_of
@@ -114,7 +115,8 @@ module _ {j : Job} {us : List Use} {ts : List ℕ} {m : FaceTables} {kept : List
 -- A JOB WITH ITS WALKS, AND THE TABLES THAT HOLD IT
 
 -- what the tables have of the walks of the definitions, and what is known of these
-pub record Seen (v : Walking) (j : Job) (us : List Use) (ts : List ℕ) (m : FaceTables) (ks : List KeptVertexLoop) (rm : List Bool) (ss : List ℕ) (count total : ℕ) : Type 0 where
+pub record Seen (v : Walking) (set : Rules) (j : Job) (us : List Use) (ts : List ℕ) (m : FaceTables) (ks : List KeptVertexLoop) (rm : List Bool) (ss : List ℕ) (count total : ℕ) : Type 0 where
+  pub rules : set ≡ v.rules
   pub job : j ≡ v.job
   pub uses : us ≡ v.walked.uses
   pub twins : ts ≡ v.walked.twins
@@ -137,10 +139,12 @@ pub record Seen (v : Walking) (j : Job) (us : List Use) (ts : List ℕ) (m : Fac
   pub ground : Ground v.job v.walked
   pub loads : Loads v.job
 
-module _ {j : Job} {us : List Use} {ts : List ℕ} {m : FaceTables} {ks : List KeptVertexLoop} {rm : List Bool} {ss : List ℕ} {count total : ℕ} (S : Settled j us ts m ks rm ss count total) where
-  pub seen : {v : Walking} → record { job = j; walked = walked_in us ts m rm ks } ≡ v → Seen v j us ts m ks rm ss count total
+module _ {rules : Rules} {j : Job} {us : List Use} {ts : List ℕ} {m : FaceTables} {ks : List KeptVertexLoop} {rm : List Bool} {ss : List ℕ} {count total : ℕ}
+    (S : Settled rules j us ts m ks rm ss count total) where
+  pub seen : {v : Walking} → record { rules = rules; job = j; walked = walked_in us ts m rm ks } ≡ v → Seen v rules j us ts m ks rm ss count total
   unfolding walks_of
-  seen {v} e = subst (λ x. Seen x j us ts m ks rm ss count total) e (record {
+  seen {v} e = subst (λ x. Seen x rules j us ts m ks rm ss count total) e (record {
+    rules = refl;
     job = refl;
     uses = refl;
     twins = refl;

@@ -12,7 +12,7 @@ use Rattle.rules.specs.Job.{Job}
 use Rattle.rules.specs.Load.{loaded}
 use Rattle.rules.specs.Read.{uses_of}
 use Rattle.rules.specs.Pair.{pair}
-use Rattle.rules.specs.Rules.{full_table, ordinary}
+use Rattle.rules.specs.declared.Rules.{Rules}
 use Rattle.rules.specs.Merge.{Merged, merge_faces, merged_faces}
 use Rattle.rules.specs.VertexLoops.{vertex_loops}
 use Rattle.rules.specs.Contact.{edges_clear, points_clear}
@@ -33,58 +33,58 @@ use Rattle.rules.specs.declared.Stage.TheVariants.{Pair, Merge, VertexLoops, Wal
 
 -- THE STAGES UP TO A POINT, AND WHAT IS TO DO AFTER THEM
 
-module _ (j : Job) (stage : Option Stage) (room : ℕ) where
-  through_walks : is_asked Pair stage ≡ false → is_asked Merge stage ≡ false → after_reading stage j room (uses_of j) ≡ (walked ordinary j >>= after_keeping stage j room)
+module _ (rules : Rules) (j : Job) (stage : Option Stage) (room : ℕ) where
+  through_walks : is_asked Pair stage ≡ false → is_asked Merge stage ≡ false → after_reading rules stage j room (uses_of j) ≡ (walked rules j >>= after_keeping rules stage j room)
   unfolding walked after_reading after_pairing after_merging
   through_walks b d =
       bind_then (pair j.answers (uses_of j) (length j.edges))
-      (λ ts. merge_faces full_table j.answers j.faces (uses_of j) ts >>= λ m. vertex_loops j.answers j.points (merged_faces m) j.loops >>= λ ks. Ok (walks_of (uses_of j) ts m ks))
-      (after_keeping stage j room)
-      (after_pairing stage j (uses_of j) room)
-      (λ ts. rw b (bind_then (merge_faces full_table j.answers j.faces (uses_of j) ts)
+      (λ ts. merge_faces rules.table j.answers j.faces (uses_of j) ts >>= λ m. vertex_loops j.answers j.points (merged_faces m) j.loops >>= λ ks. Ok (walks_of (uses_of j) ts m ks))
+      (after_keeping rules stage j room)
+      (after_pairing rules stage j (uses_of j) room)
+      (λ ts. rw b (bind_then (merge_faces rules.table j.answers j.faces (uses_of j) ts)
       (λ m. vertex_loops j.answers j.points (merged_faces m) j.loops >>= λ ks. Ok (walks_of (uses_of j) ts m ks))
-      (after_keeping stage j room)
-      (after_merging stage j (uses_of j) ts room)
+      (after_keeping rules stage j room)
+      (after_merging rules stage j (uses_of j) ts room)
       (λ m. rw d (bind_then (vertex_loops j.answers j.points (merged_faces m) j.loops)
       (λ ks. Ok (walks_of (uses_of j) ts m ks))
-      (after_keeping stage j room)
-      (λ ks. after_keeping stage j room (walks_of (uses_of j) ts m ks))
+      (after_keeping rules stage j room)
+      (λ ks. after_keeping rules stage j room (walks_of (uses_of j) ts m ks))
       (λ ks. refl)))))
 
   through_fans : is_asked VertexLoops stage ≡ false → is_asked Walk stage ≡ false → is_asked Loops stage ≡ false
-      → (walked ordinary j >>= after_keeping stage j room) ≡ (fanned ordinary j >>= after_fans stage j room)
+      → (walked rules j >>= after_keeping rules stage j room) ≡ (fanned rules j >>= after_fans rules stage j room)
   unfolding fanned after_keeping after_walks after_loops
   through_fans a b d =
-      bind_then (walked ordinary j)
+      bind_then (walked rules j)
       (λ w. edges_clear PairsInBoundary w.uses w.twins w.merge.boundaries (length j.edges) >>= λ _. Ok (fans_of j w))
-      (after_fans stage j room)
-      (after_keeping stage j room)
+      (after_fans rules stage j room)
+      (after_keeping rules stage j room)
       (λ w. rw (a, b, d) (bind_then (edges_clear PairsInBoundary w.uses w.twins w.merge.boundaries (length j.edges))
       (λ _. Ok (fans_of j w))
-      (after_fans stage j room)
-      (λ _. after_fans stage j room (fans_of j w))
+      (after_fans rules stage j room)
+      (λ _. after_fans rules stage j room (fans_of j w))
       (λ _. refl)))
 
-  through_edges : is_asked Fans stage ≡ false → (fanned ordinary j >>= after_fans stage j room) ≡ (edged ordinary j >>= after_edges stage j room)
+  through_edges : is_asked Fans stage ≡ false → (fanned rules j >>= after_fans rules stage j room) ≡ (edged rules j >>= after_edges rules stage j room)
   unfolding edged after_fans
   through_edges a =
-      bind_then (fanned ordinary j)
+      bind_then (fanned rules j)
       (λ f. points_clear FansInBoundary f.walk.uses f.starts f.walk.merge.boundaries f.names >>= λ _. Ok (record { fan = f; joining = unjoined j f }))
-      (after_edges stage j room)
-      (after_fans stage j room)
+      (after_edges rules stage j room)
+      (after_fans rules stage j room)
       (λ f. rw a (bind_then (points_clear FansInBoundary f.walk.uses f.starts f.walk.merge.boundaries f.names)
       (λ _. Ok (record { fan = f; joining = unjoined j f }))
-      (after_edges stage j room)
-      (λ _. after_edges stage j room (record { fan = f; joining = unjoined j f }))
+      (after_edges rules stage j room)
+      (λ _. after_edges rules stage j room (record { fan = f; joining = unjoined j f }))
       (λ _. refl)))
 
-  through_join : is_asked Edges stage ≡ false → (edged ordinary j >>= after_edges stage j room) ≡ (through_joining ordinary j >>= after_joining stage j room)
+  through_join : is_asked Edges stage ≡ false → (edged rules j >>= after_edges rules stage j room) ≡ (through_joining rules j >>= after_joining stage j room)
   unfolding through_joining after_edges
   through_join a =
-      bind_then (edged ordinary j)
+      bind_then (edged rules j)
       (λ x. maximal_edges j.answers x.fan.starts x.fan.names (length x.fan.names) x.joining >>= λ s. Ok (record { fan = x.fan; joining = s }))
       (after_joining stage j room)
-      (after_edges stage j room)
+      (after_edges rules stage j room)
       (λ x. rw a (bind_then (maximal_edges j.answers x.fan.starts x.fan.names (length x.fan.names) x.joining)
       (λ s. Ok (record { fan = x.fan; joining = s }))
       (after_joining stage j room)
@@ -93,44 +93,44 @@ module _ (j : Job) (stage : Option Stage) (room : ℕ) where
 
 -- SINGLE STAGES
 
-abbrev by_job : Option Stage → ℕ → Job → Outcome (List ℕ)
-by_job stage room j = after_reading stage j room (uses_of j)
+abbrev by_job : Rules → Option Stage → ℕ → Job → Outcome (List ℕ)
+by_job rules stage room j = after_reading rules stage j room (uses_of j)
 
-pub stage_pair : (job : List ℕ) (room : ℕ) → staged (Some Pair) job room ≡ pair_stage job room
+pub stage_pair : (rules : Rules) (job : List ℕ) (room : ℕ) → staged rules (Some Pair) job room ≡ pair_stage job room
 unfolding staged pair_stage after_reading after_pairing is_asked stage_number
-stage_pair job room =
-    bind_same (loaded job) (by_job (Some Pair) room) (λ j. pair j.answers (uses_of j) (length j.edges) >>= stage_bytes room)
-    (λ j. bind_same (pair j.answers (uses_of j) (length j.edges)) (after_pairing (Some Pair) j (uses_of j) room) (stage_bytes room) (λ ts. refl))
+stage_pair rules job room =
+    bind_same (loaded job) (by_job rules (Some Pair) room) (λ j. pair j.answers (uses_of j) (length j.edges) >>= stage_bytes room)
+    (λ j. bind_same (pair j.answers (uses_of j) (length j.edges)) (after_pairing rules (Some Pair) j (uses_of j) room) (stage_bytes room) (λ ts. refl))
 
-pub stage_merge : (job : List ℕ) (room : ℕ) → staged (Some Merge) job room ≡ merge_stage ordinary job room
+pub stage_merge : (rules : Rules) (job : List ℕ) (room : ℕ) → staged rules (Some Merge) job room ≡ merge_stage rules job room
 unfolding staged merge_stage after_reading after_pairing after_merging is_asked stage_number
-stage_merge job room =
-    bind_same (loaded job) (by_job (Some Merge) room)
-    (λ j. pair j.answers (uses_of j) (length j.edges) >>= λ ts. merge_faces full_table j.answers j.faces (uses_of j) ts >>= fields j)
-    (λ j. bind_same (pair j.answers (uses_of j) (length j.edges)) (after_pairing (Some Merge) j (uses_of j) room) (λ ts. merge_faces full_table j.answers j.faces (uses_of j) ts >>= fields j)
-    (λ ts. bind_same (merge_faces full_table j.answers j.faces (uses_of j) ts) (after_merging (Some Merge) j (uses_of j) ts room) (fields j) (λ m. refl)))
+stage_merge rules job room =
+    bind_same (loaded job) (by_job rules (Some Merge) room)
+    (λ j. pair j.answers (uses_of j) (length j.edges) >>= λ ts. merge_faces rules.table j.answers j.faces (uses_of j) ts >>= fields j)
+    (λ j. bind_same (pair j.answers (uses_of j) (length j.edges)) (after_pairing rules (Some Merge) j (uses_of j) room) (λ ts. merge_faces rules.table j.answers j.faces (uses_of j) ts >>= fields j)
+    (λ ts. bind_same (merge_faces rules.table j.answers j.faces (uses_of j) ts) (after_merging rules (Some Merge) j (uses_of j) ts room) (fields j) (λ m. refl)))
   where
     fields : Job → Merged → Outcome (List ℕ)
     fields j m = stage_bytes room (flat_map (group_fields m) (below (length j.faces)))
 
-module _ (job : List ℕ) (room : ℕ) where
+module _ (rules : Rules) (job : List ℕ) (room : ℕ) where
   -- a stage after the walks
   from_walks : (stage : Option Stage) (fields : Walked → Outcome (List ℕ)) → is_asked Pair stage ≡ false → is_asked Merge stage ≡ false
-      → ((j : Job) (w : Walked) → after_keeping stage j room w ≡ fields w) → staged stage job room ≡ (loaded job >>= λ j. walked ordinary j >>= fields)
+      → ((j : Job) (w : Walked) → after_keeping rules stage j room w ≡ fields w) → staged rules stage job room ≡ (loaded job >>= λ j. walked rules j >>= fields)
   unfolding staged
   from_walks stage fields b d e =
-      bind_same (loaded job) (by_job stage room) (λ j. walked ordinary j >>= fields)
-      (λ j. through_walks j stage room b d ∙ bind_same (walked ordinary j) (after_keeping stage j room) fields (e j))
+      bind_same (loaded job) (by_job rules stage room) (λ j. walked rules j >>= fields)
+      (λ j. through_walks rules j stage room b d ∙ bind_same (walked rules j) (after_keeping rules stage j room) fields (e j))
 
-  pub stage_vertex_loops : staged (Some VertexLoops) job room ≡ vertex_loop_stage ordinary job room
+  pub stage_vertex_loops : staged rules (Some VertexLoops) job room ≡ vertex_loop_stage rules job room
   unfolding vertex_loop_stage after_keeping is_asked stage_number
   stage_vertex_loops = from_walks (Some VertexLoops) (λ w. stage_bytes room (flat_map kept_fields w.vertex_loops)) refl refl (λ j w. refl)
 
-  pub stage_walk : staged (Some Walk) job room ≡ walk_stage ordinary job room
+  pub stage_walk : staged rules (Some Walk) job room ≡ walk_stage rules job room
   unfolding walk_stage after_keeping after_walks is_asked stage_number
   stage_walk = from_walks (Some Walk) (λ w. stage_bytes room (flat_map (walk_fields w) (kept_uses w.merge.removed))) refl refl (λ j w. refl)
 
-  pub stage_loops : staged (Some Loops) job room ≡ loop_stage ordinary job room
+  pub stage_loops : staged rules (Some Loops) job room ≡ loop_stage rules job room
   unfolding loop_stage after_keeping after_walks is_asked stage_number
   stage_loops = from_walks (Some Loops) (λ w. stage_bytes room (flat_map (loop_fields w) (loops_of w.circuits))) refl refl (λ j w. refl)
 
@@ -138,61 +138,62 @@ module _ (job : List ℕ) (room : ℕ) where
   abbrev fans_out : Job → Fanned → Outcome (List ℕ)
   fans_out j f = stage_bytes room (flat_map (fan_fields f) (keep (kept_with_ends j.edges f.walk.uses f.walk.merge.removed) (below (length f.walk.uses))))
 
-  pub stage_fans : staged (Some Fans) job room ≡ fan_stage ordinary job room
+  pub stage_fans : staged rules (Some Fans) job room ≡ fan_stage rules job room
   unfolding staged fan_stage after_fans is_asked stage_number
   stage_fans =
-      bind_same (loaded job) (by_job (Some Fans) room) (λ j. fanned ordinary j >>= fans_out j)
-      (λ j. through_walks j (Some Fans) room refl refl ∙ through_fans j (Some Fans) room refl refl refl ∙ bind_same (fanned ordinary j) (after_fans (Some Fans) j room) (fans_out j) (λ f. refl))
+      bind_same (loaded job) (by_job rules (Some Fans) room) (λ j. fanned rules j >>= fans_out j)
+      (λ j. through_walks rules j (Some Fans) room refl refl ∙ through_fans rules j (Some Fans) room refl refl refl
+      ∙ bind_same (fanned rules j) (after_fans rules (Some Fans) j room) (fans_out j) (λ f. refl))
 
-  pub stage_edges : staged (Some Edges) job room ≡ edge_stage ordinary job room
+  pub stage_edges : staged rules (Some Edges) job room ≡ edge_stage rules job room
   unfolding staged edge_stage after_edges is_asked stage_number
   stage_edges =
-      bind_same (loaded job) (by_job (Some Edges) room) (λ j. edged ordinary j >>= λ x. stage_bytes room (joining_fields x.joining))
-      (λ j. through_walks j (Some Edges) room refl refl ∙ through_fans j (Some Edges) room refl refl refl ∙ through_edges j (Some Edges) room refl
-      ∙ bind_same (edged ordinary j) (after_edges (Some Edges) j room) (λ x. stage_bytes room (joining_fields x.joining)) (λ x. refl))
+      bind_same (loaded job) (by_job rules (Some Edges) room) (λ j. edged rules j >>= λ x. stage_bytes room (joining_fields x.joining))
+      (λ j. through_walks rules j (Some Edges) room refl refl ∙ through_fans rules j (Some Edges) room refl refl refl ∙ through_edges rules j (Some Edges) room refl
+      ∙ bind_same (edged rules j) (after_edges rules (Some Edges) j room) (λ x. stage_bytes room (joining_fields x.joining)) (λ x. refl))
 
   -- a stage after joining
   from_joining : (stage : Option Stage) (fields : Job → Joined → Outcome (List ℕ)) → is_asked Pair stage ≡ false → is_asked Merge stage ≡ false
       → is_asked VertexLoops stage ≡ false → is_asked Walk stage ≡ false → is_asked Loops stage ≡ false → is_asked Fans stage ≡ false → is_asked Edges stage ≡ false
-      → ((j : Job) (x : Joined) → after_joining stage j room x ≡ fields j x) → (j : Job) → by_job stage room j ≡ (through_joining ordinary j >>= fields j)
+      → ((j : Job) (x : Joined) → after_joining stage j room x ≡ fields j x) → (j : Job) → by_job rules stage room j ≡ (through_joining rules j >>= fields j)
   from_joining stage fields b d e f g h i same j =
-      through_walks j stage room b d ∙ through_fans j stage room e f g ∙ through_edges j stage room h ∙ through_join j stage room i
-      ∙ bind_same (through_joining ordinary j) (after_joining stage j room) (fields j) (same j)
+      through_walks rules j stage room b d ∙ through_fans rules j stage room e f g ∙ through_edges rules j stage room h ∙ through_join rules j stage room i
+      ∙ bind_same (through_joining rules j) (after_joining stage j room) (fields j) (same j)
 
-  pub stage_joining : staged (Some JoiningStage) job room ≡ joining_stage ordinary job room
+  pub stage_joining : staged rules (Some JoiningStage) job room ≡ joining_stage rules job room
   unfolding staged joining_stage after_joining is_asked stage_number
   stage_joining =
-      bind_same (loaded job) (by_job (Some JoiningStage) room) (λ j. through_joining ordinary j >>= λ x. stage_bytes room (joining_fields x.joining))
+      bind_same (loaded job) (by_job rules (Some JoiningStage) room) (λ j. through_joining rules j >>= λ x. stage_bytes room (joining_fields x.joining))
       (from_joining (Some JoiningStage) (λ j x. stage_bytes room (joining_fields x.joining)) refl refl refl refl refl refl refl (λ j x. refl))
 
   abbrev shells_out : Job → Joined → Outcome (List ℕ)
   shells_out j x = shells_of j x.fan.walk >>= λ ss. stage_bytes room (flat_map shell_fields ss)
 
-  pub stage_shells : staged (Some Shells) job room ≡ shell_stage ordinary job room
+  pub stage_shells : staged rules (Some Shells) job room ≡ shell_stage rules job room
   unfolding staged shell_stage after_joining after_shells is_asked stage_number
   stage_shells =
-      bind_same (loaded job) (by_job (Some Shells) room) (λ j. through_joining ordinary j >>= shells_out j)
+      bind_same (loaded job) (by_job rules (Some Shells) room) (λ j. through_joining rules j >>= shells_out j)
       (from_joining (Some Shells) shells_out refl refl refl refl refl refl refl
       (λ j x. bind_same (shells_of j x.fan.walk) (after_shells (Some Shells) j x room) (λ ss. stage_bytes room (flat_map shell_fields ss)) (λ ss. refl)))
 
   abbrev nested_out : Job → Joined → (List Nested → Outcome (List ℕ)) → Outcome (List ℕ)
   nested_out j x last = shells_of j x.fan.walk >>= λ ss. nested j.answers ss >>= last
 
-  pub stage_lumps : staged (Some Lumps) job room ≡ lump_stage ordinary job room
+  pub stage_lumps : staged rules (Some Lumps) job room ≡ lump_stage rules job room
   unfolding staged lump_stage after_joining after_shells after_nesting is_asked stage_number
   stage_lumps =
-      bind_same (loaded job) (by_job (Some Lumps) room) (λ j. through_joining ordinary j >>= λ x. nested_out j x (λ ns. stage_bytes room (lump_fields 0 (lumps ns))))
+      bind_same (loaded job) (by_job rules (Some Lumps) room) (λ j. through_joining rules j >>= λ x. nested_out j x (λ ns. stage_bytes room (lump_fields 0 (lumps ns))))
       (from_joining (Some Lumps) (λ j x. nested_out j x (λ ns. stage_bytes room (lump_fields 0 (lumps ns)))) refl refl refl refl refl refl refl
       (λ j x. bind_same (shells_of j x.fan.walk) (after_shells (Some Lumps) j x room) (λ ss. nested j.answers ss >>= λ ns. stage_bytes room (lump_fields 0 (lumps ns)))
       (λ ss. bind_same (nested j.answers ss) (after_nesting (Some Lumps) j x room) (λ ns. stage_bytes room (lump_fields 0 (lumps ns))) (λ ns. refl))))
 
   -- THE BODY
 
-  solid_fits : (j : Job) → by_job None room j ≡ (solid ordinary j >>= λ b. fitting room (framed_all (body_records b)))
+  solid_fits : (j : Job) → by_job rules None room j ≡ (solid rules j >>= λ b. fitting room (framed_all (body_records b)))
   unfolding solid after_joining after_shells after_nesting after_lumps is_asked stage_number
   solid_fits j =
       from_joining None (λ j x. nested_out j x (λ ns. lumps_clear j x.fan ns >>= λ _. fitting room (framed_all (body_records (body_of j x ns))))) refl refl refl refl refl refl refl (λ j x. refl) j
-      ∙ bind_then (through_joining ordinary j)
+      ∙ bind_then (through_joining rules j)
       (λ x. shells_of j x.fan.walk >>= λ ss. nested j.answers ss >>= λ ns. lumps_clear j x.fan ns >>= λ _. Ok (body_of j x ns))
       whole
       (λ x. nested_out j x (λ ns. lumps_clear j x.fan ns >>= λ _. whole (body_of j x ns)))
@@ -209,13 +210,13 @@ module _ (job : List ℕ) (room : ℕ) where
       whole : Body → Outcome (List ℕ)
       whole b = fitting room (framed_all (body_records b))
 
-  pub stage_body : sewn_by job room ≡ sewn ordinary job room
+  pub stage_body : sewn_by rules job room ≡ sewn rules job room
   unfolding sewn_by sewn_from sewn rebuild is_asked stage_number
   stage_body =
       bind_same (loaded job)
-      (λ j. cond (eqb (length j.faces) 0) (whole empty_body) (by_job None room j))
-      (λ j. cond (eqb (length j.faces) 0) (Ok empty_body) (solid ordinary j) >>= whole)
-      (λ j. ap (λ o. cond (eqb (length j.faces) 0) (whole empty_body) o) (solid_fits j) ∙ sym (either (eqb (length j.faces) 0) (solid ordinary j)))
+      (λ j. cond (eqb (length j.faces) 0) (whole empty_body) (by_job rules None room j))
+      (λ j. cond (eqb (length j.faces) 0) (Ok empty_body) (solid rules j) >>= whole)
+      (λ j. ap (λ o. cond (eqb (length j.faces) 0) (whole empty_body) o) (solid_fits j) ∙ sym (either (eqb (length j.faces) 0) (solid rules j)))
     where
       whole : Body → Outcome (List ℕ)
       whole b = fitting room (framed_all (body_records b))

@@ -2,13 +2,14 @@
 
 use loaded::Loaded;
 use merge_faces::Faces;
-use rules::{KeptVertexLoop, Use};
+use rules::{KeptVertexLoop, Rules, Use};
 use std::marker::Model;
 
-// A job once its faces are merged: its uses, the twin of each, and the merged faces. Contracts see the merging of the
+// A job once its faces are merged by these rules: its uses, the twin of each, and the merged faces. Contracts see the merging of the
 // definitions, with the uses that it removes.
 #[derive(Drop)]
 pub struct Merged<'a> {
+    pub rules: Rules,
     pub job: &'a Loaded<'a>,
     pub uses: &'a [Use],
     pub twins: &'a [u32],
@@ -20,14 +21,15 @@ impl<'a> Model for Merged<'a> {
 
     ghost Value = { Merging };
 
-    ghost view = { λ m. record { job = m.job.now; uses = m.uses.now; twins = m.twins.now; merged = merged_by m.uses.now m.twins.now m.faces.now } };
+    ghost view = { λ m. record { rules = m.rules; job = m.job.now; uses = m.uses.now; twins = m.twins.now; merged = merged_by m.uses.now m.twins.now m.faces.now } };
 
-    ghost invariant = { λ m. Grouped m.job.now m.uses.now m.twins.now m.faces.now };
+    ghost invariant = { λ m. Grouped m.rules m.job.now m.uses.now m.twins.now m.faces.now };
 }
 
 // And once its vertex loops are kept. Contracts see the walks that these make.
 #[derive(Drop)]
 pub struct Kept<'a> {
+    pub rules: Rules,
     pub job: &'a Loaded<'a>,
     pub uses: &'a [Use],
     pub twins: &'a [u32],
@@ -41,7 +43,7 @@ impl<'a> Model for Kept<'a> {
 
     ghost Value = { Walking };
 
-    ghost view = { λ k. record { job = k.job.now; walked = walks_of k.uses.now k.twins.now (merged_by k.uses.now k.twins.now k.faces.now) k.vertex_loops.now } };
+    ghost view = { λ k. record { rules = k.rules; job = k.job.now; walked = walks_of k.uses.now k.twins.now (merged_by k.uses.now k.twins.now k.faces.now) k.vertex_loops.now } };
 
-    ghost invariant = { λ k. KeptBy k.job.now k.uses.now k.twins.now k.faces.now k.vertex_loops.now };
+    ghost invariant = { λ k. KeptBy k.rules k.job.now k.uses.now k.twins.now k.faces.now k.vertex_loops.now };
 }

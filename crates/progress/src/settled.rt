@@ -5,15 +5,16 @@ ghost use Rattle.std.specs.Prelude.{◌≡◌, length};
 use fans::KeptUses;
 use loaded::Loaded;
 use merge_faces::Faces;
-use rules::{KeptVertexLoop, Use};
+use rules::{KeptVertexLoop, Rules, Use};
 use std::marker::Model;
 use walk::Steps;
 
-// A job through its walks: the uses and the twin of each, the merged faces, the vertex loops kept, which uses are removed
+// A job through its walks, by these rules: the uses and the twin of each, the merged faces, the vertex loops kept, which uses are removed
 // and how many, the successor of each use, and how many uses were passed over in total. Contracts see the walks of the
 // definitions.
 #[derive(Drop)]
 pub struct Walks<'a> {
+    pub rules: Rules,
     pub job: &'a Loaded<'a>,
     pub uses: &'a [Use],
     pub twins: &'a [u32],
@@ -30,9 +31,9 @@ impl<'a> Model for Walks<'a> {
 
     ghost Value = { Walking };
 
-    ghost view = { λ w. record { job = w.job.now; walked = walked_in w.uses.now w.twins.now w.faces.now w.removed.now w.kept.now } };
+    ghost view = { λ w. record { rules = w.rules; job = w.job.now; walked = walked_in w.uses.now w.twins.now w.faces.now w.removed.now w.kept.now } };
 
-    ghost invariant = { λ w. Settled w.job.now w.uses.now w.twins.now w.faces.now w.kept.now w.removed.now w.succ.now w.gone w.passed };
+    ghost invariant = { λ w. Settled w.rules w.job.now w.uses.now w.twins.now w.faces.now w.kept.now w.removed.now w.succ.now w.gone w.passed };
 }
 
 impl<'a> Walks<'a> {

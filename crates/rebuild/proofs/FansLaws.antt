@@ -5,6 +5,7 @@ use Rattle.lists.specs.Lists.{◌∈◌, Nodup}
 use Rattle.lists.specs.Runs.{pigeon_below}
 use Rattle.rules.specs.declared.Use.{Use}
 use Rattle.rules.specs.declared.KeptVertexLoop.{KeptVertexLoop}
+use Rattle.rules.specs.declared.Rules.{Rules}
 use Rattle.rules.specs.Job.{Job}
 use Rattle.rules.specs.Sew.{fans_of, Fanned}
 use Rattle.theorems.specs.Fanning.{FansHold, fan_list}
@@ -16,26 +17,26 @@ use Rattle.rebuild.specs.Fanning.{Fanning}
 
 -- the walks of a job with fans
 abbrev pub walking : Fanning → Walking
-walking v = record { job = v.job; walked = v.fan.walk }
+walking v = record { rules = v.rules; job = v.job; walked = v.fan.walk }
 
 -- what the tables have of the fans of the definitions
-pub record FansSeen (v : Fanning) (j : Job) (us : List Use) (ts : List ℕ) (m : FaceTables) (ks : List KeptVertexLoop) (rm : List Bool) (ss : List ℕ) (count total : ℕ)
+pub record FansSeen (v : Fanning) (set : Rules) (j : Job) (us : List Use) (ts : List ℕ) (m : FaceTables) (ks : List KeptVertexLoop) (rm : List Bool) (ss : List ℕ) (count total : ℕ)
     (fs ns ps : List ℕ) : Type 0 where
-  pub walks : Seen (walking v) j us ts m ks rm ss count total
+  pub walks : Seen (walking v) set j us ts m ks rm ss count total
   pub fans : fs ≡ v.fan.fans
   pub names : ns ≡ v.fan.names
   pub starts : ps ≡ v.fan.starts
   pub fan : v.fan ≡ fans_of v.job v.fan.walk
   pub size : length ss ≡ length v.fan.walk.uses
 
-pub fans_seen : {w : Walking} {j : Job} {us : List Use} {ts : List ℕ} {m : FaceTables} {kept : List KeptVertexLoop} {rm : List Bool} {ss : List ℕ} {gone total : ℕ}
+pub fans_seen : {w : Walking} {rules : Rules} {j : Job} {us : List Use} {ts : List ℕ} {m : FaceTables} {kept : List KeptVertexLoop} {rm : List Bool} {ss : List ℕ} {gone total : ℕ}
     {fans names starts : List ℕ} {v : Fanning}
-    → Settled j us ts m kept rm ss gone total → record { job = j; walked = walked_in us ts m rm kept } ≡ w
+    → Settled rules j us ts m kept rm ss gone total → record { rules = rules; job = j; walked = walked_in us ts m rm kept } ≡ w
     → record { walk = w.walked; fans = fans; names = names; starts = starts } ≡ fans_of w.job w.walked
-    → record { job = w.job; fan = record { walk = w.walked; fans = fans; names = names; starts = starts } } ≡ v
-    → FansSeen v j us ts m kept rm ss gone total fans names starts
-fans_seen {w} {j} {us} {ts} {m} {kept} {rm} {ss} {gone} {total} {fans} {names} {starts} S walks is e =
-    subst (λ x. FansSeen x j us ts m kept rm ss gone total fans names starts) e (record {
+    → record { rules = w.rules; job = w.job; fan = record { walk = w.walked; fans = fans; names = names; starts = starts } } ≡ v
+    → FansSeen v rules j us ts m kept rm ss gone total fans names starts
+fans_seen {w} {rules} {j} {us} {ts} {m} {kept} {rm} {ss} {gone} {total} {fans} {names} {starts} S walks is e =
+    subst (λ x. FansSeen x rules j us ts m kept rm ss gone total fans names starts) e (record {
       walks = seen S walks;
       fans = refl;
       names = refl;
@@ -44,8 +45,9 @@ fans_seen {w} {j} {us} {ts} {m} {kept} {rm} {ss} {gone} {total} {fans} {names} {
       size = (settled_permuted S).size ∙ ap length (seen S walks).uses;
     })
 
-module _ {v : Fanning} {j : Job} {us : List Use} {ts : List ℕ} {m : FaceTables} {kept : List KeptVertexLoop} {rm : List Bool} {ss : List ℕ} {gone total : ℕ} {fans names starts : List ℕ}
-    (F : FansSeen v j us ts m kept rm ss gone total fans names starts) where
+module _ {v : Fanning} {rules : Rules} {j : Job} {us : List Use} {ts : List ℕ} {m : FaceTables} {kept : List KeptVertexLoop} {rm : List Bool} {ss : List ℕ}
+    {gone total : ℕ} {fans names starts : List ℕ}
+    (F : FansSeen v rules j us ts m kept rm ss gone total fans names starts) where
   pub fanned_names : v.fan.names ≡ fan_list v.job v.fan.walk
   unfolding fans_of
   fanned_names = ap (λ (f : Fanned). f.names) F.fan

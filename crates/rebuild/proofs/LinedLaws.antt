@@ -11,6 +11,7 @@ use Rattle.lists.specs.Tables.{table_is}
 use Rattle.rules.specs.declared.Use.{Use}
 use Rattle.rules.specs.declared.EdgeData.{EdgeData}
 use Rattle.rules.specs.declared.KeptVertexLoop.{KeptVertexLoop}
+use Rattle.rules.specs.declared.Rules.{Rules}
 use Rattle.rules.specs.Job.{Job}
 use Rattle.rules.specs.Walk.{circuit_uses, circuits, loops_of}
 use Rattle.rules.specs.Edges.{edges_of, FaceLoop, face_loops}
@@ -60,8 +61,9 @@ loop_kept_lem n rm ss P l m h i =
     let r = map_in circuit_uses (circuits rm ss) l m in
     closed_kept P r.0 h ((circuits_parting P).closed r.0 r.1) (subst (λ x. h ∈ x) r.2 i)
 
-module _ {v : Fanning} {j : Job} {us : List Use} {ts : List ℕ} {m : FaceTables} {kept : List KeptVertexLoop} {rm : List Bool} {ss : List ℕ} {gone total : ℕ} {fans names starts : List ℕ}
-    (S : Settled j us ts m kept rm ss gone total) (F : FansSeen v j us ts m kept rm ss gone total fans names starts) where
+module _ {v : Fanning} {rules : Rules} {j : Job} {us : List Use} {ts : List ℕ} {m : FaceTables} {kept : List KeptVertexLoop} {rm : List Bool} {ss : List ℕ}
+    {gone total : ℕ} {fans names starts : List ℕ}
+    (S : Settled rules j us ts m kept rm ss gone total) (F : FansSeen v rules j us ts m kept rm ss gone total fans names starts) where
   twins : Twins us ts
   twins = paired_twins S.keeps.grouped.paired
 
@@ -160,8 +162,8 @@ joined_tables names rows rows' {items' = items'} {stretches' = stretches'} n {k 
     }
 
 -- and each edge still has no ends or two fans
-pub joined_ended : {v : Fanning} {j : Job} {us : List Use} {ts : List ℕ} {m : FaceTables} {kept : List KeptVertexLoop} {rm : List Bool} {ss : List ℕ} {gone total : ℕ}
-    {fans names starts : List ℕ} (F : FansSeen v j us ts m kept rm ss gone total fans names starts) (rows rows' : List EdgeData) (n : ℕ) (items items' : List ℕ)
+pub joined_ended : {v : Fanning} {rules : Rules} {j : Job} {us : List Use} {ts : List ℕ} {m : FaceTables} {kept : List KeptVertexLoop} {rm : List Bool} {ss : List ℕ} {gone total : ℕ}
+    {fans names starts : List ℕ} (F : FansSeen v rules j us ts m kept rm ss gone total fans names starts) (rows rows' : List EdgeData) (n : ℕ) (items items' : List ℕ)
     (stretches stretches' : List Span) (faces : List ℕ) {q : Outcome Joins} {k : Joins}
     → (q >>= λ k. Ok (state_in rows' k.edges items' stretches' faces k.joins k.rings)) ≡ maximal_edges j.answers starts names (length names) (state_in rows n items stretches faces 0 0)
     → q ≡ Ok k → EndsAreFans (take n rows) v.fan.names → EndsAreFans (take k.edges rows') v.fan.names

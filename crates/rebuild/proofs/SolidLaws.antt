@@ -5,6 +5,7 @@ use Rattle.lists.specs.Membership.{in_get_or}
 use Rattle.rules.specs.declared.Use.{Use}
 use Rattle.rules.specs.declared.EdgeData.{EdgeData}
 use Rattle.rules.specs.declared.KeptVertexLoop.{KeptVertexLoop}
+use Rattle.rules.specs.declared.Rules.{Rules}
 use Rattle.rules.specs.Job.{Job}
 use Rattle.rules.specs.Join.{edge_data_at, no_edge_data}
 use Rattle.theorems.specs.Linked.{RingOrFans, EndsAreFans}
@@ -17,8 +18,8 @@ use Rattle.rebuild.specs.Fanning.{Fanning, Drawing}
 use Rattle.rebuild.specs.Tables.{boundaries_of, members_of}
 use Rattle.rebuild.proofs.FansLaws.{FansSeen, names_below}
 
-module _ {v : Fanning} {j : Job} {us : List Use} {ts : List ℕ} {m : FaceTables} {ks : List KeptVertexLoop} {rm : List Bool} {ss : List ℕ} {count total : ℕ} {fs ns ps : List ℕ}
-    (F : FansSeen v j us ts m ks rm ss count total fs ns ps) where
+module _ {v : Fanning} {rules : Rules} {j : Job} {us : List Use} {ts : List ℕ} {m : FaceTables} {ks : List KeptVertexLoop} {rm : List Bool} {ss : List ℕ} {count total : ℕ} {fs ns ps : List ℕ}
+    (F : FansSeen v rules j us ts m ks rm ss count total fs ns ps) where
   -- the ends of an edge are fans, which are uses, or none
   edge_ok : (size : ℕ) (e : EdgeData) → length us ≤ size → RingOrFans ns e → EdgeOk size e
   edge_ok size e h r = let low = names_below F in grind (arith, low)

@@ -32,7 +32,7 @@ impl<'a> Model for Drawn<'a> {
 
     ghost Value = { Drawing };
 
-    ghost view = { λ d. record { job = d.fans.now.job; joined = record { fan = d.fans.now.fan; joining = d.joining.now } } };
+    ghost view = { λ d. record { rules = d.fans.now.rules; job = d.fans.now.job; joined = record { fan = d.fans.now.fan; joining = d.joining.now } } };
 
     ghost invariant = { λ d. EndsAreFans d.joining.now.edges d.fans.now.fan.names };
 }
@@ -40,7 +40,7 @@ impl<'a> Model for Drawn<'a> {
 impl<'a> Drawn<'a> {
     // The walks below.
     fn walks(&self) -> &'a Walks<'a>
-        ensures { result.now ≡ record { job = self.now.job; walked = self.now.joined.fan.walk } }
+        ensures { result.now ≡ record { rules = self.now.rules; job = self.now.job; walked = self.now.joined.fan.walk } }
     {
         let f = self.fans;
         f.walks

@@ -4,7 +4,6 @@ ghost use Rattle.std.specs.Prelude.{◌≡◌, ◌*◌, ◌≤◌, length, take}
 ghost use Rattle.rules.specs.Contact.{points_clear};
 ghost use Rattle.rules.specs.Sew.{unjoined, Ends};
 ghost use Rattle.maximal_edges.specs.Joined.{state_in};
-ghost use Rattle.maximal_edges.specs.Hung.{SoundIn};
 ghost use Rattle.progress.specs.Chain.{after_fans, after_edges};
 ghost use Rattle.rebuild.specs.Lined.{Roomy, Lined};
 
@@ -35,7 +34,7 @@ impl<'a> Model for Fans<'a> {
 
     ghost Value = { Fanning };
 
-    ghost view = { λ f. record { job = f.walks.now.job; fan = record { walk = f.walks.now.walked; fans = f.fans.now; names = f.names.now; starts = f.starts.now } } };
+    ghost view = { λ f. record { rules = f.walks.now.rules; job = f.walks.now.job; fan = record { walk = f.walks.now.walked; fans = f.fans.now; names = f.names.now; starts = f.starts.now } } };
 
     ghost invariant = { λ f. record { walk = f.walks.now.walked; fans = f.fans.now; names = f.names.now; starts = f.starts.now } ≡ fans_of f.walks.now.job f.walks.now.walked };
 }
@@ -63,7 +62,7 @@ pub fn on_fanned<const USES: usize>(
     out: &mut [u8],
 ) -> Result<usize, Refusal>
     requires { (length f.now.fan.walk.uses ≤ USES) × (USES ≤ 2048) }
-    ensures { Ends (after_fans stage f.now.job (length out.old) f.now.fan) out.old out.new result }
+    ensures { Ends (after_fans f.now.rules stage f.now.job (length out.old) f.now.fan) out.old out.new result }
 {
     let w = f.walks;
     // A test in each step and no table of closures: each stage is handed other tables, which a closure could not own.
@@ -126,7 +125,7 @@ fn draw_in_tables<const USES: usize>(
     out: &mut [u8],
 ) -> Result<usize, Refusal>
     requires { (length f.now.fan.walk.uses ≤ USES) × (USES ≤ 2048) }
-    ensures { Ends (after_edges stage f.now.job (length out.old) (record { fan = f.now.fan; joining = unjoined f.now.job f.now.fan })) out.old out.new result }
+    ensures { Ends (after_edges f.now.rules stage f.now.job (length out.old) (record { fan = f.now.fan; joining = unjoined f.now.job f.now.fan })) out.old out.new result }
 {
     let w = f.walks;
     let n = w.uses.len();
@@ -166,7 +165,8 @@ fn on_edged<'a, const USES: usize>(
     out: &mut [u8],
 ) -> Result<usize, Refusal>
     requires { Lined f.now rows.old count items.old stretches.old faces.now × (length rows.old ≤ USES) × (length f.now.fan.walk.uses ≤ USES) × (USES ≤ 2048) }
-    ensures { Ends (after_edges stage f.now.job (length out.old) (record { fan = f.now.fan; joining = state_in rows.old count items.old stretches.old faces.now 0 0 })) out.old out.new result }
+    ensures { Ends (after_edges f.now.rules stage f.now.job (length out.old)
+        (record { fan = f.now.fan; joining = state_in rows.old count items.old stretches.old faces.now 0 0 })) out.old out.new result }
 {
     if Stage::Edges.is_asked(stage) {
         let unjoined = Joining {

@@ -66,7 +66,7 @@ fn fans_in_tables<const USES: usize>(
     out: &mut [u8],
 ) -> Result<usize, Refusal>
     requires { (length w.now.walked.uses ≤ USES) × (USES ≤ 2048) }
-    ensures { Ends (after_fans stage w.now.job (length out.old) (fans_of w.now.job w.now.walked)) out.old out.new result }
+    ensures { Ends (after_fans w.now.rules stage w.now.job (length out.old) (fans_of w.now.job w.now.walked)) out.old out.new result }
 {
     let kept = w.kept_uses();
     let n = kept.uses.len();
@@ -89,7 +89,7 @@ fn fans_in_tables<const USES: usize>(
 // The stages from 30 on: the fans, and what follows them.
 #[tactic(auto, unfolding(progress::specs::Chain::after_loops, rules::specs::Sew::walks_of))]
 pub fn rebuild(stage: Option<Stage>, w: &Walks<'_>, out: &mut [u8]) -> Result<usize, Refusal>
-    ensures { Ends (after_loops stage w.now.job (length out.old) w.now.walked) out.old out.new result }
+    ensures { Ends (after_loops w.now.rules stage w.now.job (length out.old) w.now.walked) out.old out.new result }
 {
     clear_edges(Fault::PairsInBoundary, w, w.faces.boundaries())?;
     if w.uses.len() <= FEW {

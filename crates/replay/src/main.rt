@@ -12,7 +12,7 @@ use programs::Program;
 use rules::{Refusal, Stage};
 
 // One byte more than a packed file may have: a longer file is told by its length.
-const FILE: usize = 2000001;
+const FILE: usize = 3000001;
 
 // What is lent to a stage, which needs less, and for sewing with no room of its own.
 const OUT: usize = 131072;
@@ -32,6 +32,8 @@ enum Operation {
     Single(Stage),
     LoopRequests,
     SewingInRoom,
+    SewingWithTable,
+    WalkWithTable,
     // A number that none has: the job is sewn.
     Unknown(usize),
 }
@@ -48,6 +50,8 @@ impl From<usize> for Operation {
             0 => Operation::Sewing,
             12 => Operation::LoopRequests,
             13 => Operation::SewingInRoom,
+            14 => Operation::SewingWithTable,
+            15 => Operation::WalkWithTable,
             _ => match Stage::numbered(n) {
                 Some(stage) => Operation::Single(stage),
                 None => Operation::Unknown(n),
@@ -66,13 +70,23 @@ impl Operation {
             Operation::Single(stage) => stage.number(),
             Operation::LoopRequests => 12,
             Operation::SewingInRoom => 13,
+            Operation::SewingWithTable => 14,
+            Operation::WalkWithTable => 15,
             Operation::Unknown(n) => n,
         }
     }
 
     // Whether bytes of its output are packed behind the hash, after their count.
     fn shows_output(self) -> bool {
-        matches!(self, Operation::Sewing | Operation::SewingInRoom)
+        matches!(
+            self,
+            Operation::Sewing | Operation::SewingInRoom | Operation::SewingWithTable,
+        )
+    }
+
+    // Whether a joining table is packed behind its number, after the table's length.
+    fn takes_table(self) -> bool {
+        matches!(self, Operation::SewingWithTable | Operation::WalkWithTable)
     }
 }
 
@@ -100,10 +114,11 @@ struct Output {
     shown: usize,
 }
 
-// A packed answer: the operation, its room, the answer, the output's bytes.
+// A packed answer: the operation, its joining table, its room, the answer, the output's bytes.
 #[derive(Clone, Copy)]
 struct Packed<'a> {
     operation: Operation,
+    table: &'a [u8],
     room: usize,
     answer: Result<Output, Refused>,
     output: &'a [u8],
@@ -147,11 +162,21 @@ impl<'a> Reader<'a> {
         Some((job, count))
     }
 
+    // The joining table of an operation, by its length; no bytes for one that takes none.
+    fn table(&mut self, operation: Operation) -> Option<&'a [u8]> {
+        if !operation.takes_table() {
+            return Some(&[]);
+        }
+        let length = self.field()?;
+        self.part(length as usize)
+    }
+
     // An answer: 0, length and hash of an output, or number and place of a refusal.
     fn answer(&mut self) -> Option<Packed<'a>> {
         let operation = Operation::from(self.field()? as usize);
+        let table = self.table(operation)?;
         let room = match operation {
-            Operation::Sewing => BODY,
+            Operation::Sewing | Operation::SewingWithTable => BODY,
             Operation::SewingInRoom => self.field()? as usize,
             _ => OUT,
         };
@@ -160,6 +185,7 @@ impl<'a> Reader<'a> {
             let place = self.field()? as usize;
             return Some(Packed {
                 operation,
+                table,
                 room,
                 answer: Err(Refused { number, place }),
                 output: &[],
@@ -175,6 +201,7 @@ impl<'a> Reader<'a> {
         let output = self.part(shown)?;
         Some(Packed {
             operation,
+            table,
             room,
             answer: Ok(Output {
                 length,
@@ -228,9 +255,11 @@ fn requests(job: &[u8], out: &mut [u8]) -> usize {
     p
 }
 
-// The answer of an operation, worked out anew.
-fn run(operation: Operation, job: &[u8], out: &mut [u8]) -> Result<usize, Refusal> {
+// The answer of an operation, with its joining table, worked out anew.
+fn run(operation: Operation, table: &[u8], job: &[u8], out: &mut [u8]) -> Result<usize, Refusal> {
     match operation {
+        Operation::SewingWithTable => sewing::sew_with_table(table, job, out),
+        Operation::WalkWithTable => sewing::walk_stage_with_table(table, job, out),
         Operation::LoopRequests => Ok(requests(job, out)),
         Operation::Single(stage) => programs::operate(Some(stage), job, out),
         _ => sewing::sew(job, out),
@@ -240,7 +269,7 @@ fn run(operation: Operation, job: &[u8], out: &mut [u8]) -> Result<usize, Refusa
 // The answer that is found, with the bytes of the output held against the packed ones.
 fn found(job: &[u8], p: Packed<'_>, out: &mut [u8; OUT]) -> Result<Output, Refused> {
     let room = p.room.min(OUT);
-    let length = run(p.operation, job, &mut out[..room])?;
+    let length = run(p.operation, p.table, job, &mut out[..room])?;
     let written = lines::front(out, length);
     Ok(Output {
         length,
@@ -370,7 +399,7 @@ fn run_vectors(
 // What the vectors of a file's bytes come to, or why the file is not usable: they must fill it and have answers.
 fn replay(rt: &impl Print, bytes: &[u8]) -> Result<Tally, &'static str> {
     if bytes.len() == FILE {
-        return Err("the file has more than 2,000,000 bytes");
+        return Err("the file has more than 3,000,000 bytes");
     }
     let jobs = word(bytes, 0) as u32;
     let mut reader = Reader {
@@ -389,7 +418,7 @@ fn replay(rt: &impl Print, bytes: &[u8]) -> Result<Tally, &'static str> {
 
 // Room for a file: apart from `main`, where proofs would write a list so long out.
 fn blank() -> [u8; FILE]
-    ensures { 2000001 ≡ length result }
+    ensures { 3000001 ≡ length result }
 {
     [0; FILE]
 }

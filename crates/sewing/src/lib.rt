@@ -7,14 +7,14 @@
 ghost use Rattle.std.specs.Prelude.{◌≡◌, ◌≤◌, ◌<◌, length, false};
 ghost use Rattle.rules.specs.Operation.{is_asked};
 ghost use Rattle.rules.specs.Read.{uses_of};
-ghost use Rattle.rules.specs.Rules.{ordinary, full_table};
-ghost use mathlib.Core.List.{flat_map};
+ghost use Rattle.rules.specs.Rules.{ordinary};
 ghost use Rattle.rules.specs.Walk.{circuits, loops_of};
 ghost use Rattle.stages_out.specs.Rows.{Staged, round_rows};
-ghost use Rattle.rules.specs.Sew.{sewn, Ends};
-ghost use Rattle.rules.specs.Stage.{use_fields, loop_fields, stage_bytes, read_stage, pair_stage, merge_stage, vertex_loop_stage};
-ghost use Rattle.rules.specs.Stage.{walk_stage, loop_stage, fan_stage, edge_stage, joining_stage, shell_stage, lump_stage};
+ghost use Rattle.rules.specs.Sew.{sewn, sewn_with_table, Ends};
+ghost use Rattle.rules.specs.Stage.{read_stage, pair_stage, merge_stage, vertex_loop_stage};
+ghost use Rattle.rules.specs.Stage.{walk_stage, walk_stage_with_table, loop_stage, fan_stage, edge_stage, joining_stage, shell_stage, lump_stage};
 ghost use Rattle.theorems.specs.Promises.{Promises};
+ghost use Rattle.theorems.specs.JoiningTables.{PromisesWith, WalksWith};
 ghost use Rattle.loaded.specs.Opened.{Loads};
 ghost use Rattle.progress.specs.Chain.{after_reading, after_pairing, after_merging, after_keeping, after_walks, staged, sewn_by};
 ghost use Rattle.progress.specs.Known.{Paired};
@@ -24,6 +24,7 @@ use body::put_empty;
 use edge_uses::link;
 use fields::NO_SPAN;
 use job::INDEX;
+use joining_table::table_of;
 use load::open;
 use loaded::Loaded;
 use merge_faces::{merge_faces, remove};
@@ -31,7 +32,7 @@ use pair::pair;
 use progress::{Kept, Merged, Walks};
 use read::read;
 use rebuild::rebuild;
-use rules::{FEW, MOST_EDGES, MOST_LOOPS, MOST_USES, Refusal, Stage, Use};
+use rules::{FEW, MOST_EDGES, MOST_LOOPS, MOST_USES, Refusal, Rules, Stage, Use};
 use stages_out::{write_kept, write_loops, write_pairs, write_read, write_twins, write_walk};
 use uses::NO_USE;
 use vertex_loops::vertex_loops;
@@ -63,7 +64,7 @@ fn put_loops(
 #[tactic(auto, unfolding(progress::specs::Chain::after_walks))]
 fn on_walks(stage: Option<Stage>, w: &Walks<'_>, out: &mut [u8]) -> Result<usize, Refusal>
     requires { is_asked Stage.Walk stage ≡ false }
-    ensures { Ends (after_walks stage w.now.job (length out.old) w.now.walked) out.old out.new result }
+    ensures { Ends (after_walks w.now.rules stage w.now.job (length out.old) w.now.walked) out.old out.new result }
 {
     // A test in each step and no table of closures: each stage is handed other tables, which a closure could not own.
     if Stage::Loops.is_asked(stage) {
@@ -80,7 +81,7 @@ fn walk_in_tables<const USES: usize>(
     out: &mut [u8],
 ) -> Result<usize, Refusal>
     requires { (length k.now.walked.uses ≤ USES) × (USES ≤ 2048) }
-    ensures { Ends (after_walks stage k.now.job (length out.old) k.now.walked) out.old out.new result }
+    ensures { Ends (after_walks k.now.rules stage k.now.job (length out.old) k.now.walked) out.old out.new result }
 {
     let n = k.uses.len();
     let mut flags = [false; USES];
@@ -95,6 +96,7 @@ fn walk_in_tables<const USES: usize>(
         return write_walk(removed, succ, passed, out);
     }
     let walks = Walks {
+        rules: k.rules,
         job: k.job,
         uses: k.uses,
         twins: k.twins,
@@ -111,7 +113,7 @@ fn walk_in_tables<const USES: usize>(
 // The walks, once the vertex loops are kept.
 #[tactic(auto, using(progress::specs::KnownLaws::loads_loops, progress::specs::KnownLaws::paired_few), unfolding(progress::specs::Chain::after_keeping, rules::specs::Sew::walks_of))]
 fn on_kept(stage: Option<Stage>, k: &Kept<'_>, out: &mut [u8]) -> Result<usize, Refusal>
-    ensures { Ends (after_keeping stage k.now.job (length out.old) k.now.walked) out.old out.new result }
+    ensures { Ends (after_keeping k.now.rules stage k.now.job (length out.old) k.now.walked) out.old out.new result }
 {
     if Stage::VertexLoops.is_asked(stage) {
         return write_kept(k.vertex_loops, out);
@@ -130,10 +132,11 @@ fn keep_in_table<const LOOPS: usize>(
     out: &mut [u8],
 ) -> Result<usize, Refusal>
     requires { (is_asked Stage.Merge stage ≡ false) × (length m.now.job.loops ≤ LOOPS) × (LOOPS ≤ 1024) }
-    ensures { Ends (after_merging stage m.now.job m.now.uses m.now.twins (length out.old) m.now.merged) out.old out.new result }
+    ensures { Ends (after_merging m.now.rules stage m.now.job m.now.uses m.now.twins (length out.old) m.now.merged) out.old out.new result }
 {
     let table = vertex_loops::<LOOPS>(m.job, m.faces.numbers())?;
     let kept = Kept {
+        rules: m.rules,
         job: m.job,
         uses: m.uses,
         twins: m.twins,
@@ -146,7 +149,7 @@ fn keep_in_table<const LOOPS: usize>(
 // The vertex loops, once the faces are merged.
 #[tactic(auto, using(stages_out::specs::Rows::pair_rows_lem, progress::specs::KnownLaws::labels_length), unfolding(progress::specs::Chain::after_merging))]
 fn on_merged(stage: Option<Stage>, m: &Merged<'_>, out: &mut [u8]) -> Result<usize, Refusal>
-    ensures { Ends (after_merging stage m.now.job m.now.uses m.now.twins (length out.old) m.now.merged) out.old out.new result }
+    ensures { Ends (after_merging m.now.rules stage m.now.job m.now.uses m.now.twins (length out.old) m.now.merged) out.old out.new result }
 {
     if Stage::Merge.is_asked(stage) {
         return write_pairs(m.faces, out);
@@ -160,6 +163,7 @@ fn on_merged(stage: Option<Stage>, m: &Merged<'_>, out: &mut [u8]) -> Result<usi
 // The faces merged, once the uses are paired.
 #[tactic(auto, using(progress::specs::KnownLaws::loads_sound, progress::specs::KnownLaws::paired_twins), unfolding(progress::specs::Chain::after_pairing, rules::specs::Merge::merge_faces))]
 fn on_paired(
+    rules: Rules,
     stage: Option<Stage>,
     job: &Loaded<'_>,
     uses: &[Use],
@@ -167,13 +171,14 @@ fn on_paired(
     out: &mut [u8],
 ) -> Result<usize, Refusal>
     requires { Paired job.now uses.now twins.now }
-    ensures { Ends (after_pairing stage job.now uses.now (length out.old) twins.now) out.old out.new result }
+    ensures { Ends (after_pairing rules stage job.now uses.now (length out.old) twins.now) out.old out.new result }
 {
     if Stage::Pair.is_asked(stage) {
         return write_twins(twins, out);
     }
-    let faces = merge_faces(job, uses, twins)?;
+    let faces = merge_faces(job, uses, twins, rules.table)?;
     let merged = Merged {
+        rules,
         job,
         uses,
         twins,
@@ -185,6 +190,7 @@ fn on_paired(
 // The uses read, those of each edge chained, and paired, in tables for so many uses and edges.
 #[tactic(auto, unfolding(progress::specs::Chain::after_reading))]
 fn read_in_tables<const USES: usize, const EDGES: usize>(
+    rules: Rules,
     stage: Option<Stage>,
     job: &Loaded<'_>,
     out: &mut [u8],
@@ -193,7 +199,7 @@ fn read_in_tables<const USES: usize, const EDGES: usize>(
     requires uses_fit { length (uses_of job.now) ≤ USES }
     requires edges_fit { length job.now.edges ≤ EDGES }
     requires size { (USES ≤ 2048) × (EDGES ≤ 1024) }
-    ensures { Ends (after_reading stage job.now (length out.old) (uses_of job.now)) out.old out.new result }
+    ensures { Ends (after_reading rules stage job.now (length out.old) (uses_of job.now)) out.old out.new result }
 {
     let n = job.uses();
     let mut table = [NO_USE; USES];
@@ -203,30 +209,35 @@ fn read_in_tables<const USES: usize, const EDGES: usize>(
     read(job, uses);
     let linked = link(uses, &mut heads[..job.edges()], &mut links[..n]);
     let twins: [u32; USES] = pair(job, &linked)?;
-    on_paired(stage, job, uses, &twins[..n], out)
+    on_paired(rules, stage, job, uses, &twins[..n], out)
 }
 
 // The uses read and paired, once the job is loaded.
-fn on_loaded(stage: Option<Stage>, job: &Loaded<'_>, out: &mut [u8]) -> Result<usize, Refusal>
+fn on_loaded(
+    rules: Rules,
+    stage: Option<Stage>,
+    job: &Loaded<'_>,
+    out: &mut [u8],
+) -> Result<usize, Refusal>
     requires { Loads job.now }
-    ensures { Ends (after_reading stage job.now (length out.old) (uses_of job.now)) out.old out.new result }
+    ensures { Ends (after_reading rules stage job.now (length out.old) (uses_of job.now)) out.old out.new result }
 {
     let uses = job.uses();
     let edges = job.edges();
     if uses <= FEW && edges <= FEW {
-        return read_in_tables::<FEW, FEW>(stage, job, out);
+        return read_in_tables::<FEW, FEW>(rules, stage, job, out);
     }
-    read_in_tables::<MOST_USES, MOST_EDGES>(stage, job, out)
+    read_in_tables::<MOST_USES, MOST_EDGES>(rules, stage, job, out)
 }
 
-// The stages in order, up to the one that is asked for.
+// The stages in order, by these rules, up to the one that is asked for.
 #[tactic(auto, unfolding(progress::specs::Chain::staged))]
-fn run(stage: Option<Stage>, job: &[u8], out: &mut [u8]) -> Result<usize, Refusal>
-    ensures { Ends (staged stage job.now (length out.old)) out.old out.new result }
+fn run(rules: Rules, stage: Option<Stage>, job: &[u8], out: &mut [u8]) -> Result<usize, Refusal>
+    ensures { Ends (staged rules stage job.now (length out.old)) out.old out.new result }
 {
     let mut index = [0u32; INDEX];
     let loaded = open(job, &mut index)?;
-    on_loaded(stage, &loaded, out)
+    on_loaded(rules, stage, &loaded, out)
 }
 
 // The stage `read`. It hands nothing on, and goes a way of its own: the frames of the chain would hold its table of uses too.
@@ -247,7 +258,7 @@ pub fn read_stage(job: &[u8], out: &mut [u8]) -> Result<usize, Refusal>
 pub fn pair_stage(job: &[u8], out: &mut [u8]) -> Result<usize, Refusal>
     ensures { Ends (pair_stage job.now (length out.old)) out.old out.new result }
 {
-    run(Some(Stage::Pair), job, out)
+    run(Rules::ordinary(), Some(Stage::Pair), job, out)
 }
 
 // The stage `merge`.
@@ -255,7 +266,7 @@ pub fn pair_stage(job: &[u8], out: &mut [u8]) -> Result<usize, Refusal>
 pub fn merge_stage(job: &[u8], out: &mut [u8]) -> Result<usize, Refusal>
     ensures { Ends (merge_stage ordinary job.now (length out.old)) out.old out.new result }
 {
-    run(Some(Stage::Merge), job, out)
+    run(Rules::ordinary(), Some(Stage::Merge), job, out)
 }
 
 // The stage `vertex-loops`.
@@ -263,21 +274,29 @@ pub fn merge_stage(job: &[u8], out: &mut [u8]) -> Result<usize, Refusal>
 pub fn vertex_loop_stage(job: &[u8], out: &mut [u8]) -> Result<usize, Refusal>
     ensures { Ends (vertex_loop_stage ordinary job.now (length out.old)) out.old out.new result }
 {
-    run(Some(Stage::VertexLoops), job, out)
+    run(Rules::ordinary(), Some(Stage::VertexLoops), job, out)
 }
 
 // The stage `walk`. Its walks are those of which demand 3 speaks, so what it says of walks holds of them.
 pub fn walk_stage(job: &[u8], out: &mut [u8]) -> Result<usize, Refusal>
     ensures { Ends (walk_stage ordinary job.now (length out.old)) out.old out.new result × Promised job.now }
 {
-    run(Some(Stage::Walk), job, out)
+    run(Rules::ordinary(), Some(Stage::Walk), job, out)
+}
+
+// The stage `walk` with a joining table that is supplied with the call. What is no table is refused before all else.
+pub fn walk_stage_with_table(table: &[u8], job: &[u8], out: &mut [u8]) -> Result<usize, Refusal>
+    ensures { Ends (walk_stage_with_table table.now job.now (length out.old)) out.old out.new result × WalksWith table.now job.now }
+{
+    let supplied = table_of(table)?;
+    run(Rules::with_table(supplied), Some(Stage::Walk), job, out)
 }
 
 // The stage `loops`.
 pub fn loop_stage(job: &[u8], out: &mut [u8]) -> Result<usize, Refusal>
     ensures { Ends (loop_stage ordinary job.now (length out.old)) out.old out.new result × Promised job.now }
 {
-    run(Some(Stage::Loops), job, out)
+    run(Rules::ordinary(), Some(Stage::Loops), job, out)
 }
 
 // The stage `fans`.
@@ -285,7 +304,7 @@ pub fn loop_stage(job: &[u8], out: &mut [u8]) -> Result<usize, Refusal>
 pub fn fan_stage(job: &[u8], out: &mut [u8]) -> Result<usize, Refusal>
     ensures { Ends (fan_stage ordinary job.now (length out.old)) out.old out.new result }
 {
-    run(Some(Stage::Fans), job, out)
+    run(Rules::ordinary(), Some(Stage::Fans), job, out)
 }
 
 // The stage `edges`.
@@ -293,7 +312,7 @@ pub fn fan_stage(job: &[u8], out: &mut [u8]) -> Result<usize, Refusal>
 pub fn edge_stage(job: &[u8], out: &mut [u8]) -> Result<usize, Refusal>
     ensures { Ends (edge_stage ordinary job.now (length out.old)) out.old out.new result }
 {
-    run(Some(Stage::Edges), job, out)
+    run(Rules::ordinary(), Some(Stage::Edges), job, out)
 }
 
 // The stage `joining`.
@@ -301,7 +320,7 @@ pub fn edge_stage(job: &[u8], out: &mut [u8]) -> Result<usize, Refusal>
 pub fn joining_stage(job: &[u8], out: &mut [u8]) -> Result<usize, Refusal>
     ensures { Ends (joining_stage ordinary job.now (length out.old)) out.old out.new result }
 {
-    run(Some(Stage::Joining), job, out)
+    run(Rules::ordinary(), Some(Stage::Joining), job, out)
 }
 
 // The stage `shells`.
@@ -309,7 +328,7 @@ pub fn joining_stage(job: &[u8], out: &mut [u8]) -> Result<usize, Refusal>
 pub fn shell_stage(job: &[u8], out: &mut [u8]) -> Result<usize, Refusal>
     ensures { Ends (shell_stage ordinary job.now (length out.old)) out.old out.new result }
 {
-    run(Some(Stage::Shells), job, out)
+    run(Rules::ordinary(), Some(Stage::Shells), job, out)
 }
 
 // The stage `lumps`.
@@ -317,26 +336,35 @@ pub fn shell_stage(job: &[u8], out: &mut [u8]) -> Result<usize, Refusal>
 pub fn lump_stage(job: &[u8], out: &mut [u8]) -> Result<usize, Refusal>
     ensures { Ends (lump_stage ordinary job.now (length out.old)) out.old out.new result }
 {
-    run(Some(Stage::Lumps), job, out)
+    run(Rules::ordinary(), Some(Stage::Lumps), job, out)
 }
 
-// The body of a job; one that selects no face is Empty.
+// The body of a job, sewn by these rules; one that selects no face is Empty.
 #[tactic(auto, unfolding(progress::specs::Chain::sewn_by, progress::specs::Chain::sewn_from))]
-fn sew_job(job: &[u8], out: &mut [u8]) -> Result<usize, Refusal>
-    ensures { Ends (sewn_by job.now (length out.old)) out.old out.new result }
+fn sew_by(rules: Rules, job: &[u8], out: &mut [u8]) -> Result<usize, Refusal>
+    ensures { Ends (sewn_by rules job.now (length out.old)) out.old out.new result }
 {
     let mut index = [0u32; INDEX];
     let loaded = open(job, &mut index)?;
     if loaded.faces() == 0 {
         return put_empty(out);
     }
-    on_loaded(None, &loaded, out)
+    on_loaded(rules, None, &loaded, out)
 }
 
 // Sewing: the body's records from the output's start on, or a refusal and the output untouched. What demand 3 says holds
 // of the job.
 pub fn sew(job: &[u8], out: &mut [u8]) -> Result<usize, Refusal>
-    ensures { Ends (sewn ordinary job.now (length out.old)) out.old out.new result × Promises full_table job.now }
+    ensures { Ends (sewn ordinary job.now (length out.old)) out.old out.new result × Promises ordinary job.now }
 {
-    sew_job(job, out)
+    sew_by(Rules::ordinary(), job, out)
+}
+
+// Sewing with a joining table that is supplied with the call. What is no table is refused before all else; what demand 3
+// says holds for each table that is one.
+pub fn sew_with_table(table: &[u8], job: &[u8], out: &mut [u8]) -> Result<usize, Refusal>
+    ensures { Ends (sewn_with_table table.now job.now (length out.old)) out.old out.new result × PromisesWith table.now job.now }
+{
+    let supplied = table_of(table)?;
+    sew_by(Rules::with_table(supplied), job, out)
 }

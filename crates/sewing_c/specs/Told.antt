@@ -6,17 +6,17 @@ use Rattle.rules.specs.declared.Refusal.{Refusal}
 use Rattle.rules.specs.Outcome.{Outcome, Ok, Err, fault_number}
 use Rattle.rules.specs.Job.{Stretch}
 use Rattle.rules.specs.Rules.{ordinary}
-use Rattle.rules.specs.Sew.{sewn, written}
-use Rattle.rules.specs.Listing.{line_of, refusal_line, listing_of, sewn_records}
+use Rattle.rules.specs.Sew.{sewn, sewn_with_table, written}
+use Rattle.rules.specs.Listing.{line_of, refusal_line, listing_of, sewn_records, records_with_table}
 use Rattle.fields.specs.Wrote.{Wrote}
 use Rattle.theorems.specs.Narrow.{Below}
 use Rattle.lines.specs.Text.{records_in}
 
 -- NUMBERS
 
--- Endings: the numbers of refusals; 0 is none of them
+-- the numbers of refusals, of documents 01 and 02; 0 is none of them
 unfoldable pub is_number : ℕ → Bool
-is_number n = has n (1 ∷ 2 ∷ 3 ∷ 4 ∷ 5 ∷ 6 ∷ 7 ∷ 10 ∷ 11 ∷ 12 ∷ 13 ∷ 20 ∷ 21 ∷ 22 ∷ 23 ∷ 30 ∷ 31 ∷ 32 ∷ 33 ∷ 34 ∷ 40 ∷ 45 ∷ [])
+is_number n = has n (1 ∷ 2 ∷ 3 ∷ 4 ∷ 5 ∷ 6 ∷ 7 ∷ 10 ∷ 11 ∷ 12 ∷ 13 ∷ 20 ∷ 21 ∷ 22 ∷ 23 ∷ 30 ∷ 31 ∷ 32 ∷ 33 ∷ 34 ∷ 40 ∷ 45 ∷ 48 ∷ [])
 
 -- an outcome that, if it is a refusal, has such a number
 pub record Numbered {A : Type 0} (o : Outcome A) : Type 0 where
@@ -56,6 +56,10 @@ pub record ListsAnswer (number value : ℕ) (out page printed : List ℕ) (r : �
   -- where that is sewing's answer to a job of bytes: the text of the job's records, which for an output of 65,536 bytes is the job's listing
   pub records : (job before : List ℕ) → Below 256 job → length before < 4294967296 → length out ≡ length before → Tells (sewn ordinary job (length before)) before out value number
       → Wrote page 0 (listing_of (sewn_records ordinary job (length before))) printed r
+  -- and where it is the answer of sewing with a joining table
+  pub records_with : (table job before : List ℕ) → Below 256 job → length before < 4294967296 → length out ≡ length before
+      → Tells (sewn_with_table table job (length before)) before out value number
+      → Wrote page 0 (listing_of (records_with_table table job (length before))) printed r
 
 -- THE LOOP REQUEST
 

@@ -7,15 +7,16 @@ use Rattle.lists.specs.Lists.{has}
 use Rattle.rules.specs.declared.Fault.{Fault}
 use Rattle.rules.specs.declared.Fault.TheVariants.{TooLong, CutShort, Misplaced, LimitPassed, FieldNotPermitted, LoopJoints, AnsweredTwice, SelectedTwice}
 use Rattle.rules.specs.declared.Fault.TheVariants.{EqualSenses, OddUses, SamePredecessor, NoTwin, Unanswered, AnswerUndecided, NormalsVanish, NotRound}
-use Rattle.rules.specs.declared.Fault.TheVariants.{PairsInBoundary, FansInBoundary, FansInLump, PairsInLump, NoOuterShell, NoRoom}
-use Rattle.rules.specs.Rules.{full_table, ordinary}
-use Rattle.rules.specs.Sew.{Ends, sewn}
+use Rattle.rules.specs.declared.Fault.TheVariants.{PairsInBoundary, FansInBoundary, FansInLump, PairsInLump, NoOuterShell, NoRoom, WrongTable}
+use Rattle.rules.specs.Rules.{ordinary}
+use Rattle.rules.specs.Sew.{Ends, ended, sewn, sewn_with_table}
 use Rattle.rules.specs.Outcome.{Outcome, Ok, Err, fault_number}
-use Rattle.rules.specs.Listing.{line_of, refusal_line, listing_of, sewn_records}
+use Rattle.rules.specs.Listing.{line_of, refusal_line, listing_of, sewn_records, records_with_table}
 use Rattle.fields.specs.Wrote.{Wrote, wrote_as}
 use Rattle.lines.specs.Text.{records_in, recorded}
 use Rattle.lines.specs.Listed.{recorded_listing}
-use Rattle.sewing_c.specs.Told.{is_number, Numbered, Tells, answer_text, ListsAnswer}
+use Rattle.lines.specs.TableListed.{recorded_with_table}
+use Rattle.sewing_c.specs.Told.{is_number, Numbered, number_of, end_value, value_of, Tells, answer_text, ListsAnswer}
 
 -- NUMBERS
 
@@ -44,10 +45,24 @@ fault_listed PairsInLump = refl
 fault_listed NoOuterShell = refl
 fault_listed NoRoom = refl
 fault_listed SelectedTwice = refl
+fault_listed WrongTable = refl
 
 -- so each outcome is a numbered one
 pub numbered : {A : Type 0} (o : Outcome A) → Numbered o
 numbered o = record { listed = λ r e. fault_listed r.fault }
+
+-- what is told of an ending is told of the outcome that it is the ending of
+pub tells : (o : Outcome (List ℕ)) (before after : List ℕ) (e : Outcome ℕ) (number value : ℕ) → Ends o before after e → number ≡ number_of e → value ≡ end_value e
+    → Tells o before after value number
+tells o before after e number value E n v = (n ∙ ap number_of E.0 ∙ number_ended o, v ∙ ap end_value E.0 ∙ value_ended o, E.1, numbered o)
+  where
+    number_ended : (o : Outcome (List ℕ)) → number_of (ended o) ≡ number_of o
+    number_ended (Ok bytes) = refl
+    number_ended (Err r) = refl
+
+    value_ended : (o : Outcome (List ℕ)) → end_value (ended o) ≡ value_of o
+    value_ended (Ok bytes) = refl
+    value_ended (Err r) = refl
 
 not_zero : (n : ℕ) → is_number n ≡ true → n ≡ 0 → ⊥
 unfolding is_number has
@@ -86,7 +101,12 @@ module _ {number value r : ℕ} {out page printed : List ℕ} where
         let all : take 4294967295 out ≡ out = take_all 4294967295 out (omega (arith, few, same)) in
         let a = answered (sewn ordinary job (length before)) before out number value T in
         wrote_as page printed (answer_text number value (take 4294967295 out)) (listing_of (sewn_records ordinary job (length before))) 0 r
-        (ap (answer_text number value) all ∙ a.2 ∙ recorded_listing full_table job before out a.0 bytes few a.1) w;
+        (ap (answer_text number value) all ∙ a.2 ∙ recorded_listing ordinary job before out a.0 bytes few a.1) w;
+    records_with = λ table job before bytes few same T.
+        let all : take 4294967295 out ≡ out = take_all 4294967295 out (omega (arith, few, same)) in
+        let a = answered (sewn_with_table table job (length before)) before out number value T in
+        wrote_as page printed (answer_text number value (take 4294967295 out)) (listing_of (records_with_table table job (length before))) 0 r
+        (ap (answer_text number value) all ∙ a.2 ∙ recorded_with_table table job before out a.0 bytes few a.1) w;
   }
 
   -- the listing of a body, and that of a refusal

@@ -5,10 +5,12 @@
 
 ghost use Rattle.std.specs.Prelude.{◌≡◌, length};
 ghost use Rattle.rules.specs.Load.{requested};
-ghost use Rattle.rules.specs.Rules.{ordinary, full_table};
-ghost use Rattle.rules.specs.Sew.{sewn};
-ghost use Rattle.rules.specs.Stage.{read_stage, pair_stage, merge_stage, vertex_loop_stage, walk_stage, loop_stage, fan_stage, edge_stage, joining_stage, shell_stage, lump_stage};
+ghost use Rattle.rules.specs.Rules.{ordinary};
+ghost use Rattle.rules.specs.Sew.{sewn, sewn_with_table};
+ghost use Rattle.rules.specs.Stage.{read_stage, pair_stage, merge_stage, vertex_loop_stage, walk_stage, walk_stage_with_table};
+ghost use Rattle.rules.specs.Stage.{loop_stage, fan_stage, edge_stage, joining_stage, shell_stage, lump_stage};
 ghost use Rattle.theorems.specs.Promises.{Promises};
+ghost use Rattle.theorems.specs.JoiningTables.{PromisesWith, WalksWith};
 ghost use Rattle.lines.specs.Listed.{Lists};
 ghost use Rattle.sewing.specs.Promised.{Promised};
 ghost use Rattle.sewing_c.specs.Told.{number_of, end_value, Tells, ListsAnswer, Inside, TellsLoop};
@@ -38,9 +40,24 @@ fn tell(ending: Result<usize, Refusal>, value: &mut usize) -> usize
 // holds of the job.
 #[unsafe(no_mangle)]
 pub extern "C" fn zaxclover_sew(job: &[u8], out: &mut [u8], value: &mut usize) -> usize
-    ensures { Tells (sewn ordinary job.now (length out.old)) out.old out.new value.new result × Promises full_table job.now }
+    ensures { Tells (sewn ordinary job.now (length out.old)) out.old out.new value.new result × Promises ordinary job.now }
 {
     let ending = sewing::sew(job, out);
+    tell(ending, value)
+}
+
+// Sewing with a joining table that is supplied with the call: answers as sewing does. What is no table is refused before
+// all else; what demand 3 says holds for each table that is one.
+#[unsafe(no_mangle)]
+pub extern "C" fn zaxclover_sew_with_table(
+    table: &[u8],
+    job: &[u8],
+    out: &mut [u8],
+    value: &mut usize,
+) -> usize
+    ensures { Tells (sewn_with_table table.now job.now (length out.old)) out.old out.new value.new result × PromisesWith table.now job.now }
+{
+    let ending = sewing::sew_with_table(table, job, out);
     tell(ending, value)
 }
 
@@ -92,6 +109,20 @@ pub extern "C" fn zaxclover_walk_stage(job: &[u8], out: &mut [u8], value: &mut u
     ensures { Tells (walk_stage ordinary job.now (length out.old)) out.old out.new value.new result × Promised job.now }
 {
     let ending = sewing::walk_stage(job, out);
+    tell(ending, value)
+}
+
+// The stage `walk` with a joining table that is supplied with the call. Demand 3 holds of its walks.
+#[unsafe(no_mangle)]
+pub extern "C" fn zaxclover_walk_stage_with_table(
+    table: &[u8],
+    job: &[u8],
+    out: &mut [u8],
+    value: &mut usize,
+) -> usize
+    ensures { Tells (walk_stage_with_table table.now job.now (length out.old)) out.old out.new value.new result × WalksWith table.now job.now }
+{
+    let ending = sewing::walk_stage_with_table(table, job, out);
     tell(ending, value)
 }
 

@@ -1,9 +1,9 @@
-// Runs the stage that its first word names on the job of the file that its second names, or of standard input, and prints
-// a line for each record of the stage, or the refusal.
+// Runs the stage that its first word names on the job of the file that its last word names, or of standard input, and prints
+// a line for each record of the stage, or the refusal. The words between may set a joining table for the stage `walk`.
 
 #![tactic(auto)]
 
-use programs::Program;
+use programs::{Asked, ENTRIES, Program, words_at};
 use rules::Stage;
 use std::rt::Env;
 
@@ -25,26 +25,50 @@ fn stage_named(rt: &impl Env) -> Option<Stage> {
     }
 }
 
-// Runs a stage on a job and prints its lines.
-fn print_stage(rt: &(impl Print + Eprint), program: Program<'_>, stage: Stage, job: &[u8]) {
+// What the words behind a stage's name ask for; nothing where the stage cannot be run so: `walk` alone takes a joining table.
+fn asked_of<'a>(rt: &impl Env, stage: Stage, room: &'a mut [u8; ENTRIES]) -> Option<Asked<'a>> {
+    match words_at(rt, 2, room)? {
+        Asked::Table(_) if stage != Stage::Walk => None,
+        asked => Some(asked),
+    }
+}
+
+// Runs a stage on a job as it is asked for and prints its lines.
+fn print_stage(
+    rt: &(impl Print + Eprint),
+    program: Program<'_>,
+    stage: Stage,
+    asked: Asked<'_>,
+    job: &[u8],
+) {
     let mut out = [0u8; OUT];
     let mut page = [0u8; PAGE];
-    let length = programs::list_stage(Some(stage), job, &mut out, &mut page);
+    let length = match asked {
+        Asked::Table(table) => programs::list_walk_with_table(table, job, &mut out, &mut page),
+        Asked::Ordinary => programs::list_stage(Some(stage), job, &mut out, &mut page),
+    };
     program.print(rt, lines::front(&page, length));
 }
 
 fn main(rt: HostRuntime) {
     let program = Program {
         name: "stage",
-        usage: "stage NAME [FILE]: NAME is read, pair, merge, vertex-loops, walk, loops, fans, edges, joining, shells or lumps; without FILE the job is read from standard input",
+        usage: "stage NAME [FILE] or stage walk table ENTRIES [FILE]: NAME is read, pair, merge, vertex-loops, walk, loops, \
+            fans, edges, joining, shells or lumps; ENTRIES is a joining table such as 1001; without FILE the job is read from \
+            standard input",
     };
     let Some(stage) = stage_named(&rt) else {
         program.explain(&rt);
         return;
     };
-    let mut job = [0u8; JOB];
-    let Some(n) = program.read_job(&rt, 2, &mut job) else {
+    let mut entries = [0u8; ENTRIES];
+    let Some(asked) = asked_of(&rt, stage, &mut entries) else {
+        program.explain(&rt);
         return;
     };
-    print_stage(&rt, program, stage, lines::front(&job, n));
+    let mut job = [0u8; JOB];
+    let Some(n) = program.read_job(&rt, 2 + asked.words(), &mut job) else {
+        return;
+    };
+    print_stage(&rt, program, stage, asked, lines::front(&job, n));
 }
