@@ -77,7 +77,7 @@ fn compare_loaded(bytes: &[u8], job: &Job, room: usize) -> Compared {
 }
 
 /// Faces selected less face joins equals faces written.
-fn unlike_faces(job: &Job, body: &[u8]) -> Option<String> {
+pub fn unlike_faces(job: &Job, body: &[u8]) -> Option<String> {
     let (list, _) = records::split(body);
     let (_, totals) = list.first()?;
     let (selected, joins) = (job.faces.len(), totals[6] as usize);
@@ -88,7 +88,7 @@ fn unlike_faces(job: &Job, body: &[u8]) -> Option<String> {
 
 /// Each face of the body is followed by its members, and each selected face
 /// stands in exactly one such record.
-fn unlike_members(job: &Job, body: &[u8]) -> Option<String> {
+pub fn unlike_members(job: &Job, body: &[u8]) -> Option<String> {
     let (list, _) = records::split(body);
     let after = |pair: &[records::Record]| (pair[0].0 == 24) == (pair[1].0 == 29);
     let mut told = members(&list);

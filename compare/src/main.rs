@@ -14,6 +14,7 @@ mod run;
 mod second;
 mod summary;
 mod table;
+mod tables;
 mod text;
 mod twice;
 mod vectors;
@@ -29,8 +30,9 @@ use std::io::Write;
 const USAGE: &str = "\
 usage: judge run --seed S --jobs N
        judge parts DIR [--csv FILE] [--html FILE]
-       judge answer STAGE [--room N] < job      (STAGE: sew, a stage, loop N)
-       judge make --seed S --job I > job
+       judge answer STAGE [table ENTRIES] [--room N] < job
+                                     (STAGE: sew, a stage, loop N; a table with sew and walk)
+       judge make --seed S --job I [--table ENTRIES] > job
        judge vectors --seed S OUT
        judge table --seed S OUT
        judge program [--listing PATH] [--stage PATH]
@@ -72,7 +74,7 @@ fn obey(command: &str, rest: &[String]) -> Result<bool, Failed> {
     match command {
         "run" => run_jobs(&Args::parse(rest, &["seed", "jobs"])?),
         "answer" => print_answer(&Args::parse(rest, &["room"])?),
-        "make" => print_generated(&Args::parse(rest, &["seed", "job"])?),
+        "make" => print_generated(&Args::parse(rest, &["seed", "job", "table"])?),
         "vectors" => write_vectors(&Args::parse(rest, &["seed"])?),
         "table" => write_table(&Args::parse(rest, &["seed"])?),
         "program" => {
@@ -103,7 +105,15 @@ fn print_answer(args: &Args) -> Result<bool, Failed> {
 fn print_generated(args: &Args) -> Result<bool, Failed> {
     args.no_others()?;
     let (seed, job) = (args.wanted_number("seed")?, args.wanted_number("job")?);
-    print(&generate::sample(seed, job).job)
+    let drawn = generate::sample(seed, job).job;
+    let Some(entries) = args.option("table") else {
+        return print(&drawn);
+    };
+    let table = generate::tables::Drawn {
+        bytes: answer::table_of(entries),
+        fault: None,
+    };
+    print(&run::with_table(&drawn, &table, seed, job))
 }
 
 fn write_vectors(args: &Args) -> Result<bool, Failed> {

@@ -1,9 +1,11 @@
 //! `program`: runs outside programs on jobs and compares what they print.
 
-use crate::answer::{Wanted, answer};
+use crate::answer::{Wanted, answer, entries_of};
 use crate::cli::{self, Args, Failed, say};
 use crate::compare::ROOM;
-use crate::generate;
+use crate::generate::rng::Rng;
+use crate::generate::{self, tables};
+use crate::run::with_table;
 use crate::second::Stage;
 use crate::vectors;
 use std::io::Write;
@@ -15,8 +17,12 @@ use std::sync::atomic::{AtomicUsize, Ordering};
 /// Differences shown at most.
 const SHOWN: usize = 40;
 
-/// A job and what to call it.
-type Named = (String, Vec<u8>);
+/// A job, what to call it, and tables to supply with it.
+struct Named {
+    name: String,
+    job: Vec<u8>,
+    tables: Vec<Vec<u8>>,
+}
 
 struct Programs<'a> {
     listing: Option<&'a str>,
@@ -65,52 +71,88 @@ pub fn program(args: &Args) -> Result<bool, Failed> {
 fn jobs(args: &Args) -> Result<Vec<Named>, Failed> {
     if let Some(path) = args.option("vectors") {
         let bytes = cli::read_file(Path::new(path))?;
-        let jobs = vectors::jobs_of(&bytes).map_err(|error| format!("{path}: {error}"))?;
-        let named = jobs.into_iter().enumerate();
-        return Ok(named.map(|(i, job)| (format!("vector {i}"), job)).collect());
+        let stored = vectors::stored(&bytes).map_err(|error| format!("{path}: {error}"))?;
+        let named = stored.into_iter().enumerate().map(|(i, (job, answers))| {
+            let of_sewing = answers
+                .into_iter()
+                .filter(|(operation, _)| *operation == 14);
+            Named {
+                name: format!("vector {i}"),
+                job,
+                tables: of_sewing.map(|(_, table)| table).collect(),
+            }
+        });
+        return Ok(named.collect());
     }
     if let Some(path) = args.option("parts") {
         let files = cli::job_files(&[path.to_string()])?;
-        let named = |file: std::path::PathBuf| {
-            let job = cli::read_job(&file)?;
-            Ok((file.display().to_string(), job))
+        let named = |(i, file): (usize, std::path::PathBuf)| {
+            let table = tables::some(&mut Rng::new(48, i as u64)).bytes;
+            Ok(Named {
+                name: file.display().to_string(),
+                job: cli::read_job(&file)?,
+                tables: vec![table],
+            })
         };
-        return files.into_iter().map(named).collect();
+        return files.into_iter().enumerate().map(named).collect();
     }
     let (seed, jobs) = (args.wanted_number("seed")?, args.wanted_number("jobs")?);
-    let sample = |i| (format!("job {i}"), generate::sample(seed, i).job);
+    let sample = |i| {
+        let table = tables::of_job(seed, i);
+        let job = with_table(&generate::sample(seed, i).job, &table, seed, i);
+        Named {
+            name: format!("job {i}"),
+            job,
+            tables: vec![table.bytes],
+        }
+    };
     Ok((0..jobs).map(sample).collect())
 }
 
-/// Runs both programs on a job; counts runs and differences.
+/// Runs both programs on a job, ordinarily and with its tables; counts runs and
+/// differences.
 fn one(programs: &Programs, job: &Named, counts: &Mutex<(usize, usize)>) -> Result<(), Failed> {
+    // No word of text says some faulty tables.
+    let tables = job.tables.iter().filter_map(|table| entries_of(table));
+    let tables: Vec<String> = tables.collect();
     if let Some(path) = programs.listing {
-        check(path, None, Wanted::Sew, job, counts)?;
+        check(path, &[], &["sew"], job, counts)?;
+        for entries in &tables {
+            let words = ["table", entries];
+            check(path, &words, &["sew", "table", entries], job, counts)?;
+        }
     }
     if let Some(path) = programs.stage {
         for stage in Stage::ALL {
-            check(path, Some(stage.name()), Wanted::Stage(stage), job, counts)?;
+            check(path, &[stage.name()], &[stage.name()], job, counts)?;
+        }
+        for entries in &tables {
+            let words = ["walk", "table", entries];
+            check(path, &words, &words, job, counts)?;
         }
     }
     Ok(())
 }
 
+/// Holds what a program prints, called with some words, against what `answer`
+/// prints with its own.
 fn check(
     path: &str,
-    argument: Option<&str>,
-    wanted: Wanted,
-    (name, job): &Named,
+    arguments: &[&str],
+    wanted: &[&str],
+    Named { name, job, .. }: &Named,
     counts: &Mutex<(usize, usize)>,
 ) -> Result<(), Failed> {
-    let printed = printed(path, argument, job).map_err(|error| format!("{path}: {error}"))?;
-    let expected = answer(job, wanted, ROOM);
+    let printed = printed(path, arguments, job).map_err(|error| format!("{path}: {error}"))?;
+    let words: Vec<String> = wanted.iter().map(|word| word.to_string()).collect();
+    let expected = answer(job, Wanted::of_words(&words)?, ROOM);
     let mut counts = counts.lock().expect("no worker stopped");
     counts.0 += 1;
     if printed != expected.as_bytes() {
         counts.1 += 1;
         if counts.1 <= SHOWN {
             let printed = String::from_utf8_lossy(&printed);
-            let what = argument.unwrap_or("sew");
+            let what = wanted.join(" ");
             say!("{name}, {what}: {}", first_unlike(&expected, &printed));
         }
     }
@@ -118,9 +160,9 @@ fn check(
 }
 
 /// What a program prints when given the job.
-fn printed(path: &str, argument: Option<&str>, job: &[u8]) -> std::io::Result<Vec<u8>> {
+fn printed(path: &str, arguments: &[&str], job: &[u8]) -> std::io::Result<Vec<u8>> {
     let mut child = Command::new(path)
-        .args(argument)
+        .args(arguments)
         .stdin(Stdio::piped())
         .stdout(Stdio::piped())
         .spawn()?;

@@ -2,8 +2,10 @@
 
 use crate::cli::say;
 use crate::compare::{Compared, compare};
-use crate::generate::{self, Expected, Sample};
+use crate::generate::rng::Rng;
+use crate::generate::{self, Expected, Sample, tables as drawn};
 use crate::summary::Summary;
+use crate::tables::{self, Held};
 use crate::twice;
 use std::sync::Mutex;
 use std::sync::atomic::{AtomicU64, Ordering};
@@ -31,12 +33,26 @@ pub fn judge(sample: &Sample) -> Compared {
     compared
 }
 
-/// Draws a job and compares it. Drawing sews as well, to know the questions.
-fn draw_and_judge(seed: u64, index: u64) -> (Sample, Compared) {
+/// Job number `index` of a seed as it is supplied with a table.
+pub fn with_table(job: &[u8], table: &drawn::Drawn, seed: u64, index: u64) -> Vec<u8> {
+    drawn::suited(job, table, &mut Rng::new(seed, index).apart(49))
+}
+
+/// The sample with the table drawn for it.
+pub fn judge_table(sample: &Sample, seed: u64, index: u64) -> Held {
+    let table = drawn::of_job(seed, index);
+    let job = with_table(&sample.job, &table, seed, index);
+    tables::hold(&job, sample.room, &table)
+}
+
+/// Draws a job and compares it, ordinarily and with a table. Drawing sews as
+/// well, to know the questions.
+fn draw_and_judge(seed: u64, index: u64) -> (Sample, Compared, Option<Held>) {
     let drawn = std::panic::catch_unwind(|| {
         let sample = generate::sample(seed, index);
         let compared = judge(&sample);
-        (sample, compared)
+        let held = judge_table(&sample, seed, index);
+        (sample, compared, Some(held))
     });
     drawn.unwrap_or_else(|_| {
         let sample = Sample {
@@ -50,7 +66,7 @@ fn draw_and_judge(seed: u64, index: u64) -> (Sample, Compared) {
             differences: vec![stopped],
             ..Compared::default()
         };
-        (sample, compared)
+        (sample, compared, None)
     })
 }
 
@@ -82,21 +98,25 @@ pub fn run(seed: u64, jobs: u64) -> bool {
 }
 
 fn one(seed: u64, index: u64, jobs: u64, summary: &Mutex<Summary>) {
-    let (sample, compared) = draw_and_judge(seed, index);
+    let (sample, compared, held) = draw_and_judge(seed, index);
     let mut summary = summary.lock().expect("no worker stopped");
     summary.add(sample.class, &sample.job, &compared);
-    if !compared.differences.is_empty() && summary.unlike <= SHOWN {
-        say!(
-            "job {index} ({}, {} bytes): {}",
-            sample.class,
-            sample.job.len(),
-            compared.differences[0]
-        );
+    let with_table = held.and_then(|held| {
+        summary.tables.add(&held);
+        let told = held.differences.first()?;
+        Some(format!("with table {:?}: {told}", held.table))
+    });
+    if let Some(told) = compared.differences.first().or(with_table.as_ref())
+        && summary.unlike + summary.tables.unlike <= SHOWN
+    {
+        let length = sample.job.len();
+        say!("job {index} ({}, {length} bytes): {told}", sample.class);
     }
     if summary.jobs.is_multiple_of(1_000) {
         eprint!(
             "\r{} of {jobs} jobs, {} disagree",
-            summary.jobs, summary.unlike
+            summary.jobs,
+            summary.unlike + summary.tables.unlike
         );
     }
 }

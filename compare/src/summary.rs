@@ -3,6 +3,7 @@
 use crate::compare::Compared;
 use crate::generate::CLASSES;
 use crate::second::{Job, Refusal, load};
+use crate::tables::totals::Tables;
 use std::collections::BTreeMap;
 use std::fmt::Display;
 
@@ -25,6 +26,7 @@ pub struct Summary {
     largest: [usize; 7],
     /// Loaded jobs that reach each limit.
     full: [usize; 7],
+    pub tables: Tables,
 }
 
 /// What is counted in a job, and its limit.
@@ -98,7 +100,7 @@ impl Summary {
     }
 
     pub fn agrees(&self) -> bool {
-        self.unlike == 0
+        self.unlike == 0 && self.tables.unlike == 0
     }
 
     /// The summary of any jobs.
@@ -137,12 +139,13 @@ impl Summary {
             lines.push(format!("accepted with {feature}: {count}"));
         }
         lines.push(format!("loaded at a limit: {}", sizes(self.full)));
+        lines.extend(self.tables.lines());
         lines.extend(self.lines());
         lines
     }
 }
 
-fn counts(map: &BTreeMap<impl Display, usize>) -> String {
+pub fn counts(map: &BTreeMap<impl Display, usize>) -> String {
     let shown: Vec<String> = map.iter().map(|(k, n)| format!("{k}: {n}")).collect();
     shown.join(", ")
 }

@@ -4,12 +4,13 @@
 use crate::cli::Failed;
 use crate::compare::ROOM;
 use crate::generate::rng::Rng;
+use crate::generate::tables::{Drawn, FAULTY, FULL, LESSER};
 use crate::generate::{self, CLASSES};
 use crate::records;
 use crate::run::judge;
-use crate::second::load::MAX_FACES;
-use crate::second::{self, Stage};
-use crate::vectors::{Answer, sew_answer, stage_answer};
+use crate::second::load::{MAX_BYTES, MAX_FACES};
+use crate::second::{self, Stage, Supplied};
+use crate::vectors::{Answer, sew_answer, stage_answer, suited_jobs};
 use std::collections::BTreeMap;
 use std::fmt::Write;
 
@@ -26,14 +27,16 @@ const MORE: usize = 6;
 /// Rows computed by one fact, which may take fifty million steps.
 const ROWS: usize = 24;
 
+const P9: &str = include_str!("../parts/P9.txt");
+
 const HEAD: &str = "\
 -- Jobs of every class and ending with the judge's answers. Written by `judge table`.
 use Rattle.std.specs.Prelude.{◌≡◌, refl, List, [], ◌∷◌, Bool, true, false, not, ◌&&◌, cond, ℕ, eqb, replicate}
 use Rattle.lists.specs.Lists.{positions, same}
 use Rattle.rules.specs.Outcome.{Outcome, Ok, Err, fault_number}
 use Rattle.rules.specs.Rules.{ordinary}
-use Rattle.rules.specs.Sew.{sewn}
-use Rattle.rules.specs.Stage.{read_stage, pair_stage, merge_stage, vertex_loop_stage, walk_stage, loop_stage, fan_stage, edge_stage, joining_stage, shell_stage, lump_stage}
+use Rattle.rules.specs.Sew.{sewn, sewn_with_table}
+use Rattle.rules.specs.Stage.{read_stage, pair_stage, merge_stage, vertex_loop_stage, walk_stage, walk_stage_with_table, loop_stage, fan_stage, edge_stage, joining_stage, shell_stage, lump_stage}
 use Rattle.rules.specs.Open.{computes}
 
 -- an answer of the judge: the bytes written, or a refusal's number and place
@@ -41,10 +44,12 @@ pub data Told : Type 0 where
   wrote : List ℕ → Told
   refused : ℕ → ℕ → Told
 
--- a job, the operation (0 sewing, 1 to 11 the stages), the room, the answer
+-- a job, the operation (0 sewing, 1 to 11 the stages, 14 and 15 sewing and the walk stage with a table), the table,
+-- the room, the answer
 pub record Row : Type 0 where
   pub job : List ℕ
   pub operation : ℕ
+  pub table : List ℕ
   pub room : ℕ
   pub answer : Told
 
@@ -54,9 +59,11 @@ agrees (Ok a) (refused n p) = false
 agrees (Err r) (wrote b) = false
 agrees (Err r) (refused n p) = eqb (fault_number r.fault) n && eqb r.place p
 
-unfoldable stages : ℕ → List ℕ → ℕ → Outcome (List ℕ)
-stages o job room =
-    cond (eqb o 1) (read_stage job room)
+unfoldable stages : ℕ → List ℕ → List ℕ → ℕ → Outcome (List ℕ)
+stages o table job room =
+    cond (eqb o 14) (sewn_with_table table job room)
+    (cond (eqb o 15) (walk_stage_with_table table job room)
+    (cond (eqb o 1) (read_stage job room)
     (cond (eqb o 2) (pair_stage job room)
     (cond (eqb o 3) (merge_stage ordinary job room)
     (cond (eqb o 4) (vertex_loop_stage ordinary job room)
@@ -67,15 +74,16 @@ stages o job room =
     (cond (eqb o 9) (joining_stage ordinary job room)
     (cond (eqb o 10) (shell_stage ordinary job room)
     (cond (eqb o 11) (lump_stage ordinary job room)
-    (sewn ordinary job room)))))))))))
+    (sewn ordinary job room)))))))))))))
 
 unfoldable wrong : Row → Bool
-wrong r = not (agrees (stages r.operation r.job r.room) r.answer)
+wrong r = not (agrees (stages r.operation r.table r.job r.room) r.answer)
 ";
 
 struct Row {
     job: String,
     operation: usize,
+    table: Vec<u8>,
     room: usize,
     answer: Answer,
 }
@@ -93,11 +101,14 @@ pub fn table(seed: u64) -> Result<(String, String), Failed> {
         }
     }
     let jobs: usize = classes.values().sum();
+    let with_tables = table_rows(seed)?;
     let said = format!(
-        "{} jobs, {} rows; by class {classes:?}; by ending (0 accepted) {numbers:?}",
+        "{} jobs, {} rows; by class {classes:?}; by ending (0 accepted) {numbers:?}; {} rows with tables",
         jobs + 2,
-        rows.len()
+        rows.len(),
+        with_tables.len()
     );
+    rows.extend(with_tables);
     Ok((module(&rows), said))
 }
 
@@ -106,6 +117,7 @@ fn too_long() -> Row {
     Row {
         job: "replicate 65537 0".to_string(),
         operation: 0,
+        table: Vec::new(),
         room: ROOM,
         answer: Err(second::refusal::refusal(1, 65_536)),
     }
@@ -120,6 +132,7 @@ fn too_many_faces() -> Row {
     Row {
         job: list(&job),
         operation: 0,
+        table: Vec::new(),
         room: ROOM,
         answer: Err(second::refusal::refusal(5, job.len() - 26)),
     }
@@ -160,12 +173,13 @@ fn jobs_of(class: &'static str, c: usize, seed: u64) -> Result<Vec<(Vec<u8>, usi
 
 /// Rows for sewing and for each stage of a job; gives sewing's number.
 fn add_rows(rows: &mut Vec<Row>, job: &[u8], room: usize) -> u32 {
-    let sewn = second::load(job).map(|loaded| second::sew(&loaded, &mut &loaded.answers));
+    let sewn = second::sewn(&Supplied::Nothing, job);
     let answer = sew_answer(&sewn, room);
     let number = answer.as_ref().err().map_or(0, |refusal| refusal.number);
     rows.push(Row {
         job: list(job),
         operation: 0,
+        table: Vec::new(),
         room,
         answer,
     });
@@ -178,6 +192,7 @@ fn add_rows(rows: &mut Vec<Row>, job: &[u8], room: usize) -> u32 {
         rows.push(Row {
             job: list(job),
             operation: 1 + i,
+            table: Vec::new(),
             room: 2 * ROOM,
             answer,
         });
@@ -186,6 +201,70 @@ fn add_rows(rows: &mut Vec<Row>, job: &[u8], room: usize) -> u32 {
         }
     }
     number
+}
+
+/// Rows with tables: the faulty ones, the permitted ones, and the lesser ones with
+/// jobs of which they join less.
+fn table_rows(seed: u64) -> Result<Vec<Row>, Failed> {
+    let part = job_text::assemble(P9.as_bytes()).map_err(|_| "P9 is wrong")?;
+    let mut calls = faulty_calls(&part);
+    calls.extend(permitted_calls(&part));
+    let suited = suited_jobs(seed, LONGEST, ONE)?.into_iter();
+    calls.extend(suited.map(|(job, table)| (job, ROOM, table)));
+    let mut rows = Vec::new();
+    for (job, room, table) in &calls {
+        add_with_table(&mut rows, job, *room, table);
+    }
+    Ok(rows)
+}
+
+/// A job, the room, and the table.
+type Call = (Vec<u8>, usize, Drawn);
+
+/// The faulty tables come before all that is wrong with a job and its room.
+fn faulty_calls(part: &[u8]) -> Vec<Call> {
+    let calls = FAULTY.into_iter().enumerate().flat_map(|(i, faulty)| {
+        let other = match i % 2 {
+            0 => (part.to_vec(), 0),
+            _ => (vec![0; MAX_BYTES + 1], ROOM),
+        };
+        [(Vec::new(), ROOM), other].map(|(job, room)| (job, room, Drawn::faulty(faulty)))
+    });
+    calls.collect()
+}
+
+/// The permitted tables with no bytes, and with P9 in rooms at the limit.
+fn permitted_calls(part: &[u8]) -> Vec<Call> {
+    let tables = std::iter::once(FULL).chain(LESSER);
+    let calls = tables.flat_map(|bytes| {
+        let rooms = [ROOM, 71, 72, 47].map(|room| (part.to_vec(), room));
+        let jobs = std::iter::once((Vec::new(), ROOM)).chain(rooms);
+        jobs.map(move |(job, room)| (job, room, Drawn::permitted(bytes)))
+    });
+    calls.collect()
+}
+
+/// Sewing and the walk stage with a table.
+fn add_with_table(rows: &mut Vec<Row>, job: &[u8], room: usize, table: &Drawn) {
+    let sewn = second::sewn(&table.supplied(), job);
+    let text = match job.len() > MAX_BYTES {
+        true => format!("replicate {} 0", job.len()),
+        false => list(job),
+    };
+    let walk = sewn.as_ref().map_err(|refusal| *refusal);
+    let walk = walk.and_then(|trail| {
+        let records = second::stage_output(trail, Stage::Walk, room)?;
+        Ok(records::field_bytes(&records.concat()))
+    });
+    for (operation, answer) in [(14, sew_answer(&sewn, room)), (15, walk)] {
+        rows.push(Row {
+            job: text.clone(),
+            operation,
+            table: table.bytes.clone(),
+            room,
+            answer,
+        });
+    }
 }
 
 fn list(bytes: &[u8]) -> String {
@@ -207,8 +286,11 @@ fn module(rows: &[Row]) -> String {
             };
             let _ = writeln!(
                 text,
-                "    record {{ job = {}; operation = {}; room = {}; answer = {answer} }} ∷",
-                row.job, row.operation, row.room
+                "    record {{ job = {}; operation = {}; table = {}; room = {}; answer = {answer} }} ∷",
+                row.job,
+                row.operation,
+                list(&row.table),
+                row.room
             );
         }
         let _ = write!(

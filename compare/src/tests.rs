@@ -1,17 +1,19 @@
 //! Document 01's parts P1 to P9 in both implementations, and the judge's own
 //! forms of jobs.
 
-use crate::answer::{Wanted, answer};
+use crate::answer::{Wanted, answer, entries_of, table_of};
 use crate::compare::{ROOM, compare};
 use crate::compared::{compared, compared_lines, in_room, lacking};
 use crate::generate::rng::Rng;
 use crate::generate::split::split_vertices;
+use crate::generate::tables::{self as drawn, Drawn, FAULTY, FULL, LESSER};
 use crate::generate::{self, Expected, Sample, limits};
 use crate::records;
 use crate::second::load::MAX_BYTES;
-use crate::second::{Refusal, Stage};
+use crate::second::{Refusal, Stage, Supplied};
+use crate::tables::totals::Tables;
 use crate::twice::{self, CLOSE, SELECTED_TWICE, first_repeat};
-use crate::{run, second, text, vectors};
+use crate::{run, second, tables, text, vectors};
 use std::collections::{BTreeMap, BTreeSet};
 use std::path::Path;
 
@@ -50,6 +52,32 @@ fn parts_give_what_their_files_say() {
     }
 }
 
+/// What `answer` is called with, and what it must print, for each sort of lines
+/// of a part's file that name it, as `#walk table 0001> 0 1 0` does.
+fn named_answers(path: &Path) -> BTreeMap<String, String> {
+    let file = std::fs::read_to_string(path).expect("the part is there");
+    let mut answers = BTreeMap::new();
+    for line in file.lines() {
+        let Some((words, told)) = line
+            .strip_prefix('#')
+            .and_then(|line| line.split_once("> "))
+        else {
+            continue;
+        };
+        if !words.is_empty() {
+            let answer: &mut String = answers.entry(words.to_string()).or_default();
+            *answer += &format!("{told}\n");
+        }
+    }
+    answers
+}
+
+/// The answer to a job, called with words as from a shell.
+fn told(job: &[u8], words: &str, room: usize) -> String {
+    let words: Vec<String> = words.split(' ').map(str::to_string).collect();
+    answer(job, Wanted::of_words(&words).expect("right words"), room)
+}
+
 /// The parts made for the requests of document 02, in both implementations.
 #[test]
 fn parts_of_the_requests_give_what_their_files_say() {
@@ -60,7 +88,19 @@ fn parts_of_the_requests_give_what_their_files_say() {
         let path = file.expect("a part of a request").path();
         let (job, expected) = part_in(&path);
         assert_eq!(listing(&job), expected, "{}", path.display());
-        let differences = compare(&job, ROOM).differences;
+        for (words, wanted) in named_answers(&path) {
+            assert_eq!(
+                told(&job, &words, ROOM),
+                wanted,
+                "{} {words}",
+                path.display()
+            );
+        }
+        let mut differences = compare(&job, ROOM).differences;
+        for table in [FULL, LESSER[0], LESSER[1], LESSER[2]] {
+            let held = tables::hold(&job, ROOM, &Drawn::permitted(table));
+            differences.extend(held.differences);
+        }
         assert!(
             differences.is_empty(),
             "{}: {differences:?}",
@@ -68,7 +108,7 @@ fn parts_of_the_requests_give_what_their_files_say() {
         );
         seen += 1;
     }
-    assert!(seen >= 50, "{seen} parts");
+    assert!(seen >= 64, "{seen} parts");
 }
 
 #[test]
@@ -131,19 +171,24 @@ fn parts_have_the_lines_of_the_paper() {
 
 /// The jobs that the gate replays.
 fn stored_jobs() -> Vec<Vec<u8>> {
+    let stored = stored_vectors().into_iter();
+    stored.map(|(job, _)| job).collect()
+}
+
+fn stored_vectors() -> Vec<vectors::Stored> {
     let path = format!(
         "{}/../crates/replay/data/vectors",
         env!("CARGO_MANIFEST_DIR")
     );
     let packed = std::fs::read(path).expect("the vectors are there");
-    vectors::jobs_of(&packed).expect("they are packed")
+    vectors::stored(&packed).expect("they are packed")
 }
 
 /// The text form gives every stored job back, damaged ones too.
 #[test]
 fn stored_jobs_come_back_from_their_text() {
     let jobs = stored_jobs();
-    assert_eq!(jobs.len(), 846);
+    assert_eq!(jobs.len(), 982);
     for job in jobs {
         let text = job_text::show(&job);
         assert_eq!(job_text::assemble(text.as_bytes()), Ok(job));
@@ -342,7 +387,7 @@ fn a_face_selected_twice_is_refused_in_every_operation() {
                 assert_eq!(second::request(&job, number), Err(wanted));
             }
             for stage in Stage::ALL {
-                let told = answer(&job, Wanted::Stage(stage), 0);
+                let told = answer(&job, Wanted::Stage(stage, Supplied::Nothing), 0);
                 assert_eq!(told, format!("refused 45 {place}\n"));
             }
             assert_eq!(compare(&job, 0).refusal, Some(wanted));
@@ -597,4 +642,209 @@ fn stages_of_part_nine() {
     assert_eq!(stage("joining"), edges);
     let walk = Wanted::of_words(&["walk".to_string()]).expect("a stage");
     assert_eq!(answer(&job, walk, 47), "refused 40 48\n");
+}
+
+/// Request Eleven: every table of four of these bytes; the four that are permitted
+/// stand beside each other, and say of each place what may stand there.
+#[test]
+fn tables_are_taken_by_the_four_that_are_permitted() {
+    let permitted = [FULL, LESSER[0], LESSER[1], LESSER[2]];
+    let values = [0, 1, 2, 3, 127, 128, 129, 254, 255];
+    let mut taken = 0;
+    for number in 0..9usize.pow(4) {
+        let bytes = [0, 1, 2, 3].map(|i| values[number / 9usize.pow(i) % 9]);
+        let faulty = |i: &usize| permitted.iter().all(|table| table[*i] != bytes[*i]);
+        let rules = Supplied::Table(bytes.to_vec()).rules();
+        match (0..4).find(faulty) {
+            Some(place) => {
+                let place = place as u32;
+                let number = tables::WRONG_TABLE;
+                assert_eq!(rules, Err(Refusal { number, place }), "{bytes:?}");
+            }
+            None => {
+                taken += 1;
+                let table = rules.expect("permitted").table;
+                for (i, byte) in bytes.into_iter().enumerate() {
+                    let joins = table.joins(i < 2, i % 2 == 0);
+                    assert_eq!(joins, byte == 1, "{bytes:?} at {i}");
+                }
+            }
+        }
+    }
+    assert_eq!(taken, 4);
+}
+
+/// Request Eleven: 48 comes before everything else, in sewing and in the walk
+/// stage: before 1, for no bytes at all, and before 40.
+#[test]
+fn a_wrong_table_comes_first() {
+    for (bytes, place) in FAULTY {
+        let wanted = format!("refused 48 {place}\n");
+        let (nine, _) = part(9);
+        for job in [
+            &[][..],
+            &nine,
+            &[0; 70_000],
+            &[0; MAX_BYTES + 1],
+            &nine[..3],
+        ] {
+            for room in [0, ROOM] {
+                let table = || Supplied::Table(bytes.to_vec());
+                let walk = Wanted::Stage(Stage::Walk, table());
+                assert_eq!(answer(job, Wanted::Sew(table()), room), wanted);
+                assert_eq!(answer(job, walk, room), wanted);
+            }
+        }
+    }
+    // With a table that is permitted the job's own refusals come.
+    for table in ["1001", "1000", "0001", "0000"] {
+        let long = told(&[0; 70_000], &format!("sew table {table}"), ROOM);
+        assert_eq!(long, "refused 1 65536\n");
+        let none = told(&[], &format!("walk table {table}"), ROOM);
+        assert_eq!(none, "refused 3 0\n");
+    }
+}
+
+/// Request Eleven: an entry is a character's value less that of `0`; only sewing
+/// and the walk stage take a table, and only one.
+#[test]
+fn tables_are_read_from_words() {
+    let (nine, _) = part(9);
+    for (entries, wanted) in [
+        ("10", "refused 48 4"),
+        ("10010", "refused 48 4"),
+        ("", "refused 48 4"),
+        ("1101", "refused 48 1"),
+        ("1/01", "refused 48 1"),
+        ("1001\n", "refused 48 4"),
+        (":001", "refused 48 0"),
+        ("1002", "refused 48 3"),
+    ] {
+        let words = format!("walk table {entries}");
+        assert_eq!(
+            told(&nine, &words, ROOM),
+            format!("{wanted}\n"),
+            "{entries}"
+        );
+    }
+    assert_eq!(told(&nine, "sew table 1001", ROOM), listing(&nine));
+    assert_eq!(told(&nine, "walk table 1001", 47), "refused 40 48\n");
+    assert_eq!(told(&nine, "walk table 0001", 71), "refused 40 72\n");
+    for words in [
+        "fans table 1000",
+        "read table 1001",
+        "loop table 1000",
+        "sew table",
+        "sew table 1001 1001",
+        "table 1001",
+        "walk tables 1001",
+    ] {
+        let words: Vec<String> = words.split(' ').map(str::to_string).collect();
+        assert!(Wanted::of_words(&words).is_err(), "{words:?}");
+    }
+    assert_eq!(table_of("1/01"), [1, 255, 0, 1]);
+    assert_eq!(entries_of(&[1, 255, 0, 9]).as_deref(), Some("1/09"));
+    // No word has a byte 0, or half a letter.
+    assert_eq!(entries_of(&[208, 0, 0, 1]), None);
+    assert_eq!(entries_of(&[128, 0, 0, 1]), None);
+}
+
+/// Request Eleven: drawn jobs with the tables drawn for them agree, and all that
+/// there is to meet is met: 48 at each place, each length and each faulty entry,
+/// before other refusals, and each permitted table on each answer and senses.
+#[test]
+fn tables_are_met() {
+    let mut totals = Tables::default();
+    for index in 0..6_000 {
+        let sample = generate::sample(4, index);
+        let held = run::judge_table(&sample, 4, index);
+        assert!(
+            held.differences.is_empty(),
+            "job {index}: {:?}",
+            held.differences
+        );
+        totals.add(&held);
+    }
+    assert_eq!(totals.unmet(), Vec::<String>::new());
+}
+
+/// Request Eleven: a job that suits a table loads as before and sews as before,
+/// but for the senses of its faces and what is answered and not asked.
+#[test]
+fn suited_jobs_join_the_same_faces() {
+    let (mut turned, mut longer) = (0, 0);
+    for index in 0..1_500 {
+        let job = generate::sample(5, index).job;
+        let table = Drawn::permitted(LESSER[index as usize % 3]);
+        let suited = drawn::suited(&job, &table, &mut Rng::new(5, index));
+        let before = second::sewn(&Supplied::Nothing, &job);
+        let after = second::sewn(&Supplied::Nothing, &suited);
+        match (before, after) {
+            // What was missing may be answered now.
+            (Ok(before), Ok(_)) if before.refusal.is_some_and(|r| r.number == 20) => {}
+            (Ok(before), Ok(after)) => {
+                assert_eq!(before.refusal, after.refusal, "job {index}");
+                assert_eq!(before.asked, after.asked, "job {index}");
+                let groups = |trail: second::Trail| trail.merged.map(|merged| merged.group);
+                assert_eq!(groups(before), groups(after), "job {index}");
+                turned += usize::from(suited[..job.len()] != job);
+                longer += usize::from(suited.len() > job.len());
+            }
+            (before, after) => assert_eq!(before.err(), after.err(), "job {index}"),
+        }
+    }
+    assert!(
+        turned > 400 && longer > 200,
+        "{turned} turned, {longer} longer"
+    );
+}
+
+/// Request Eleven: with a lesser table most jobs that suit it are accepted, and
+/// many join fewer faces than by ordinary sewing.
+#[test]
+fn suited_jobs_are_accepted_and_join_less() {
+    for bytes in LESSER {
+        let table = Drawn::permitted(bytes);
+        let held = |index| {
+            let job = generate::sample_of("merging", &mut Rng::new(6, index)).job;
+            let suited = drawn::suited(&job, &table, &mut Rng::new(6, index));
+            tables::hold(&suited, ROOM, &table)
+        };
+        let held: Vec<tables::Held> = (0..300).map(held).collect();
+        let accepted = held.iter().filter(|held| held.refusal.is_none());
+        let fewer = accepted.clone().filter(|held| held.fewer).count();
+        assert!(accepted.count() > 200 && fewer > 80, "{bytes:?}: {fewer}");
+    }
+}
+
+/// How the stored jobs end without a table, by operation and table.
+fn stored_endings() -> BTreeMap<vectors::Of, BTreeSet<u32>> {
+    let met = stored_vectors().into_iter().flat_map(|(job, answers)| {
+        let ordinary = second::sewn(&Supplied::Nothing, &job);
+        let refusal = ordinary.map_or_else(Some, |trail| trail.refusal);
+        let number = refusal.map_or(0, |refusal| refusal.number);
+        answers.into_iter().map(move |of| (of, number))
+    });
+    let mut endings: BTreeMap<vectors::Of, BTreeSet<u32>> = BTreeMap::new();
+    for (of, number) in met {
+        endings.entry(of).or_default().insert(number);
+    }
+    endings
+}
+
+/// Request Eleven: the stored answers are those of every faulty table and of the
+/// permitted ones, in sewing and in the walk stage, with jobs of all sorts.
+#[test]
+fn tables_are_stored() {
+    let endings = stored_endings();
+    for operation in [14, 15] {
+        let met = |table: &[u8]| &endings[&(operation, table.to_vec())];
+        let before: BTreeSet<&u32> = FAULTY.iter().flat_map(|(table, _)| met(table)).collect();
+        let mut unmet = vec![0, 1, 2, 3, 4, 5, 6, 7, 45, 10, 20, 21, 31];
+        unmet.retain(|number| !before.contains(number));
+        assert_eq!(unmet, [], "no 48 before these, operation {operation}");
+        let permitted = [FULL, LESSER[0], LESSER[1], LESSER[2]];
+        let met = permitted.map(|table| met(&table).len());
+        assert!(met.iter().all(|&count| count >= 12), "{met:?} endings");
+    }
 }

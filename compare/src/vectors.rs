@@ -3,14 +3,17 @@
 use crate::cli::Failed;
 use crate::compare::{ROOM, compare};
 use crate::generate::rng::Rng;
+use crate::generate::tables::{Drawn, FAULTY, FULL, LESSER, suited};
 use crate::generate::{self, CLASSES, Sample, limits};
 use crate::run::judge;
-use crate::second::{self, Refusal, Stage, Trail};
+use crate::second::load::MAX_BYTES;
+use crate::second::{self, Refusal, Sewn, Stage, Supplied};
+use crate::tables;
 use crate::twice;
 use std::collections::{BTreeMap, BTreeSet};
 
 /// Bytes the file may have at most.
-const MOST: usize = 2_000_000;
+const MOST: usize = 3_000_000;
 /// Bytes of most jobs.
 const SMALL: usize = 1_000;
 /// Bytes of some accepted jobs, which have more in them.
@@ -19,6 +22,8 @@ const MIDDLING: usize = 4_000;
 const LONG: usize = 8_000;
 /// Jobs drawn of each class.
 const DRAWN: u64 = 3_000;
+/// Jobs kept for a table of each class, and of each refusal.
+const SUITED: usize = 2;
 /// Longest body that is written out.
 const WRITTEN_OUT: usize = 4_096;
 
@@ -57,18 +62,101 @@ pub fn vectors(seed: u64) -> Result<Packed, Failed> {
     if let Some(number) = NUMBERS.iter().find(|number| !met.contains(number)) {
         return Err(format!("no job with refusal {number} was drawn"));
     }
-    let mut bytes = (jobs.len() as u32).to_le_bytes().to_vec();
-    for (job, room) in &jobs {
-        agreed(job)?;
-        pack(&mut bytes, job, *room);
+    let given = jobs.into_iter().enumerate();
+    let mut all: Vec<(Vec<u8>, usize, Vec<Drawn>)> = given
+        .map(|(i, (job, room))| {
+            let tables = tables_for(i, &job);
+            (job, room, tables)
+        })
+        .collect();
+    let suited = suited_jobs(seed, SMALL, SUITED)?.into_iter();
+    all.extend(suited.map(|(job, table)| (job, ROOM, vec![table])));
+    let mut bytes = (all.len() as u32).to_le_bytes().to_vec();
+    for (job, room, tables) in &all {
+        agreed(job, tables)?;
+        pack(&mut bytes, job, *room, tables);
     }
     if bytes.len() >= MOST {
         return Err(format!("{} bytes are too many", bytes.len()));
     }
     Ok(Packed {
         bytes,
-        jobs: jobs.len(),
+        jobs: all.len(),
     })
+}
+
+/// The tables for a job: all that are permitted for a part, one of them for the
+/// others in turn, and for some a faulty one.
+fn tables_for(number: usize, job: &[u8]) -> Vec<Drawn> {
+    let permitted = [FULL, LESSER[0], LESSER[1], LESSER[2]];
+    let mut tables: Vec<Drawn> = match number < PARTS.len() {
+        true => permitted.map(Drawn::permitted).to_vec(),
+        false => vec![Drawn::permitted(permitted[number % 4])],
+    };
+    if number.is_multiple_of(3) || job.len() > MAX_BYTES {
+        tables.push(Drawn::faulty(FAULTY[number / 3 % FAULTY.len()]));
+    }
+    tables
+}
+
+/// Jobs of every class for each lesser table that joins fewer faces than the full
+/// one: so many accepted of a class, and so many of each refusal that is not the
+/// ordinary one. None is longer than so many bytes.
+pub fn suited_jobs(
+    seed: u64,
+    longest: usize,
+    most: usize,
+) -> Result<Vec<(Vec<u8>, Drawn)>, Failed> {
+    let mut jobs = Vec::new();
+    let mut kept: BTreeMap<SuitedSort, usize> = BTreeMap::new();
+    let draws = (0..CLASSES.len()).flat_map(|c| (0..DRAWN).map(move |i| (c, i)));
+    for (c, i) in draws {
+        let Some((job, table, sort)) = suited_job(seed, c, i, longest)? else {
+            continue;
+        };
+        let count = kept.entry(sort).or_default();
+        if *count < most {
+            *count += 1;
+            jobs.push((job, table));
+        }
+    }
+    Ok(jobs)
+}
+
+/// A lesser table, and the class of a job that is accepted with it or the refusal
+/// of one that is not.
+type SuitedSort = (Vec<u8>, Result<&'static str, (u32, u32)>);
+
+/// The job drawn so of a class, made to suit a lesser table, if the table joins
+/// fewer faces than the full one and the job is not refused as it is without it.
+fn suited_job(
+    seed: u64,
+    c: usize,
+    i: u64,
+    longest: usize,
+) -> Result<Option<(Vec<u8>, Drawn, SuitedSort)>, Failed> {
+    let (class, _) = CLASSES[c];
+    let mut rng = Rng::new(seed, (c as u64) << 32 | i);
+    let table = Drawn::permitted(LESSER[i as usize % LESSER.len()]);
+    let job = generate::sample_of(class, &mut rng).job;
+    if job.len() > longest {
+        return Ok(None);
+    }
+    let job = suited(&job, &table, &mut rng.apart(49));
+    let held = tables::hold(&job, ROOM, &table);
+    if let Some(difference) = held.differences.first() {
+        return Err(format!("{class} job {i} with a table: {difference}"));
+    }
+    let as_without = held.refusal.is_some() && held.refusal == held.ordinary;
+    if job.len() > longest || !held.fewer || as_without {
+        return Ok(None);
+    }
+    let sort = match held.refusal {
+        None => Ok(class),
+        Some(refusal) => Err(sort_of_ending(refusal)),
+    };
+    let sort = (table.bytes.clone(), sort);
+    Ok(Some((job, table, sort)))
 }
 
 /// Jobs of every class, mostly small ones, a few for each ending.
@@ -194,26 +282,26 @@ fn limit_jobs(
     Ok(())
 }
 
-fn agreed(job: &[u8]) -> Result<(), Failed> {
-    match compare(job, ROOM).differences.first() {
+fn agreed(job: &[u8], tables: &[Drawn]) -> Result<(), Failed> {
+    let with_tables = tables.iter().map(|table| tables::hold(job, ROOM, table));
+    let mut differences = compare(job, ROOM).differences;
+    differences.extend(with_tables.flat_map(|held| held.differences));
+    match differences.into_iter().next() {
         None => Ok(()),
-        Some(difference) => Err(difference.clone()),
+        Some(difference) => Err(difference),
     }
 }
 
 /// The refusal of an operation, or the bytes it writes.
 pub type Answer = Result<Vec<u8>, Refusal>;
 
-/// A job's sewing, or the refusal of its loading.
-pub type Sewn = Result<Trail, Refusal>;
-
-fn pack(out: &mut Vec<u8>, job: &[u8], room: usize) {
+fn pack(out: &mut Vec<u8>, job: &[u8], room: usize, tables: &[Drawn]) {
     put(out, job.len() as u32);
     out.extend(job);
-    let sewn = second::load(job).map(|loaded| second::sew(&loaded, &mut &loaded.answers));
+    let sewn = second::sewn(&Supplied::Nothing, job);
     let body = sew_answer(&sewn, ROOM);
     let rooms = rooms(&body, room);
-    put(out, 13 + rooms.len() as u32);
+    put(out, (13 + rooms.len() + 2 * tables.len()) as u32);
     put_answer(out, 0, &body);
     put_body(out, &body);
     for (i, stage) in Stage::ALL.into_iter().enumerate() {
@@ -227,6 +315,22 @@ fn pack(out: &mut Vec<u8>, job: &[u8], room: usize) {
         put_ending(out, &body);
         put_body(out, &body);
     }
+    for table in tables {
+        let sewn = second::sewn(&table.supplied(), job);
+        put_table(out, 14, &table.bytes);
+        let body = sew_answer(&sewn, ROOM);
+        put_ending(out, &body);
+        put_body(out, &body);
+        put_table(out, 15, &table.bytes);
+        put_ending(out, &stage_answer(&sewn, Stage::Walk));
+    }
+}
+
+/// An operation with a table, and the table.
+fn put_table(out: &mut Vec<u8>, operation: u32, table: &[u8]) {
+    put(out, operation);
+    put(out, table.len() as u32);
+    out.extend(table);
 }
 
 /// Rooms to sew in: about the length of the body, and the job's own.
@@ -315,8 +419,14 @@ fn fnv(bytes: &[u8]) -> u32 {
     })
 }
 
+/// What a stored answer is of: the operation, and the table if one is supplied.
+pub type Of = (u32, Vec<u8>);
+
+/// A stored job and what its answers are of.
+pub type Stored = (Vec<u8>, Vec<Of>);
+
 /// The jobs of a packed file.
-pub fn jobs_of(bytes: &[u8]) -> Result<Vec<Vec<u8>>, Failed> {
+pub fn stored(bytes: &[u8]) -> Result<Vec<Stored>, Failed> {
     let mut reader = Reader { rest: bytes };
     let jobs = reader.jobs();
     jobs.filter(|_| reader.rest.is_empty())
@@ -339,32 +449,37 @@ impl<'a> Reader<'a> {
         Some(u32::from_le_bytes([bytes[0], bytes[1], bytes[2], bytes[3]]))
     }
 
-    fn jobs(&mut self) -> Option<Vec<Vec<u8>>> {
+    fn jobs(&mut self) -> Option<Vec<Stored>> {
         let mut jobs = Vec::new();
         for _ in 0..self.field()? {
             let length = self.field()? as usize;
-            jobs.push(self.bytes(length)?.to_vec());
-            for _ in 0..self.field()? {
-                self.skip_answer()?;
-            }
+            let job = self.bytes(length)?.to_vec();
+            let count = self.field()?;
+            let answers: Option<Vec<Of>> = (0..count).map(|_| self.answer()).collect();
+            jobs.push((job, answers?));
         }
         Some(jobs)
     }
 
-    fn skip_answer(&mut self) -> Option<()> {
+    fn answer(&mut self) -> Option<Of> {
         let operation = self.field()?;
         if operation == 13 {
             self.field()?;
+        }
+        let mut table = Vec::new();
+        if operation == 14 || operation == 15 {
+            let length = self.field()? as usize;
+            table.extend(self.bytes(length)?);
         }
         let number = self.field()?;
         self.field()?;
         if number == 0 {
             self.field()?;
-            if operation == 0 || operation == 13 {
+            if [0, 13, 14].contains(&operation) {
                 let shown = self.field()? as usize;
                 self.bytes(shown)?;
             }
         }
-        Some(())
+        Some((operation, table))
     }
 }

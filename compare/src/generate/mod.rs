@@ -12,6 +12,7 @@ pub mod shapes;
 pub mod sketch;
 pub mod sources;
 pub mod split;
+pub mod tables;
 
 pub use classes::{CLASSES, sample, sample_of};
 

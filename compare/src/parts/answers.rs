@@ -3,7 +3,7 @@
 use crate::compare::ROOM;
 use crate::compared::{compared, compared_lines, in_room, lacking};
 use crate::records::field_bytes;
-use crate::second::{self, Stage};
+use crate::second::{self, Stage, Supplied};
 use crate::text;
 use crate::vectors::{sew_answer, stage_answer};
 use reference::Ending;
@@ -51,6 +51,9 @@ impl Answers {
 pub struct Programs {
     pub name: &'static str,
     pub tested: fn(&[u8]) -> Answers,
+    /// Sewing and the walk stage of the tested program with a table, which the
+    /// reference has not.
+    pub with_table: fn(&[u8], &[u8]) -> [Answer; 2],
     pub reference: fn(&[u8]) -> (Answers, Vec<String>),
 }
 
@@ -59,6 +62,7 @@ pub struct Programs {
 pub const PROGRAMS: Programs = Programs {
     name: "library",
     tested: library,
+    with_table: library_with_table,
     reference,
 };
 
@@ -67,18 +71,24 @@ pub const PROGRAMS: Programs = Programs {
 pub const PROGRAMS: Programs = Programs {
     name: SECOND,
     tested: second,
+    with_table: second_with_table,
     reference,
 };
 
 /// What the second implementation is called.
 pub const SECOND: &str = "second";
 
+/// What the library wrote, or its refusal.
 #[cfg(feature = "library")]
-fn library(job: &[u8]) -> Answers {
-    let answer = |out: &[u8], ended: Result<usize, zaxclover::Refusal>| match ended {
+fn answer(out: &[u8], ended: Result<usize, zaxclover::Refusal>) -> Answer {
+    match ended {
         Ok(length) => Ok(out.get(..length).unwrap_or(out).to_vec()),
         Err(refusal) => Err((refusal.number as u32, refusal.place as u32)),
-    };
+    }
+}
+
+#[cfg(feature = "library")]
+fn library(job: &[u8]) -> Answers {
     // No stage needs so much.
     let mut out = vec![0; 2 * ROOM];
     let stages = zaxclover::Stage::ALL.map(|stage| {
@@ -98,13 +108,31 @@ fn library(job: &[u8]) -> Answers {
     }
 }
 
+#[cfg(feature = "library")]
+fn library_with_table(table: &[u8], job: &[u8]) -> [Answer; 2] {
+    let mut out = vec![0; 2 * ROOM];
+    let ended = zaxclover::sew_with_table(table, job, &mut out[..ROOM]);
+    let body = answer(&out, ended);
+    let ended = zaxclover::walk_stage_with_table(table, job, &mut out);
+    [body, answer(&out, ended)]
+}
+
 /// The second implementation, also for jobs that do not load.
 pub fn second(job: &[u8]) -> Answers {
-    let sewn = second::load(job).map(|loaded| second::sew(&loaded, &mut &loaded.answers));
-    let ended = |refusal: second::Refusal| (refusal.number, refusal.place);
+    let sewn = second::sewn(&Supplied::Nothing, job);
     let stage = |stage| stage_answer(&sewn, stage).map_err(ended);
     let body = sew_answer(&sewn, ROOM).map_err(ended);
     Answers::listed(Stage::ALL.map(stage).into(), body)
+}
+
+pub fn second_with_table(table: &[u8], job: &[u8]) -> [Answer; 2] {
+    let sewn = second::sewn(&Supplied::Table(table.to_vec()), job);
+    let walk = stage_answer(&sewn, Stage::Walk);
+    [sew_answer(&sewn, ROOM), walk].map(|answer| answer.map_err(ended))
+}
+
+fn ended(refusal: second::Refusal) -> Ending {
+    (refusal.number, refusal.place)
 }
 
 /// The reference, for jobs that load.
@@ -112,7 +140,7 @@ pub fn reference(job: &[u8]) -> (Answers, Vec<String>) {
     let verdict = reference::observe(job);
     let bytes = |records: reference::Records| field_bytes(&records.concat());
     let stages = verdict.stages.into_iter().map(|stage| stage.map(bytes));
-    let whole = second::load(job).map(|loaded| second::sew(&loaded, &mut &loaded.answers));
+    let whole = second::sewn(&Supplied::Nothing, job);
     let lacking = sew_answer(&whole, usize::MAX).map_or(0, |body| lacking(&body));
     let body = in_room(verdict.body, lacking, ROOM);
     (Answers::listed(stages.collect(), body), verdict.oddities)

@@ -3,6 +3,7 @@
 use super::answers::{self, Answer, Answers, Programs, SECOND};
 use super::kinds::Kind;
 use super::{loops, split};
+use crate::generate::tables::{FULL, LESSER};
 use crate::second::{self, Stage};
 use crate::text;
 use std::fmt;
@@ -80,6 +81,9 @@ pub fn hold(job: &[u8], programs: &Programs) -> Held {
         differences.extend(left_out(job, programs.name, &tested));
     }
     let asked = loads && programs.name != SECOND && !differences.is_empty();
+    if let (Ok(ordinary), true) = (&tested, differences.is_empty()) {
+        differences.extend(with_tables(job, programs, ordinary));
+    }
     Held {
         uses: tested.as_ref().ok().and_then(uses),
         third: asked.then(|| third(job, names, [&tested, &other])),
@@ -155,6 +159,93 @@ fn left_out(job: &[u8], name: &str, tested: &Given) -> Vec<Difference> {
         compare(ours, theirs, names, &mut differences);
     }
     differences
+}
+
+/// Tables of the tester's run besides the full one: those that join less, and two
+/// that are refused.
+const TABLES: [&[u8]; 5] = [
+    &LESSER[0],
+    &LESSER[1],
+    &LESSER[2],
+    &[1, 1, 0, 2],
+    &[2, 0, 0, 1, 0],
+];
+
+/// What the program's own answers are called that a table must not change.
+const WITHOUT: &str = "without a table";
+
+/// With the full table sewing and the walk stage end as without one; with others
+/// as in the second implementation, since the reference has none. The first
+/// difference.
+fn with_tables(job: &[u8], programs: &Programs, ordinary: &Answers) -> Option<Difference> {
+    let without = [&ordinary.body, ordinary.stage(Stage::Walk)].map(Answer::clone);
+    let full = with_table(job, programs, &FULL, WITHOUT, |_, _| without.clone());
+    let mut others = TABLES.into_iter();
+    full.or_else(|| {
+        others
+            .find_map(|table| with_table(job, programs, table, SECOND, answers::second_with_table))
+    })
+}
+
+fn with_table(
+    job: &[u8],
+    programs: &Programs,
+    table: &[u8],
+    other: &'static str,
+    answers: impl Fn(&[u8], &[u8]) -> [Answer; 2],
+) -> Option<Difference> {
+    let names = [programs.name, other];
+    let ours = caught(|| (programs.with_table)(table, job));
+    let theirs = caught(|| answers(table, job));
+    match (ours, theirs) {
+        (Ok(ours), Ok(theirs)) => unlike_with_table(table, names, &ours, &theirs),
+        (ours, theirs) => stopped_with_table(table, names, [ours.err(), theirs.err()]),
+    }
+}
+
+/// The first program that stopped, by what each said if it did.
+fn stopped_with_table(
+    table: &[u8],
+    names: [&str; 2],
+    given: [Option<String>; 2],
+) -> Option<Difference> {
+    let stopped = names.into_iter().zip(given);
+    let mut said = stopped.filter_map(|(name, said)| Some((name, said?)));
+    let (name, said) = said.next()?;
+    Some(Difference {
+        kind: Kind::Stop,
+        told: format!("{name} stopped with table {}: {said}", shown(table)),
+    })
+}
+
+/// Sewing or, if it ends alike, the walk stage.
+fn unlike_with_table(
+    table: &[u8],
+    names: [&str; 2],
+    ours: &[Answer; 2],
+    theirs: &[Answer; 2],
+) -> Option<Difference> {
+    let operations = [Kind::Body, Kind::of_stage(Stage::Walk)];
+    let pairs = operations.into_iter().zip(ours.iter().zip(theirs));
+    let mut unlike = pairs.filter(|(_, (a, b))| a != b);
+    let (operation, (a, b)) = unlike.next()?;
+    let what = match operation {
+        Kind::Body => format!("sewing with table {}", shown(table)),
+        _ => format!("the walk stage with table {}", shown(table)),
+    };
+    let told = match (a, b) {
+        (Ok(ours), Ok(theirs)) => format!("{what}: {}", outputs(operation, names, [ours, theirs])),
+        _ => sides(&what, names, [end(a), end(b)]),
+    };
+    Some(Difference {
+        kind: Kind::Table,
+        told,
+    })
+}
+
+/// A table by its entries.
+fn shown(table: &[u8]) -> String {
+    table.iter().map(u8::to_string).collect()
 }
 
 /// With whom the second implementation agrees.

@@ -14,6 +14,8 @@ pub enum Kind {
     Body,
     /// The lines of bodies that are alike.
     Listing,
+    /// Sewing or the walk stage with a joining table.
+    Table,
 }
 
 /// What each stage's output is called, and the fields of its records.
@@ -43,6 +45,7 @@ impl Kind {
             Self::Stage(stage) => STAGES[stage].0,
             Self::Body => "body records",
             Self::Listing => "listing",
+            Self::Table => "with a table",
         }
     }
 

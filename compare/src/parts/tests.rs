@@ -22,6 +22,7 @@ fn programs(tested: fn(&[u8]) -> Answers) -> Programs {
     Programs {
         name: "library",
         tested,
+        with_table: answers::second_with_table,
         reference: answers::reference,
     }
 }
@@ -232,6 +233,76 @@ fn a_face_selected_twice_is_not_compared_with_the_reference() {
     let wanted = "refusal: read: library accepted, second refused 45 72";
     assert_eq!(told(&wrong), [wanted]);
     assert_eq!(wrong.other.end, End::Refused(45, 72));
+}
+
+/// A program that takes every table as the full one.
+fn takes_all_as_full(_: &[u8], job: &[u8]) -> [answers::Answer; 2] {
+    answers::second_with_table(&[1, 0, 0, 1], job)
+}
+
+/// A program that takes every table as four zeros.
+fn takes_all_as_zeros(_: &[u8], job: &[u8]) -> [answers::Answer; 2] {
+    answers::second_with_table(&[0; 4], job)
+}
+
+/// A program that takes a table's bytes from the last to the first.
+fn turns_the_table(table: &[u8], job: &[u8]) -> [answers::Answer; 2] {
+    match *table {
+        [a, b, c, d] => answers::second_with_table(&[d, c, b, a], job),
+        _ => answers::second_with_table(table, job),
+    }
+}
+
+/// A program that tests the job before the table.
+fn loads_before_the_table(table: &[u8], job: &[u8]) -> [answers::Answer; 2] {
+    match crate::second::load(job) {
+        Ok(_) => answers::second_with_table(table, job),
+        Err(refusal) => [(); 2].map(|()| Err((refusal.number, refusal.place))),
+    }
+}
+
+#[test]
+fn wrong_tables_are_noticed() {
+    type WithTable = fn(&[u8], &[u8]) -> [answers::Answer; 2];
+    for (with_table, job, wanted) in [
+        (
+            takes_all_as_full as WithTable,
+            part(9),
+            "0001: record 0: library `body 1 6 2 2 0 0 1`, second `body 1 6 0 0 0 0 0`",
+        ),
+        (
+            takes_all_as_zeros,
+            part(9),
+            "1001: record 0: library `body 1 6 0 0 0 0 0`, without a table `body 1 6 2 2 0 0 1`",
+        ),
+        (
+            turns_the_table,
+            part(9),
+            "1000: record 0: library `body 1 6 0 0 0 0 0`, second `body 1 6 2 2 0 0 1`",
+        ),
+        (
+            loads_before_the_table,
+            Vec::new(),
+            "1102: library refused 3 0, second refused 48 1",
+        ),
+    ] {
+        let programs = Programs {
+            with_table,
+            ..programs(answers::second)
+        };
+        let wanted = format!("with a table: sewing with table {wanted}");
+        assert_eq!(told(&hold(&job, &programs)), [wanted]);
+    }
+}
+
+#[test]
+fn a_program_that_stops_with_a_table_is_a_difference() {
+    let programs = Programs {
+        with_table: |_, _| panic!("out of tables"),
+        ..programs(answers::second)
+    };
+    let wanted = "stopped: library stopped with table 1001: out of tables";
+    assert_eq!(told(&hold(&part(9), &programs)), [wanted]);
 }
 
 /// Both reports name 45 and say what such a part was held against.

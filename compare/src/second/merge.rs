@@ -4,6 +4,7 @@ use super::partition::Partition;
 use super::questions::Asker;
 use super::read::Reading;
 use super::refusal::Refusal;
+use super::rules::Table;
 
 pub struct Merged {
     /// Lowest face of the boundary of each selected face.
@@ -20,10 +21,15 @@ pub struct Merged {
     pub removed: Vec<bool>,
 }
 
-pub fn merge(reading: &Reading, twins: &[usize], asker: &mut Asker) -> Result<Merged, Refusal> {
+pub fn merge(
+    table: Table,
+    reading: &Reading,
+    twins: &[usize],
+    asker: &mut Asker,
+) -> Result<Merged, Refusal> {
     let faces = 0..reading.senses.len();
     let boundaries = boundaries(reading, twins);
-    let (groups, joins) = groups(reading, twins, asker)?;
+    let (groups, joins) = groups(table, reading, twins, asker)?;
     let group: Vec<usize> = faces.clone().map(|f| groups.lowest(f)).collect();
     let lowest: Vec<usize> = faces.clone().filter(|&f| group[f] == f).collect();
     let below = |f: usize| lowest.iter().filter(|&&other| other < f).count();
@@ -47,9 +53,11 @@ fn boundaries(reading: &Reading, twins: &[usize]) -> Partition {
     boundaries
 }
 
-/// Groups join where the surface is the same and the normals fit the senses;
-/// and how many questions changed them.
+/// Groups join where the surface is the same and the table has a 1 for normals
+/// and senses; and how many questions changed them. Each question is put,
+/// whatever the table has.
 fn groups(
+    table: Table,
     reading: &Reading,
     twins: &[usize],
     asker: &mut Asker,
@@ -63,7 +71,7 @@ fn groups(
         }
         if let Some(normals_agree) = asker.surface(h)? {
             let senses_equal = reading.senses[a] == reading.senses[b];
-            if normals_agree == senses_equal && groups.join(a, b) {
+            if table.joins(normals_agree, senses_equal) && groups.join(a, b) {
                 joins += 1;
             }
         }

@@ -1,5 +1,5 @@
-//! A second implementation of sewing, written from document 01 alone. One file
-//! per rule or stage.
+//! A second implementation of sewing, written from documents 01 and 02 and from
+//! docs/STAGES.md alone. One file per rule or stage.
 
 pub mod body;
 pub mod contact;
@@ -18,6 +18,7 @@ pub mod questions;
 pub mod read;
 pub mod refusal;
 pub mod request;
+pub mod rules;
 pub mod sew;
 pub mod shells;
 pub mod vertex_loops;
@@ -29,4 +30,5 @@ pub use output::{Stage, sew_output, stage_output};
 pub use questions::{Question, Reply};
 pub use refusal::Refusal;
 pub use request::request;
-pub use sew::{Trail, sew};
+pub use rules::{Rules, Supplied};
+pub use sew::{Sewn, Trail, sew, sew_by, sewn};

@@ -6,6 +6,7 @@ use super::edges::{self, EdgeTable};
 use super::fans::{self, Fans};
 use super::job::Job;
 use super::joining::{self, Joined};
+use super::load::load;
 use super::loops::{self, UseLoop};
 use super::lumps::{self, Lumps};
 use super::merge::{self, Merged};
@@ -13,6 +14,7 @@ use super::pair;
 use super::questions::{Answers, Asker, Question};
 use super::read::{self, Reading};
 use super::refusal::Refusal;
+use super::rules::{Rules, Supplied};
 use super::shells::{self, Shells};
 use super::vertex_loops::{self, VertexLoop};
 use super::walk::{self, Step};
@@ -37,20 +39,38 @@ pub struct Trail {
     pub asked: Vec<Question>,
 }
 
+/// A job's sewing, or the refusal of what was supplied with it or of its loading.
+pub type Sewn = Result<Trail, Refusal>;
+
+/// Sews a job from its bytes. What is supplied is tested before the job is
+/// looked at.
+pub fn sewn(supplied: &Supplied, bytes: &[u8]) -> Sewn {
+    let rules = supplied.rules()?;
+    let job = load(bytes)?;
+    Ok(sew_by(rules, &job, &mut &job.answers))
+}
+
+/// Ordinary sewing.
 pub fn sew(job: &Job, answers: &mut dyn Answers) -> Trail {
+    sew_by(Rules::ORDINARY, job, answers)
+}
+
+/// Sews by the rules of a call.
+pub fn sew_by(rules: Rules, job: &Job, answers: &mut dyn Answers) -> Trail {
     let mut trail = Trail::default();
     let mut asker = Asker::new(answers);
-    trail.refusal = run(job, &mut asker, &mut trail).err();
+    trail.refusal = run(rules, job, &mut asker, &mut trail).err();
     trail.asked = asker.asked;
     trail
 }
 
-fn run(job: &Job, asker: &mut Asker, trail: &mut Trail) -> Result<(), Refusal> {
+fn run(rules: Rules, job: &Job, asker: &mut Asker, trail: &mut Trail) -> Result<(), Refusal> {
     let reading = &*trail.reading.insert(read::read(job));
     let uses = &reading.uses;
     let lists = &read::uses_of_edges(job, uses);
     let twins = &*trail.twins.insert(pair::pair(uses, lists, asker)?);
-    let merged = &*trail.merged.insert(merge::merge(reading, twins, asker)?);
+    let merged = merge::merge(rules.table, reading, twins, asker)?;
+    let merged = &*trail.merged.insert(merged);
     let kept_vertex_loops = vertex_loops::vertex_loops(job, merged, asker)?;
     let vertex_loops = &*trail.vertex_loops.insert(kept_vertex_loops);
     let steps = &*trail.steps.insert(walk::walk(uses, twins, &merged.removed));
