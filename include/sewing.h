@@ -34,6 +34,7 @@ enum {
     ZAXCLOVER_VERTICES = 1024,
     ZAXCLOVER_LOOPS = 1024, /* of both sorts together */
     ZAXCLOVER_ANSWERS = 2048,
+    ZAXCLOVER_TABLE_BYTES = 4, /* of a joining table */
     ZAXCLOVER_LISTING = 196608, /* the text of zaxclover_list is not longer */
     ZAXCLOVER_STACK = 524288 /* a call takes less */
 };
@@ -102,7 +103,29 @@ enum zaxclover_number {
     ZAXCLOVER_PAIRS_IN_LUMP = 33,     /* the edge with two pairs in one lump */
     ZAXCLOVER_VOID_OUTSIDE = 34,      /* the lowest face of a void that lies in no outer shell */
     ZAXCLOVER_NO_ROOM = 40,           /* the bytes needed */
-    ZAXCLOVER_SELECTED_TWICE = 45     /* the record's first byte, of the later face */
+    ZAXCLOVER_SELECTED_TWICE = 45,    /* the record's first byte, of the later face */
+    ZAXCLOVER_WRONG_TABLE = 48        /* 4 if the joining table is not of 4 bytes, else its first faulty byte */
+};
+
+/*
+ * A JOINING TABLE
+ *
+ * Which answers of kind 8 join two faces: ZAXCLOVER_TABLE_BYTES bytes, each 1 (the faces join) or 0 (they do not). A row is
+ * for an answer, 1 and then 2; a column for the stored senses of the two faces (own times selected), equal and then
+ * different. A 1 is permitted only where zaxclover_sew joins, so that there are four tables:
+ *
+ *     1 0 0 1    the full one: what zaxclover_sew does
+ *     1 0 0 0    opposed surfaces do not join
+ *     0 0 0 1    agreeing surfaces do not join
+ *     0 0 0 0    no two faces join
+ *
+ * Whatever the table, the same surface questions are put, and 20, 21 and 22 come of their answers as ever.
+ */
+enum zaxclover_table_byte {
+    ZAXCLOVER_AGREEING_EQUAL = 0,     /* answer 1, equal senses: 0 or 1 */
+    ZAXCLOVER_AGREEING_DIFFERENT = 1, /* answer 1, different senses: 0 */
+    ZAXCLOVER_OPPOSED_EQUAL = 2,      /* answer 2, equal senses: 0 */
+    ZAXCLOVER_OPPOSED_DIFFERENT = 3   /* answer 2, different senses: 0 or 1 */
 };
 
 /*
@@ -127,6 +150,19 @@ size_t zaxclover_shell_stage(const uint8_t *job, size_t job_length, uint8_t *out
 size_t zaxclover_lump_stage(const uint8_t *job, size_t job_length, uint8_t *out, size_t out_length, size_t *value);
 
 /*
+ * SEWING AND THE WALK STAGE WITH A JOINING TABLE
+ *
+ * Each answers as the function without a table does, but that faces join by the table: with 1 0 0 1 the two are the same.
+ * A table that is not permitted is refused with 48 before anything else, whatever job and output are: also before 1, and
+ * before 40. Its length is tested first.
+ */
+
+size_t zaxclover_sew_with_table(const uint8_t *table, size_t table_length, const uint8_t *job, size_t job_length,
+                                uint8_t *out, size_t out_length, size_t *value);
+size_t zaxclover_walk_stage_with_table(const uint8_t *table, size_t table_length, const uint8_t *job, size_t job_length,
+                                       uint8_t *out, size_t out_length, size_t *value);
+
+/*
  * THE LOOP REQUEST
  *
  * Loop n of the job, counted among both sorts of loops. Returns 0: its payload is the *value bytes of the job from
@@ -149,10 +185,10 @@ size_t zaxclover_loop(const uint8_t *job, size_t job_length, size_t n, size_t *s
 size_t zaxclover_list(const uint8_t *job, size_t job_length, uint8_t *page, size_t page_length);
 
 /*
- * The listing of an answer of zaxclover_sew, by the number that it returned, the value that it left and the output: for
- * bodies of any length, or where the body is wanted too. With an output of 65,536 bytes it is that of zaxclover_list. A
- * body's text takes at most three characters a byte. The output must be as sewing left it: of other bytes the text may be
- * billions of characters long, and take its time.
+ * The listing of an answer of zaxclover_sew or zaxclover_sew_with_table, by the number that it returned, the value that it
+ * left and the output: for bodies of any length, or where the body is wanted too. With an output of 65,536 bytes that of
+ * zaxclover_sew is what zaxclover_list gives. A body's text takes at most three characters a byte. The output must be as
+ * sewing left it: of other bytes the text may be billions of characters long, and take its time.
  */
 size_t zaxclover_listing(size_t number, size_t value, const uint8_t *out, size_t out_length, uint8_t *page, size_t page_length);
 
@@ -183,6 +219,7 @@ static inline const char *zaxclover_words(size_t number)
     case ZAXCLOVER_VOID_OUTSIDE: return "the void lies in no outer shell";
     case ZAXCLOVER_NO_ROOM: return "the records do not fit the output";
     case ZAXCLOVER_SELECTED_TWICE: return "the face is selected twice: the same body and source face";
+    case ZAXCLOVER_WRONG_TABLE: return "the joining table is not four bytes, or has an entry that is not permitted";
     default: return "refused for an unknown reason";
     }
 }

@@ -64,9 +64,11 @@ static size_t skip_answers(const uint8_t *bytes, size_t at)
     while (count-- > 0) {
         uint32_t what = word(bytes + at);
         at += what == 13 ? 8 : 4;
+        if (what == 14 || what == 15) /* a joining table comes first */
+            at += 4 + word(bytes + at);
         int accepted = word(bytes + at) == 0;
         at += accepted ? 12 : 8;
-        if (accepted && (what == 0 || what == 13))
+        if (accepted && (what == 0 || what == 13 || what == 14))
             at += 4 + word(bytes + at);
     }
     return at;

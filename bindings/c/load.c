@@ -1,9 +1,10 @@
 /*
- * A load on the boundary: makes up jobs and runs sewing, a stage, a loop request and the listing on each, under the
- * compiler's memory checker. Each operation runs twice: on heap copies with guard bytes after job and output, and on
- * copies that end where an inaccessible page begins. Both must answer alike, write what the answer says and not a byte
- * more. What sewing refuses while loading, stage and loop request must refuse alike, and a face selected twice is found
- * by a search of the load's own.
+ * A load on the boundary: makes up jobs and runs sewing, a stage, a loop request and the listing on each, and sewing and the
+ * walk stage with a joining table that is drawn for it, under the compiler's memory checker. Each operation runs twice: on
+ * heap copies with guard bytes after table, job and output, and on copies that end where an inaccessible page begins. Both
+ * must answer alike, write what the answer says and not a byte more. What sewing refuses while loading, stage and loop
+ * request must refuse alike, and a face selected twice is found by a search of the load's own. With the full table all is
+ * as without one; what another table makes of the job is worked out by the load (tables.c).
  *
  * usage: load VECTORS JOBS SEED [FIRST]
  *
@@ -13,6 +14,7 @@
 #define _GNU_SOURCE
 #include "jobs.h"
 #include "operations.h"
+#include "tables.h"
 
 #include <sanitizer/common_interface_defs.h>
 #include <stdio.h>
@@ -81,14 +83,46 @@ static uint8_t *arena_end(void)
     return arena + ARENA;
 }
 
-static uint8_t *job_end, *out_end;
+static uint8_t *job_end, *out_end, *table_end;
 
 /* ONE OPERATION */
+
+/* An operation, or one that takes a table and the table that it is given. */
+struct call {
+    const char *name;
+    operation plain; /* null if a table is given */
+    table_operation with_table;
+    const uint8_t *table;
+    size_t table_length;
+};
+
+static struct call plain_call(const struct named *o)
+{
+    return (struct call){o->name, o->run, NULL, NULL, 0};
+}
+
+static struct call table_call(const struct named_with_table *o, const uint8_t *table, size_t length)
+{
+    return (struct call){o->name, NULL, o->run, table, length};
+}
 
 struct answer {
     size_t number;
     size_t value;
 };
+
+/* Runs a call on copies of its table and of the job. */
+static struct answer run_on(const struct call *c, const uint8_t *table, const uint8_t *copy, uint8_t *out, size_t room)
+{
+    struct answer a;
+    if (c->plain != NULL)
+        a.number = c->plain(copy, job.length, out, room, &a.value);
+    else
+        a.number = c->with_table(table, c->table_length, copy, job.length, out, room, &a.value);
+    hold(memcmp(copy, job.bytes, job.length) == 0, "the job is changed");
+    hold(c->table_length == 0 || memcmp(table, c->table, c->table_length) == 0, "the table is changed");
+    return a;
+}
 
 /* What an operation leaves of an output of the mark. */
 static void hold_output(struct answer a, const uint8_t *out, size_t room)
@@ -99,29 +133,38 @@ static void hold_output(struct answer a, const uint8_t *out, size_t room)
          written == 0 ? "a byte written without need" : "a byte written after the last");
 }
 
-static struct answer on_heap_copy(operation run, uint8_t *out, size_t room)
+/* A copy of bytes on the heap, and the guard after it. */
+static uint8_t *copied(const uint8_t *bytes, size_t length)
 {
-    struct answer a;
-    uint8_t *copy = on_heap(job.length);
-    memcpy(copy, job.bytes, job.length);
-    a.number = run(copy, job.length, out, room, &a.value);
+    uint8_t *copy = on_heap(length);
+    if (length > 0)
+        memcpy(copy, bytes, length);
+    return copy;
+}
+
+static struct answer on_heap_copy(const struct call *c, uint8_t *out, size_t room)
+{
+    uint8_t *table = copied(c->table, c->table_length);
+    uint8_t *copy = copied(job.bytes, job.length);
+    struct answer a = run_on(c, table, copy, out, room);
+    hold(is_marked(table + c->table_length, GUARD), "the guard after the table is broken");
     hold(is_marked(copy + job.length, GUARD), "the guard after the job is broken");
     hold(is_marked(out + room, GUARD), "the guard after the output is broken");
-    hold(memcmp(copy, job.bytes, job.length) == 0, "the job is changed");
+    free(table);
     free(copy);
     hold_output(a, out, room);
     return a;
 }
 
-static struct answer at_page_end(operation run, size_t room)
+static struct answer at_page_end(const struct call *c, size_t room)
 {
-    struct answer a;
-    uint8_t *copy = job_end - job.length;
+    uint8_t *table = table_end - c->table_length;
     uint8_t *out = out_end - room;
     memset(out - GUARD, MARK, room + GUARD);
-    a.number = run(copy, job.length, out, room, &a.value);
+    if (c->table_length > 0)
+        memcpy(table, c->table, c->table_length);
+    struct answer a = run_on(c, table, job_end - job.length, out, room);
     hold(is_marked(out - GUARD, GUARD), "a byte written before the output");
-    hold(memcmp(copy, job.bytes, job.length) == 0, "the job is changed");
     hold_output(a, out, room);
     return a;
 }
@@ -162,21 +205,26 @@ static void hold_listing(const uint8_t *out, size_t room, size_t value)
     free(copy);
 }
 
-static struct answer run_operation(const struct named *o, uint64_t *state)
+static int is_sewing(const struct call *c)
 {
-    doing = o->name;
+    return c->plain == zaxclover_sew || c->with_table == zaxclover_sew_with_table;
+}
+
+static struct answer run_operation(const struct call *c, uint64_t *state)
+{
+    doing = c->name;
     uint8_t *none = on_heap(0);
-    struct answer empty = on_heap_copy(o->run, none, 0);
+    struct answer empty = on_heap_copy(c, none, 0);
     free(none);
     size_t room = some_room(state, empty.number == ZAXCLOVER_NO_ROOM ? empty.value : 0);
     uint8_t *out = on_heap(room);
-    struct answer a = on_heap_copy(o->run, out, room);
+    struct answer a = on_heap_copy(c, out, room);
     struct answer wanted = expected(empty, room);
     hold(a.number == wanted.number && a.value == wanted.value, "another answer than without room");
-    struct answer b = at_page_end(o->run, room);
+    struct answer b = at_page_end(c, room);
     hold(a.number == b.number && a.value == b.value, "another answer the second time");
     hold(memcmp(out, out_end - room, room) == 0, "another output the second time");
-    if (o->run == zaxclover_sew && a.number == ZAXCLOVER_DONE)
+    if (is_sewing(c) && a.number == ZAXCLOVER_DONE)
         hold_listing(out, room, a.value);
     free(out);
     return a;
@@ -215,11 +263,13 @@ static void hold_repeat(struct answer a)
     hold(a.value < at || a.number == number_of_repeat(at), "a face selected twice has another number");
 }
 
-/* What sewing refuses while loading, a stage refuses alike; otherwise its refusal is none of loading's. */
+/* What sewing refuses while loading, a stage refuses alike; otherwise its refusal is none of loading's, and no table's. */
 static void hold_alike(struct answer sewing, struct answer stage)
 {
     int alike = sewing.number == stage.number && sewing.value == stage.value;
     hold(of_loading(sewing.number) ? alike : !of_loading(stage.number), "another refusal of loading than sewing's");
+    int of_tables = sewing.number == ZAXCLOVER_WRONG_TABLE || stage.number == ZAXCLOVER_WRONG_TABLE;
+    hold(!of_tables, "a refusal of a table where there is none");
 }
 
 /* THE LOOP REQUEST */
@@ -293,9 +343,7 @@ static void list_job(uint64_t *state)
     free(page);
 }
 
-/* THE RUN */
-
-static uint64_t sewn[HIGHEST], staged[HIGHEST], requested[HIGHEST];
+/* COUNTS */
 
 static void count(uint64_t *counts, size_t number)
 {
@@ -303,20 +351,184 @@ static void count(uint64_t *counts, size_t number)
     counts[number]++;
 }
 
+/* JOINING TABLES */
+
+enum { LONGEST_TABLE = 300 };
+
+struct table {
+    size_t length;
+    uint8_t bytes[LONGEST_TABLE];
+};
+
+/* A permitted table, in half of all draws; one with an entry that is not, or one of another length. */
+static void draw_table(uint64_t *state, struct table *table)
+{
+    static const uint8_t entries[] = {0, 0, 0, 1, 1, 1, 2, 3, 48, 49, 128, 255};
+    size_t way = below(state, 6);
+    table->length = way == 5 ? below(state, below(state, 4) ? 9 : LONGEST_TABLE + 1) : ZAXCLOVER_TABLE_BYTES;
+    for (size_t i = 0; i < table->length; i++)
+        table->bytes[i] = entries[below(state, sizeof entries)];
+    if (way < 3 || (way == 5 && table->length >= ZAXCLOVER_TABLE_BYTES && below(state, 2)))
+        memcpy(table->bytes, permitted[below(state, TABLES)], ZAXCLOVER_TABLE_BYTES);
+}
+
+/* An answer, and the output of 65,536 bytes that it left. */
+struct outcome {
+    struct answer answer;
+    uint8_t out[BODY];
+};
+
+static void run_amply(const struct call *c, struct outcome *outcome)
+{
+    uint8_t *table = copied(c->table, c->table_length);
+    memset(outcome->out, MARK, BODY);
+    outcome->answer = run_on(c, table, job.bytes, outcome->out, BODY);
+    hold_output(outcome->answer, outcome->out, BODY);
+    free(table);
+}
+
+static int is_same(struct answer a, struct answer b)
+{
+    return a.number == b.number && a.value == b.value;
+}
+
+/* The answer without a table in 65,536 bytes; that of the full table is the same. */
+static void hold_full(const struct named_with_table *o, struct outcome *ordinary)
+{
+    static struct outcome full;
+    struct named without = {o->name, o->ordinary};
+    struct call ordinary_call = plain_call(&without);
+    struct call full_call = table_call(o, permitted[0], ZAXCLOVER_TABLE_BYTES);
+    run_amply(&ordinary_call, ordinary);
+    run_amply(&full_call, &full);
+    hold(is_same(full.answer, ordinary->answer), "another answer with the full table than without one");
+    hold(memcmp(full.out, ordinary->out, BODY) == 0, "another output with the full table than without one");
+}
+
+/* Whether the stage of the walks refuses a question that it puts after merging, of points. */
+static int of_points(struct answer a)
+{
+    return (a.number == ZAXCLOVER_UNANSWERED || a.number == ZAXCLOVER_UNDECIDED) && a.value == ZAXCLOVER_POINTS;
+}
+
+/*
+ * What a permitted table cannot change: the refusals before joining, and two pairs in one boundary, which only questions
+ * of points come before.
+ */
+static void hold_refusals(struct answer ordinary, struct answer a)
+{
+    if (before_joining(ordinary.number, ordinary.value) || before_joining(a.number, a.value))
+        hold(is_same(ordinary, a), "another refusal before joining than without a table");
+    if (ordinary.number == ZAXCLOVER_PAIRS_IN_BOUNDARY && !of_points(a))
+        hold(is_same(ordinary, a), "two pairs in one boundary are passed over");
+    if (a.number == ZAXCLOVER_PAIRS_IN_BOUNDARY && !of_points(ordinary))
+        hold(is_same(ordinary, a), "two pairs in one boundary that there are not without a table");
+}
+
+/* The body's first numbers and its faces are those of the load's own merging and walks. */
+static void hold_body(const struct outcome *sewn, const struct merged *due)
+{
+    const uint8_t *body = sewn->out + 6;
+    size_t faces = 0;
+    for (size_t at = 0; at < sewn->answer.value; at += 6 + word(sewn->out + at))
+        faces += sewn->out[at + 4] == ZAXCLOVER_BODY_FACE;
+    hold(word(body + 4) == due->uses, "another number of uses");
+    hold(word(body + 8) == due->removed, "another number of removed uses than the table gives");
+    hold(word(body + 12) == due->passed, "another number of uses passed over than the table gives");
+    hold(word(body + 24) == due->joins, "another number of face joins than the table gives");
+    hold(faces + due->joins == due->faces, "faces and face joins are not the faces selected");
+}
+
+static void hold_walks(const struct outcome *walked, const struct merged *due)
+{
+    hold(walked->answer.value == due->walks_length, "another number of walks than the table gives");
+    hold(memcmp(walked->out, due->walks, due->walks_length) == 0, "other walks than the table gives");
+}
+
+/* Bodies with a lesser table beside those with the full one. */
+static void hold_lesser(const struct outcome *ordinary, const struct outcome *sewn, const uint8_t *table)
+{
+    const uint8_t *body = sewn->out + 6;
+    const uint8_t *full = ordinary->out + 6;
+    hold(word(body + 8) <= word(full + 8), "more removed uses than with the full table");
+    hold(word(body + 24) <= word(full + 24), "more face joins than with the full table");
+    if (memcmp(table, permitted[TABLES - 1], ZAXCLOVER_TABLE_BYTES) == 0)
+        hold(word(body + 24) == 0, "face joins though no two faces join");
+}
+
+static uint64_t tabled[HIGHEST];
+static uint64_t lesser;
+
+/* What is due of sewing and the walk stage with a permitted table, in 65,536 bytes, beside what they are without one. */
+static void hold_permitted(const uint8_t *table, const struct outcome *ordinary)
+{
+    static struct outcome made[TABLE_OPERATIONS];
+    static struct merged due;
+    for (int k = 0; k < TABLE_OPERATIONS; k++) {
+        struct call c = table_call(&table_operations[k], table, ZAXCLOVER_TABLE_BYTES);
+        doing = c.name;
+        run_amply(&c, &made[k]);
+        hold_refusals(ordinary[k].answer, made[k].answer);
+    }
+    struct answer sewing = made[0].answer;
+    struct answer walking = made[1].answer;
+    int refused = before_joining(sewing.number, sewing.value) || of_points(sewing);
+    hold(refused ? is_same(sewing, walking) : walking.number == ZAXCLOVER_DONE, "sewing and the walk stage part too early");
+    if (refused)
+        return;
+    merge_by(table, job.bytes, job.length, &due);
+    hold_walks(&made[1], &due);
+    if (sewing.number != ZAXCLOVER_DONE)
+        return;
+    doing = table_operations[0].name;
+    hold_body(&made[0], &due);
+    if (ordinary[0].answer.number != ZAXCLOVER_DONE)
+        return;
+    hold_lesser(&ordinary[0], &made[0], table);
+    lesser += word(made[0].out + 30) < word(ordinary[0].out + 30);
+}
+
+static void run_tables(uint64_t *state)
+{
+    static struct outcome ordinary[TABLE_OPERATIONS];
+    static struct table table;
+    size_t place;
+    draw_table(state, &table);
+    int refused = is_refused(table.bytes, table.length, &place);
+    for (int k = 0; k < TABLE_OPERATIONS; k++) {
+        struct call c = table_call(&table_operations[k], table.bytes, table.length);
+        doing = c.name;
+        hold_full(&table_operations[k], &ordinary[k]);
+        struct answer a = run_operation(&c, state);
+        hold((a.number == ZAXCLOVER_WRONG_TABLE) == refused, "a table that is refused, or passes, though it should not");
+        hold(!refused || a.value == place, "a table is refused at another byte");
+        count(tabled, a.number);
+    }
+    if (!refused)
+        hold_permitted(table.bytes, ordinary);
+}
+
+/* THE RUN */
+
+static uint64_t sewn[HIGHEST], staged[HIGHEST], requested[HIGHEST];
+
 static void run_job(const struct seeds *seeds)
 {
     uint64_t state = job_state(seed, number_of_job);
     doing = "making the job";
     way = make_job(seeds, &state, &job);
     memcpy(job_end - job.length, job.bytes, job.length);
-    struct answer sewing = run_operation(&operations[0], &state);
+    struct call sew = plain_call(&operations[0]);
+    struct call some_stage = plain_call(&operations[1 + number_of_job % (OPERATIONS - 1)]);
+    struct answer sewing = run_operation(&sew, &state);
     count(sewn, sewing.number);
     hold_repeat(sewing);
-    struct answer stage = run_operation(&operations[1 + number_of_job % (OPERATIONS - 1)], &state);
+    struct answer stage = run_operation(&some_stage, &state);
     count(staged, stage.number);
     hold_alike(sewing, stage);
     count(requested, request_loop(&state, sewing));
     list_job(&state);
+    run_tables(&state);
 }
 
 static void print_counts(const char *name, const uint64_t *counts)
@@ -332,9 +544,11 @@ static void print_unmet(void)
 {
     printf("refusals of sewing that were not met:");
     int any = 0;
-    for (size_t n = 1; n < HIGHEST; n++)
-        if (sewn[n] == 0 && strcmp(zaxclover_words(n), zaxclover_words(SIZE_MAX)) != 0)
+    for (size_t n = 1; n < HIGHEST; n++) {
+        uint64_t met = n == ZAXCLOVER_WRONG_TABLE ? tabled[n] : sewn[n];
+        if (met == 0 && strcmp(zaxclover_words(n), zaxclover_words(SIZE_MAX)) != 0)
             any = printf(" %zu", n);
+    }
     printf(any ? "\n" : " none\n");
 }
 
@@ -371,6 +585,7 @@ int main(int count_of_words, char **words)
     memset(marks, MARK, sizeof marks);
     job_end = arena_end();
     out_end = arena_end();
+    table_end = arena_end();
     __sanitizer_set_death_callback(keep_job);
     double begun = now();
     for (number_of_job = first; number_of_job < first + jobs; number_of_job++)
@@ -380,6 +595,8 @@ int main(int count_of_words, char **words)
     print_counts("sewing", sewn);
     print_counts("stages", staged);
     print_counts("loop requests", requested);
+    print_counts("with tables", tabled);
+    printf("bodies with fewer face joins than without a table: %llu\n", (unsigned long long)lesser);
     print_unmet();
     return 0;
 }

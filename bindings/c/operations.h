@@ -1,4 +1,4 @@
-/* The operations that answer as sewing does, by name. */
+/* The operations that answer as sewing does, by name, and those that take a joining table besides. */
 #ifndef OPERATIONS_H
 #define OPERATIONS_H
 
@@ -27,6 +27,24 @@ static const struct named operations[OPERATIONS] = {
     {"joining", zaxclover_joining_stage},
     {"shells", zaxclover_shell_stage},
     {"lumps", zaxclover_lump_stage},
+};
+
+typedef size_t (*table_operation)(const uint8_t *table, size_t table_length, const uint8_t *job, size_t job_length,
+                                  uint8_t *out, size_t out_length, size_t *value);
+
+/* An operation that takes a joining table, and the one that it is with the full table. */
+struct named_with_table {
+    const char *name;
+    table_operation run;
+    operation ordinary;
+};
+
+enum { TABLE_OPERATIONS = 2 };
+
+/* Sewing first. */
+static const struct named_with_table table_operations[TABLE_OPERATIONS] = {
+    {"sew with a table", zaxclover_sew_with_table, zaxclover_sew},
+    {"walk with a table", zaxclover_walk_stage_with_table, zaxclover_walk_stage},
 };
 
 #endif

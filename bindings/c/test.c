@@ -1,12 +1,13 @@
 /*
  * Tests of the interface at its edges: null pointers with length 0, outputs exactly full and one byte short, guard
- * bytes after job, output and page; the listing and the members of every stored job; faces that are refused, and faces
- * selected twice.
+ * bytes after job, output and page; the listing and the members of every stored job; faces that are refused, faces
+ * selected twice, and joining tables.
  *
  * usage: test FILE.job VECTORS      (part P9, and the file of packed vectors)
  */
 #include "jobs.h"
 #include "operations.h"
+#include "tables.h"
 
 #include <stdio.h>
 #include <stdlib.h>
@@ -200,15 +201,13 @@ static int are_members(const uint8_t *record, const uint8_t *job, size_t length,
     return member == end;
 }
 
-/* Every face of a body is followed by its members, and nothing else is; gives the number of faces. */
-static size_t test_members(const uint8_t *job, size_t length, const uint8_t *body, size_t body_length)
+/*
+ * Every face of a body is followed by its members, and nothing else is, by groups as the merge stage writes them; gives
+ * the number of faces.
+ */
+static size_t hold_groups(const uint8_t *job, size_t length, const uint8_t *body, size_t body_length,
+                          const uint8_t *groups, size_t value)
 {
-    static uint8_t groups[8 * ZAXCLOVER_FACES];
-    size_t value;
-    size_t number = zaxclover_merge_stage(job, length, groups, sizeof groups, &value);
-    expect(number == ZAXCLOVER_DONE, "merge", "the groups of a job that is sewn");
-    if (number != ZAXCLOVER_DONE)
-        return 0;
     size_t faces = 0;
     size_t lowest = 0;
     int follow = 0;
@@ -228,6 +227,18 @@ static size_t test_members(const uint8_t *job, size_t length, const uint8_t *bod
     for (; 8 * lowest < value; lowest++)
         expect(word(groups + 8 * lowest + 4) != lowest, "sew", "a face for each group");
     return faces;
+}
+
+/* The groups of a body that is sewn without a table are those of the merge stage. */
+static size_t test_members(const uint8_t *job, size_t length, const uint8_t *body, size_t body_length)
+{
+    static uint8_t groups[8 * ZAXCLOVER_FACES];
+    size_t value;
+    size_t number = zaxclover_merge_stage(job, length, groups, sizeof groups, &value);
+    expect(number == ZAXCLOVER_DONE, "merge", "the groups of a job that is sewn");
+    if (number != ZAXCLOVER_DONE)
+        return 0;
+    return hold_groups(job, length, body, body_length, groups, value);
 }
 
 /* A job or body by its records, a line each. */
@@ -280,6 +291,13 @@ static void hold_refused(const char *name, const struct job *job, size_t due, si
         number = operations[k].run(job->bytes, job->length, NULL, 0, &value);
         expect(number == due && value == place, operations[k].name, name);
     }
+    for (int k = 0; k < TABLE_OPERATIONS; k++)
+        for (int i = 0; i < TABLES; i++) {
+            size_t value = 77;
+            size_t number = table_operations[k].run(permitted[i], ZAXCLOVER_TABLE_BYTES, job->bytes, job->length, out, 64,
+                                                    &value);
+            expect(number == due && value == place, table_operations[k].name, name);
+        }
     for (size_t i = 0; i < sizeof loops / sizeof loops[0]; i++) {
         size_t start = 77;
         size_t value = 77;
@@ -484,6 +502,257 @@ static void test_order(void)
     hold_refused("the later face cut short", &job, ZAXCLOVER_CUT_SHORT, 36);
 }
 
+/* JOINING TABLES */
+
+/* A table is refused, whatever job and output are: P9, and jobs that are refused without a table. */
+static void hold_wrong(const uint8_t *table, size_t length, size_t place, const uint8_t *p9, size_t p9_length)
+{
+    static uint8_t long_job[70000];
+    static struct job twice, uneven;
+    static const uint32_t faces[][5] = {{7, 0, 0, 0, 5}, {7, 0, 0, 0, 5}};
+    static const struct line one_use[] = {
+        {ZAXCLOVER_HEAD, 1, {1}}, {ZAXCLOVER_EDGE, 4, {5, 0, ZAXCLOVER_NONE, ZAXCLOVER_NONE}},
+        {ZAXCLOVER_FACE, 5, {7, 0, 0, 0, 0}}, {ZAXCLOVER_LOOP, 2, {0, 0}},
+    };
+    put_faces(&twice, FACES(faces));
+    put_lines(&uneven, LINES(one_use));
+    const struct {
+        const uint8_t *bytes;
+        size_t length;
+    } jobs[] = {
+        {p9, p9_length}, {p9, 5}, {NULL, 0}, {long_job, sizeof long_job}, {twice.bytes, twice.length},
+        {uneven.bytes, uneven.length},
+    };
+    uint8_t *out = marked(4096);
+    size_t seen = 77;
+    expect(is_refused(table, length, &seen) && seen == place, "tables.c", "a table that is not permitted");
+    for (int k = 0; k < TABLE_OPERATIONS; k++)
+        for (size_t i = 0; i < sizeof jobs / sizeof jobs[0]; i++) {
+            size_t value = 77;
+            size_t number = table_operations[k].run(table, length, jobs[i].bytes, jobs[i].length, out, 4096, &value);
+            int refused = number == ZAXCLOVER_WRONG_TABLE && value == place;
+            expect(refused, table_operations[k].name, "a table that is not permitted");
+            expect(is_marked(out, 0, 4096 + GUARD), table_operations[k].name, "a refusal leaves the output");
+            value = 77;
+            number = table_operations[k].run(table, length, jobs[i].bytes, jobs[i].length, NULL, 0, &value);
+            refused = number == ZAXCLOVER_WRONG_TABLE && value == place;
+            expect(refused, table_operations[k].name, "a table that is not permitted, and no room");
+        }
+    free(out);
+}
+
+/* Of each length but 4, with entries that would be permitted, that would not, and the full table at the start. */
+static void test_wrong_lengths(const uint8_t *p9, size_t p9_length)
+{
+    static const size_t lengths[] = {0, 1, 2, 3, 5, 6, 7, 8, 300};
+    expect(ZAXCLOVER_WRONG_TABLE == 48, "header", "the number of a table that is not permitted");
+    hold_wrong(NULL, 0, 4, p9, p9_length);
+    for (size_t i = 0; i < sizeof lengths / sizeof lengths[0]; i++) {
+        uint8_t *table = marked(lengths[i]);
+        hold_wrong(table, lengths[i], 4, p9, p9_length);
+        memset(table, 0, lengths[i]);
+        hold_wrong(table, lengths[i], 4, p9, p9_length);
+        memcpy(table, permitted[0], lengths[i] < ZAXCLOVER_TABLE_BYTES ? lengths[i] : ZAXCLOVER_TABLE_BYTES);
+        hold_wrong(table, lengths[i], 4, p9, p9_length);
+        expect(is_marked(table, lengths[i], lengths[i] + GUARD), "tables", "the guard after a table");
+        free(table);
+    }
+}
+
+/* Each entry that is not permitted, at each place and beside each permitted table; and several at once. */
+static void test_wrong_entries(const uint8_t *p9, size_t p9_length)
+{
+    static const uint8_t wrong[] = {2, 3, 49, 128, 255};
+    static const struct {
+        uint8_t table[ZAXCLOVER_TABLE_BYTES];
+        size_t place;
+    } several[] = {
+        {{1, 1, 0, 2}, 1}, {{1, 1, 1, 1}, 1}, {{1, 0, 1, 2}, 2}, {{1, 0, 1, 1}, 2}, {{0, 1, 1, 0}, 1}, {{2, 1, 1, 2}, 0},
+        {{0, 0, 0, 2}, 3}, {{255, 255, 255, 255}, 0}, {{'1', '0', '0', '1'}, 0}, {{1, 0, 0, '1'}, 3}, {{1, 2, 1, 1}, 1},
+    };
+    for (size_t t = 0; t < TABLES; t++)
+        for (size_t i = 0; i < ZAXCLOVER_TABLE_BYTES; i++) {
+            uint8_t table[ZAXCLOVER_TABLE_BYTES];
+            for (size_t k = 0; k < sizeof wrong; k++) {
+                memcpy(table, permitted[t], ZAXCLOVER_TABLE_BYTES);
+                table[i] = wrong[k];
+                hold_wrong(table, ZAXCLOVER_TABLE_BYTES, i, p9, p9_length);
+            }
+            table[i] = 1;
+            if (i == ZAXCLOVER_AGREEING_DIFFERENT || i == ZAXCLOVER_OPPOSED_EQUAL)
+                hold_wrong(table, ZAXCLOVER_TABLE_BYTES, i, p9, p9_length);
+        }
+    for (size_t i = 0; i < sizeof several / sizeof several[0]; i++)
+        hold_wrong(several[i].table, ZAXCLOVER_TABLE_BYTES, several[i].place, p9, p9_length);
+}
+
+/* With a permitted table the job is looked at: as long as may be, empty, too long. */
+static void test_job_after_table(void)
+{
+    static uint8_t long_job[ZAXCLOVER_JOB_BYTES + 1];
+    for (int k = 0; k < TABLE_OPERATIONS; k++)
+        for (int t = 0; t < TABLES; t++) {
+            const struct named_with_table *o = &table_operations[k];
+            size_t place = 77;
+            size_t value = 77;
+            expect(!is_refused(permitted[t], ZAXCLOVER_TABLE_BYTES, &place), "tables.c", "a permitted table");
+            size_t number = o->run(permitted[t], ZAXCLOVER_TABLE_BYTES, NULL, 0, NULL, 0, &value);
+            expect(number == ZAXCLOVER_WRONG_RECORD && value == 0, o->name, "an empty job at a null pointer");
+            number = o->run(permitted[t], ZAXCLOVER_TABLE_BYTES, long_job, sizeof long_job, NULL, 0, &value);
+            expect(number == ZAXCLOVER_JOB_TOO_LONG && value == 65536, o->name, "a job too long");
+            number = o->run(permitted[t], ZAXCLOVER_TABLE_BYTES, long_job, 5, NULL, 0, &value);
+            expect(number == ZAXCLOVER_CUT_SHORT && value == 0, o->name, "a header cut short");
+        }
+}
+
+/* Sewing, or the walks, with a table: these bytes, in an output just as long, one longer, and one too short. */
+static void hold_made(int k, const uint8_t *table, const uint8_t *job, size_t length, const uint8_t *due, size_t due_length)
+{
+    const struct named_with_table *o = &table_operations[k];
+    size_t rooms[] = {0, due_length - 1, due_length, due_length + 1};
+    for (size_t i = 0; i < sizeof rooms / sizeof rooms[0]; i++) {
+        uint8_t *out = marked(rooms[i]);
+        size_t value = 77;
+        size_t written = rooms[i] < due_length ? 0 : due_length;
+        size_t number = o->run(table, ZAXCLOVER_TABLE_BYTES, job, length, out, rooms[i], &value);
+        expect(number == (written == 0 ? ZAXCLOVER_NO_ROOM : ZAXCLOVER_DONE), o->name, "the number");
+        expect(value == due_length, o->name, "the length");
+        expect(memcmp(out, due, written) == 0, o->name, "the output");
+        expect(is_marked(out, written, rooms[i] + GUARD), o->name, "later bytes stay");
+        free(out);
+    }
+}
+
+/* The walks of P9, by hand: its only join is of agreeing surfaces, whose senses are equal. */
+static void test_tables_of_p9(const uint8_t *p9, size_t length)
+{
+    static const uint32_t joined[] = {0, 3, 1, 3, 0, 1, 4, 5, 0, 5, 4, 0};
+    static const uint32_t apart[] = {0, 1, 0, 1, 0, 0, 2, 3, 0, 3, 2, 0, 4, 5, 0, 5, 4, 0};
+    for (int t = 0; t < TABLES; t++) {
+        const uint32_t *fields = permitted[t][0] == 1 ? joined : apart;
+        size_t count = permitted[t][0] == 1 ? 12 : 18;
+        uint8_t walks[72];
+        for (size_t i = 0; i < 4 * count; i++)
+            walks[i] = (uint8_t)(fields[i / 4] >> 8 * (i % 4));
+        hold_made(1, permitted[t], p9, length, walks, 4 * count);
+    }
+}
+
+/* A ring between two faces on opposed surfaces whose stored senses differ, sewn with each table. */
+static void test_opposed(void)
+{
+    static struct job job, due;
+    static const struct line opposed[] = {
+        {ZAXCLOVER_HEAD, 1, {1}},
+        {ZAXCLOVER_EDGE, 4, {5, 0, ZAXCLOVER_NONE, ZAXCLOVER_NONE}},
+        {ZAXCLOVER_FACE, 5, {7, 0, 0, 0, 0}},
+        {ZAXCLOVER_LOOP, 2, {0, 0}},
+        {ZAXCLOVER_FACE, 5, {8, 1, 0, 0, 1}},
+        {ZAXCLOVER_LOOP, 2, {0, 1}},
+        {ZAXCLOVER_SURFACE, 2, {0, 2}},
+    };
+    static const struct line joined[] = {
+        {ZAXCLOVER_BODY_FACE, 2, {7, 0}}, {ZAXCLOVER_BODY_MEMBERS, 4, {0, 0, 0, 1}},
+        {ZAXCLOVER_BODY_LUMP, 0, {0}}, {ZAXCLOVER_BODY_SHELL, 1, {0}},
+    };
+    static const struct line apart[] = {
+        {ZAXCLOVER_BODY_EDGE, 4, {5, 0, ZAXCLOVER_NONE, ZAXCLOVER_NONE}},
+        {ZAXCLOVER_BODY_FACE, 2, {7, 0}}, {ZAXCLOVER_BODY_MEMBERS, 2, {0, 0}}, {ZAXCLOVER_BODY_LOOP, 2, {0, 0}},
+        {ZAXCLOVER_BODY_FACE, 2, {8, 1}}, {ZAXCLOVER_BODY_MEMBERS, 2, {0, 1}}, {ZAXCLOVER_BODY_LOOP, 2, {0, 1}},
+        {ZAXCLOVER_BODY_LUMP, 0, {0}}, {ZAXCLOVER_BODY_SHELL, 2, {0, 1}},
+    };
+    static const uint32_t body_joined[] = {1, 2, 2, 0, 0, 0, 1};
+    static const uint32_t body_apart[] = {1, 2, 0, 0, 0, 0, 0};
+    put_lines(&job, LINES(opposed));
+    for (int t = 0; t < TABLES; t++) {
+        int joins = permitted[t][3] == 1;
+        const struct line *lines = joins ? joined : apart;
+        size_t count = joins ? sizeof joined / sizeof joined[0] : sizeof apart / sizeof apart[0];
+        due.length = 0;
+        put_record(&due, ZAXCLOVER_BODY, joins ? body_joined : body_apart, 7);
+        for (size_t i = 0; i < count; i++)
+            put_record(&due, lines[i].kind, lines[i].fields, lines[i].count);
+        hold_made(0, permitted[t], job.bytes, job.length, due.bytes, due.length);
+    }
+}
+
+/* The full table: answer and output are those without a table, in a room that suffices and in none. */
+static void hold_full(const uint8_t *job, size_t length)
+{
+    static uint8_t out[65536], ordinary[65536];
+    for (int k = 0; k < TABLE_OPERATIONS; k++)
+        for (size_t room = 0; room <= sizeof out; room += sizeof out) {
+            size_t value = 77;
+            size_t due = 78;
+            memset(out, MARK, sizeof out);
+            memset(ordinary, MARK, sizeof ordinary);
+            size_t number = table_operations[k].run(permitted[0], ZAXCLOVER_TABLE_BYTES, job, length, out, room, &value);
+            size_t same = table_operations[k].ordinary(job, length, ordinary, room, &due);
+            expect(number == same && value == due, table_operations[k].name, "the full table, the answer");
+            expect(memcmp(out, ordinary, sizeof out) == 0, table_operations[k].name, "the full table, the output");
+        }
+}
+
+/* Sewing with a permitted table: the body's numbers, and its members by face, are those of merging by the table. */
+static int hold_sewn_by(const uint8_t *table, const uint8_t *job, size_t length, const struct merged *due)
+{
+    static uint8_t out[65536];
+    static uint8_t groups[8 * ZAXCLOVER_FACES];
+    size_t value;
+    if (zaxclover_sew_with_table(table, ZAXCLOVER_TABLE_BYTES, job, length, out, sizeof out, &value) != ZAXCLOVER_DONE)
+        return 0;
+    const uint8_t *body = out + 6;
+    expect(word(body + 4) == due->uses && word(body + 8) == due->removed, "sew with a table", "uses and removed uses");
+    expect(word(body + 12) == due->passed && word(body + 24) == due->joins, "sew with a table", "passed over, face joins");
+    for (size_t face = 0; face < due->faces; face++)
+        for (size_t i = 0; i < 4; i++)
+            groups[8 * face + 4 + i] = (uint8_t)(due->group[face] >> 8 * i);
+    size_t faces = hold_groups(job, length, out, value, groups, 8 * due->faces);
+    expect(faces + due->joins == due->faces, "sew with a table", "faces and face joins");
+    return 1;
+}
+
+/* The refusals that no table changes: those before joining, and 30, which only 20 and 21 of kind 9 come before. */
+static void hold_refusals(const uint8_t *table, const uint8_t *job, size_t length)
+{
+    static uint8_t out[65536];
+    for (int k = 0; k < TABLE_OPERATIONS; k++) {
+        const struct named_with_table *o = &table_operations[k];
+        size_t due, value;
+        size_t wanted = o->ordinary(job, length, out, sizeof out, &due);
+        size_t number = o->run(table, ZAXCLOVER_TABLE_BYTES, job, length, out, sizeof out, &value);
+        int before = before_joining(wanted, due) || before_joining(number, value);
+        int of_points = (number == ZAXCLOVER_UNANSWERED || number == ZAXCLOVER_UNDECIDED) && value == ZAXCLOVER_POINTS;
+        if (before || (wanted == ZAXCLOVER_PAIRS_IN_BOUNDARY && !of_points))
+            expect(number == wanted && value == due, o->name, "a refusal that no table changes");
+    }
+}
+
+/* A stored job with each permitted table; gives how many lesser ones join less than the full one in a body. */
+static size_t test_tables(const uint8_t *job, size_t length)
+{
+    static struct merged due;
+    static uint8_t walks[12 * ZAXCLOVER_USES];
+    size_t differing = 0;
+    size_t joins = 0;
+    hold_full(job, length);
+    for (int t = 0; t < TABLES; t++) {
+        size_t value;
+        size_t number = zaxclover_walk_stage_with_table(permitted[t], ZAXCLOVER_TABLE_BYTES, job, length, walks,
+                                                        sizeof walks, &value);
+        hold_refusals(permitted[t], job, length);
+        if (number != ZAXCLOVER_DONE)
+            continue;
+        merge_by(permitted[t], job, length, &due);
+        expect(value == due.walks_length, "walk with a table", "how many walks");
+        expect(memcmp(walks, due.walks, due.walks_length) == 0, "walk with a table", "the walks");
+        int sewn = hold_sewn_by(permitted[t], job, length, &due);
+        joins = t == 0 ? due.joins : joins;
+        differing += t != 0 && sewn && due.joins < joins;
+    }
+    return differing;
+}
+
 /* STORED AND MADE-UP JOBS */
 
 /* A face selected twice is refused with 45 or for what comes before; gives whether with 45. */
@@ -508,17 +777,20 @@ static void test_stored(const struct seeds *seeds)
     static uint8_t out[65536];
     size_t sewn = 0;
     size_t faces = 0;
+    size_t lesser = 0;
     expect(seeds->count >= 9, "list", "stored jobs");
     for (size_t i = 0; i < seeds->count; i++) {
         size_t value;
         test_list(seeds->at[i], seeds->length[i]);
         test_repeat(seeds->at[i], seeds->length[i]);
+        lesser += test_tables(seeds->at[i], seeds->length[i]);
         if (zaxclover_sew(seeds->at[i], seeds->length[i], out, sizeof out, &value) != ZAXCLOVER_DONE)
             continue;
         faces += test_members(seeds->at[i], seeds->length[i], out, value);
         sewn++;
     }
     expect(sewn >= 300 && faces >= 2 * sewn, "sew", "stored jobs with faces");
+    expect(lesser >= 100, "sew with a table", "stored jobs that a lesser table joins less");
 }
 
 static int has_face(const struct job *job)
@@ -571,6 +843,11 @@ int main(int count, char **words)
     test_same_face();
     test_first_repeat();
     test_order();
+    test_wrong_lengths(job, length);
+    test_wrong_entries(job, length);
+    test_job_after_table();
+    test_tables_of_p9(job, length);
+    test_opposed();
     test_stored(&seeds);
     test_made(&seeds);
     expect(memcmp(job, bytes, length) == 0 && is_marked(job, length, length + GUARD), "job", "left as it was");

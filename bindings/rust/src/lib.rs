@@ -37,12 +37,22 @@
 //! assert_eq!(why.words(), "the face is selected twice: the same body and source face");
 //! ```
 //!
-//! The library may assume that the output shares no byte with the job. Rust's borrows see to it:
+//! Which surface answers join two faces is the shop's own choice, within what the rules permit: a joining table goes with
+//! the call of [`sew_with_table`], [`body_with_table`], [`listing_with_table`] and [`walk_stage_with_table`]. All else
+//! joins by the full table, [`FULL_TABLE`].
+//!
+//! The library may assume that the output shares no byte with job or table. Rust's borrows see to it:
 //!
 //! ```compile_fail,E0502
 //! let mut bytes = [0u8; 64];
 //! let job = &bytes[..32];
 //! let _ = zaxclover::sew(job, &mut bytes[16..]);
+//! ```
+//!
+//! ```compile_fail,E0502
+//! let mut bytes = [1, 0, 0, 1, 0, 0];
+//! let table = &bytes[..4];
+//! let _ = zaxclover::sew_with_table(table, &[], &mut bytes[3..]);
 //! ```
 //!
 //! A loop's payload is a part of the job, which cannot change as long as the payload is in use:
@@ -70,6 +80,12 @@ pub const LONGEST_JOB: usize = 65_536;
 
 /// The text of [`list`] is not longer.
 pub const LONGEST_LISTING: usize = 196_608;
+
+/// The joining table by which [`sew`] and every stage join. Its bytes are 1 (the two faces join) or 0 (they do not), a
+/// row for each answer, 1 and then 2, a column for the faces' stored senses, equal and then different. A 1 is
+/// permitted only where this table has one, so that there are three more: `[1, 0, 0, 0]` joins no opposed surfaces,
+/// `[0, 0, 0, 1]` no agreeing ones, `[0, 0, 0, 0]` none.
+pub const FULL_TABLE: [u8; 4] = [1, 0, 0, 1];
 
 /// The single stages. What each writes is in `docs/STAGES.md`.
 #[derive(Clone, Copy, Debug, PartialEq, Eq, Hash)]
@@ -131,6 +147,59 @@ pub fn stage(stage: Stage, job: &[u8], out: &mut [u8]) -> Result<usize, Refusal>
     run(stage.operation(), job, out)
 }
 
+/// Sews a job as [`sew`] does, but that faces join by a joining table. A table that is not permitted is refused with 48
+/// before anything else: its place is 4 if the table is not of four bytes, else the first entry that is not permitted.
+///
+/// ```
+/// use zaxclover::{FULL_TABLE, sew, sew_with_table};
+///
+/// let mut job = Vec::new(); // a ring between two faces on opposed surfaces, whose senses differ
+/// for (kind, fields) in [
+///     (1u16, vec![1u32]),
+///     (3, vec![5, 0, u32::MAX, u32::MAX]),
+///     (4, vec![7, 0, 0, 0, 0]),
+///     (5, vec![0, 0]),
+///     (4, vec![8, 1, 0, 0, 1]),
+///     (5, vec![0, 1]),
+///     (8, vec![0, 2]),
+/// ] {
+///     job.extend((4 * fields.len() as u32).to_le_bytes());
+///     job.extend(kind.to_le_bytes());
+///     job.extend(fields.iter().flat_map(|field| field.to_le_bytes()));
+/// }
+/// let mut out = [0u8; 256];
+/// let face_joins = 30; // the byte where the body's record has them
+/// assert_eq!(sew_with_table(&FULL_TABLE, &job, &mut out), sew(&job, &mut [0; 256]));
+/// assert_eq!(out[face_joins], 1);
+/// let length = sew_with_table(&[1, 0, 0, 0], &job, &mut out)?;
+/// assert_eq!((length, out[face_joins]), (160, 0)); // two faces, and the edge between them
+///
+/// let why = sew_with_table(&[1, 1, 0, 1], &job, &mut out).unwrap_err();
+/// assert_eq!((why.number, why.place), (48, 1));
+/// let why = sew_with_table(&[1, 0], &[], &mut []).unwrap_err();
+/// assert_eq!((why.number, why.place), (48, 4));
+/// # Ok::<(), zaxclover::Refusal>(())
+/// ```
+pub fn sew_with_table(table: &[u8], job: &[u8], out: &mut [u8]) -> Result<usize, Refusal> {
+    run_with_table(raw::zaxclover_sew_with_table, table, job, out)
+}
+
+/// Runs [`Stage::Walk`], but that faces join by a joining table: the table is tested first, as for [`sew_with_table`].
+///
+/// ```
+/// use zaxclover::{FULL_TABLE, Stage, stage, walk_stage_with_table};
+///
+/// let job = [4, 0, 0, 0, 1, 0, 0, 0, 0, 0]; // Head only
+/// let mut out = [0u8; 64];
+/// assert_eq!(walk_stage_with_table(&FULL_TABLE, &job, &mut out), stage(Stage::Walk, &job, &mut []));
+/// assert_eq!(walk_stage_with_table(&[0, 0, 0, 0], &job, &mut out), Ok(0));
+/// let why = walk_stage_with_table(b"1001", &job, &mut out).unwrap_err(); // digits are not 0 and 1
+/// assert_eq!((why.number, why.place), (48, 0));
+/// ```
+pub fn walk_stage_with_table(table: &[u8], job: &[u8], out: &mut [u8]) -> Result<usize, Refusal> {
+    run_with_table(raw::zaxclover_walk_stage_with_table, table, job, out)
+}
+
 /// The payload of loop `n` of a job, of both sorts of loops, as it stands in the job.
 pub fn loop_payload(job: &[u8], n: usize) -> Result<&[u8], Refusal> {
     let (mut start, mut value) = (0, 0);
@@ -142,16 +211,23 @@ pub fn loop_payload(job: &[u8], n: usize) -> Result<&[u8], Refusal> {
 
 /// The body of a job, in as many bytes as it needs.
 pub fn body(job: &[u8]) -> Result<Vec<u8>, Refusal> {
-    let mut out = vec![0; LONGEST_JOB];
-    let length = match sew(job, &mut out) {
-        Err(Refusal { number: 40, place }) => {
-            out.resize(place, 0);
-            sew(job, &mut out)?
-        }
-        answer => answer?,
-    };
-    out.truncate(length);
-    Ok(out)
+    whole(|out| sew(job, out))
+}
+
+/// The body of a job as [`body`] gives it, but that faces join by a joining table: the table is tested first, as for
+/// [`sew_with_table`].
+///
+/// ```
+/// use zaxclover::{FULL_TABLE, body, body_with_table};
+///
+/// let job = [4, 0, 0, 0, 1, 0, 0, 0, 0, 0]; // Head only
+/// assert_eq!(body_with_table(&FULL_TABLE, &job), body(&job));
+/// assert_eq!(body_with_table(&[0, 0, 0, 0], &job).unwrap().len(), 34);
+/// let why = body_with_table(&[1, 0, 1, 0], &job).unwrap_err();
+/// assert_eq!((why.number, why.place), (48, 2));
+/// ```
+pub fn body_with_table(table: &[u8], job: &[u8]) -> Result<Vec<u8>, Refusal> {
+    whole(|out| sew_with_table(table, job, out))
 }
 
 /// The listing of a job, as the program `listing` prints it: the body's lines, or the line `refused NUMBER PLACE`. The job
@@ -168,11 +244,64 @@ pub fn list(job: &[u8]) -> String {
 /// The listing of a job's body, however long: a line for each record, its name and then its fields in decimal. A refusal
 /// is an error, not a line.
 pub fn listing(job: &[u8]) -> Result<String, Refusal> {
-    let body = body(job)?;
+    Ok(lines(&body(job)?))
+}
+
+/// The listing of a job's body as [`listing`] gives it, but that faces join by a joining table: the table is tested first,
+/// as for [`sew_with_table`].
+///
+/// ```
+/// use zaxclover::{FULL_TABLE, listing, listing_with_table};
+///
+/// let mut job = Vec::new(); // a ring between two faces on one surface, with equal senses
+/// for (kind, fields) in [
+///     (1u16, vec![1u32]),
+///     (3, vec![5, 0, u32::MAX, u32::MAX]),
+///     (4, vec![7, 0, 0, 0, 0]),
+///     (5, vec![0, 0]),
+///     (4, vec![7, 0, 0, 0, 1]),
+///     (5, vec![0, 1]),
+///     (8, vec![0, 1]),
+/// ] {
+///     job.extend((4 * fields.len() as u32).to_le_bytes());
+///     job.extend(kind.to_le_bytes());
+///     job.extend(fields.iter().flat_map(|field| field.to_le_bytes()));
+/// }
+/// let joined = "body 1 2 2 0 0 0 1\nface 7 0\nmembers 0 0 0 1\nlump\nshell 0\n";
+/// assert_eq!(listing(&job)?, joined);
+/// assert_eq!(listing_with_table(&FULL_TABLE, &job)?, joined);
+/// assert_eq!(listing_with_table(&[1, 0, 0, 0], &job)?, joined);
+/// let apart = listing_with_table(&[0, 0, 0, 1], &job)?; // agreeing surfaces do not join
+/// assert!(apart.starts_with("body 1 2 0 0 0 0 0\nedge 5 0 - -\nface 7 0\nmembers 0 0\nloop 0 0\n"));
+///
+/// let why = listing_with_table(&[1, 0], &job).unwrap_err();
+/// assert_eq!((why.number, why.place), (48, 4));
+/// # Ok::<(), zaxclover::Refusal>(())
+/// ```
+pub fn listing_with_table(table: &[u8], job: &[u8]) -> Result<String, Refusal> {
+    Ok(lines(&body_with_table(table, job)?))
+}
+
+/// What sewing writes, in as many bytes as it needs.
+fn whole(sew: impl Fn(&mut [u8]) -> Result<usize, Refusal>) -> Result<Vec<u8>, Refusal> {
+    let mut out = vec![0; LONGEST_JOB];
+    let length = match sew(&mut out) {
+        Err(Refusal { number: 40, place }) => {
+            out.resize(place, 0);
+            sew(&mut out)?
+        }
+        answer => answer?,
+    };
+    out.truncate(length);
+    Ok(out)
+}
+
+/// The lines of a body that sewing wrote.
+fn lines(body: &[u8]) -> String {
     // An empty page stores nothing and tells the length.
-    let mut page = vec![0; put_lines(&body, &mut [])];
-    put_lines(&body, &mut page);
-    Ok(String::from_utf8(page).expect("a listing is ASCII"))
+    let mut page = vec![0; put_lines(body, &mut [])];
+    put_lines(body, &mut page);
+    String::from_utf8(page).expect("a listing is ASCII")
 }
 
 fn put_lines(body: &[u8], page: &mut [u8]) -> usize {
@@ -206,6 +335,29 @@ fn run(operation: raw::Operation, job: &[u8], out: &mut [u8]) -> Result<usize, R
     answer(number, value)
 }
 
+fn run_with_table(
+    operation: raw::TableOperation,
+    table: &[u8],
+    job: &[u8],
+    out: &mut [u8],
+) -> Result<usize, Refusal> {
+    let mut value = 0;
+    // SAFETY: table and job are readable and the output writable for their lengths. The output is borrowed mutably, so
+    // that it shares no byte with the two, and the value is a local.
+    let number = unsafe {
+        operation(
+            table.as_ptr(),
+            table.len(),
+            job.as_ptr(),
+            job.len(),
+            out.as_mut_ptr(),
+            out.len(),
+            &mut value,
+        )
+    };
+    answer(number, value)
+}
+
 fn answer(number: usize, value: usize) -> Result<usize, Refusal> {
     match number {
         0 => Ok(value),
@@ -213,5 +365,29 @@ fn answer(number: usize, value: usize) -> Result<usize, Refusal> {
             number,
             place: value,
         }),
+    }
+}
+
+#[cfg(test)]
+mod tests {
+    use super::*;
+
+    /// Sewing that writes 70,000 bytes, more than the first output has.
+    fn sew_long(out: &mut [u8]) -> Result<usize, Refusal> {
+        let (number, place) = (40, 70_000);
+        if out.len() < place {
+            return Err(Refusal { number, place });
+        }
+        out[..place].fill(7);
+        Ok(place)
+    }
+
+    #[test]
+    fn an_output_is_lent_anew_where_the_first_is_too_short() {
+        assert_eq!(whole(sew_long), Ok(vec![7; 70_000]));
+        for number in [4, 48] {
+            let why = Refusal { number, place: 3 };
+            assert_eq!(whole(|_| Err(why)), Err(why));
+        }
     }
 }

@@ -3,6 +3,10 @@
 /// Sewing and the single stages: job and its length, output and its length, value.
 pub type Operation = unsafe extern "C" fn(*const u8, usize, *mut u8, usize, *mut usize) -> usize;
 
+/// Sewing and the walk stage with a joining table: table and its length, then as [`Operation`].
+pub type TableOperation =
+    unsafe extern "C" fn(*const u8, usize, *const u8, usize, *mut u8, usize, *mut usize) -> usize;
+
 unsafe extern "C" {
     pub fn zaxclover_sew(
         job: *const u8,
@@ -82,6 +86,24 @@ unsafe extern "C" {
         value: *mut usize,
     ) -> usize;
     pub fn zaxclover_lump_stage(
+        job: *const u8,
+        job_length: usize,
+        out: *mut u8,
+        out_length: usize,
+        value: *mut usize,
+    ) -> usize;
+    pub fn zaxclover_sew_with_table(
+        table: *const u8,
+        table_length: usize,
+        job: *const u8,
+        job_length: usize,
+        out: *mut u8,
+        out_length: usize,
+        value: *mut usize,
+    ) -> usize;
+    pub fn zaxclover_walk_stage_with_table(
+        table: *const u8,
+        table_length: usize,
         job: *const u8,
         job_length: usize,
         out: *mut u8,

@@ -10,7 +10,7 @@ pub struct Refusal {
 }
 
 /// Every number that a refusal can have, what is wrong, and what its place is.
-const TABLE: [(usize, &str, &str); 22] = [
+const TABLE: [(usize, &str, &str); 23] = [
     (1, "the job is longer than 65,536 bytes", "byte"),
     (2, "a record is cut short", "record at byte"),
     (
@@ -60,6 +60,11 @@ const TABLE: [(usize, &str, &str); 22] = [
         45,
         "the face is selected twice: the same body and source face",
         "record at byte",
+    ),
+    (
+        48,
+        "the joining table is not four bytes, or has an entry that is not permitted",
+        "entry, or 4 for the length",
     ),
 ];
 

@@ -1,7 +1,10 @@
 //! Parts P1 to P9 of document 01, those of the requests, and the edges of the interface.
 use std::fs;
 use std::path::Path;
-use zaxclover::{Refusal, Stage, VERSION, body, list, listing, loop_payload, sew, stage};
+use zaxclover::{
+    FULL_TABLE, Refusal, Stage, VERSION, body, body_with_table, list, listing, listing_with_table,
+    loop_payload, sew, sew_with_table, stage, walk_stage_with_table,
+};
 
 /// Kinds of records that are looked for below, as the header numbers them.
 const FACE: u16 = 4;
@@ -275,6 +278,15 @@ fn hold_refused(name: &str, job: &[u8], why: Refusal) {
         assert_eq!(stage(s, job, &mut out), Err(why), "{name} {s:?}");
         assert_eq!(stage(s, job, &mut []), Err(why), "{name} {s:?}");
     }
+    for table in PERMITTED {
+        for run in WITH_TABLE {
+            assert_eq!(run(&table, job, &mut out), Err(why), "{name} {table:?}");
+            assert_eq!(run(&table, job, &mut []), Err(why), "{name} {table:?}");
+        }
+        assert_eq!(body_with_table(&table, job), Err(why), "{name} {table:?}");
+        let text = listing_with_table(&table, job);
+        assert_eq!(text, Err(why), "{name} {table:?}");
+    }
     for n in [0, 1, 1024, usize::MAX] {
         assert_eq!(loop_payload(job, n), Err(why), "{name} loop {n}");
     }
@@ -531,6 +543,374 @@ fn parts_with_a_face_selected_twice_are_refused() {
     assert!(pairs >= 50 && again >= 50, "{pairs}, {again}");
 }
 
+/// Every joining table that is permitted.
+const PERMITTED: [[u8; 4]; 4] = [FULL_TABLE, [1, 0, 0, 0], [0, 0, 0, 1], [0, 0, 0, 0]];
+
+type WithTable = fn(&[u8], &[u8], &mut [u8]) -> Result<usize, Refusal>;
+
+/// The two functions that take a table and an output.
+const WITH_TABLE: [WithTable; 2] = [sew_with_table, walk_stage_with_table];
+
+/// Whether two faces join by an answer of kind 8, with senses equal or different, under document 01's rule.
+fn document_01_joins(answer: usize, equal: bool) -> bool {
+    (answer == 1) == equal
+}
+
+/// Request Eleven: rows by answer, columns equal then different, and the tables of 0 and 1 that are permitted are just those
+/// with a 1 only where document 01 joins.
+#[test]
+fn a_table_joins_only_where_document_01_does() {
+    let full = [(1, true), (1, false), (2, true), (2, false)]
+        .map(|(answer, equal)| u8::from(document_01_joins(answer, equal)));
+    assert_eq!(FULL_TABLE, full);
+    let (job, _) = part("P9.txt");
+    let mut accepted = Vec::new();
+    for bits in 0..16u8 {
+        let table = [0, 1, 2, 3].map(|i| bits >> i & 1);
+        let first_wrong = (0..4).find(|i| table[*i] > full[*i]);
+        for run in WITH_TABLE {
+            let answer = run(&table, &job, &mut [0; 1024]);
+            match first_wrong {
+                Some(place) => assert_eq!(answer, Err(refused(48, place)), "{table:?}"),
+                None => assert!(answer.is_ok(), "{table:?} {answer:?}"),
+            }
+        }
+        if first_wrong.is_none() {
+            accepted.push(table);
+        }
+    }
+    accepted.sort();
+    let mut permitted = PERMITTED;
+    permitted.sort();
+    assert_eq!(accepted, permitted);
+}
+
+/// Jobs that a wrong table is held with: parts, and jobs that are refused without a table, each by another number.
+fn jobs_of_all_sorts() -> Vec<(&'static str, Vec<u8>)> {
+    let short = assembled("head 1")[..9].to_vec();
+    let mut jobs = vec![
+        ("empty", Vec::new()),
+        ("cut short", short),
+        ("too long by one", vec![0; 65_537]),
+        ("too long", vec![0xA5; 70_000]),
+        ("as long as may be", vec![0; 65_536]),
+        ("face selected twice", with_faces(&[[7, 0, 0, 0, 5]; 2])),
+        (
+            "surface unanswered",
+            assembled(&OPPOSED.replace("surface 0 2\n", "")),
+        ),
+        (
+            "surface undecided",
+            assembled(&OPPOSED.replace("surface 0 2\n", "surface 0 4\n")),
+        ),
+    ];
+    jobs.extend(
+        ["P1.txt", "P3.txt", "P4.txt", "P5.txt", "P6.txt", "P9.txt"]
+            .map(|name| (name, part(name).0)),
+    );
+    jobs
+}
+
+/// A table is refused by all that takes one, whatever the job and the room are, and the output stays.
+fn hold_wrong_table(table: &[u8], place: usize) {
+    let refusal = refused(48, place);
+    for (name, job) in jobs_of_all_sorts() {
+        let (bytes, text) = (
+            body_with_table(table, &job),
+            listing_with_table(table, &job),
+        );
+        assert_eq!(bytes, Err(refusal), "{table:?} {name}");
+        assert_eq!(text, Err(refusal), "{table:?} {name}");
+        for run in WITH_TABLE {
+            let why = Err(refusal);
+            let mut out = [0xA5; 1024];
+            assert_eq!(run(table, &job, &mut out), why, "{table:?} {name}");
+            assert_eq!(out, [0xA5; 1024], "{table:?} {name}");
+            for room in 0..2 {
+                assert_eq!(
+                    run(table, &job, &mut out[..room]),
+                    why,
+                    "{table:?} {name} in {room}"
+                );
+            }
+            assert_eq!(out, [0xA5; 1024], "{table:?} {name}");
+        }
+    }
+}
+
+/// 48 with place 4: a table of another length, whatever its bytes are. The length is tested first.
+#[test]
+fn a_table_of_another_length_is_refused_at_4() {
+    for length in (0..=8).chain([300]).filter(|length| *length != 4) {
+        for byte in [0, 1, 2, 255] {
+            hold_wrong_table(&vec![byte; length], 4);
+        }
+        let mut full = vec![0; length.max(4)];
+        full[..4].copy_from_slice(&FULL_TABLE);
+        hold_wrong_table(&full[..length], 4);
+    }
+}
+
+/// 48 with the first faulty entry: one above 1 anywhere, or a 1 where document 01 does not join.
+#[test]
+fn a_table_with_a_wrong_entry_is_refused_at_the_first() {
+    for table in PERMITTED {
+        for i in 0..4 {
+            let highest = FULL_TABLE[i];
+            for byte in [1, 2, 3, 48, 49, 128, 255] {
+                let mut other = table;
+                other[i] = byte;
+                if byte > highest {
+                    hold_wrong_table(&other, i);
+                }
+            }
+        }
+    }
+    for (table, place) in [
+        ([1, 1, 0, 2], 1),
+        ([1, 1, 1, 1], 1),
+        ([0, 0, 1, 2], 2),
+        ([1, 0, 1, 1], 2),
+        ([2, 1, 1, 2], 0),
+        ([255, 0, 0, 255], 0),
+        ([1, 2, 1, 1], 1),
+        (*b"1001", 0),
+    ] {
+        hold_wrong_table(&table, place);
+    }
+}
+
+/// With a permitted table the job's own refusals are as without one: first the length, then what loading finds.
+#[test]
+fn a_permitted_table_leaves_the_refusals_of_loading() {
+    hold_refused("empty", &[], refused(3, 0));
+    hold_refused("too long", &[0xA5; 70_000], refused(1, 65_536));
+    hold_refused("twice", &with_faces(&[[7, 0, 0, 0, 5]; 2]), refused(45, 36));
+}
+
+/// Two faces that a ring parts, on opposed surfaces and with different senses.
+const OPPOSED: &str =
+    "head 1\nedge 5 0 - -\nface 7 0 0 0 0\nloop 0 0\nface 8 1 0 0 1\nloop 0 1\nsurface 0 2\n";
+
+/// The records that sewing with a table writes.
+fn records_with_table(table: [u8; 4], job: &[u8]) -> Vec<Record> {
+    let mut out = vec![0xA5; 65_536];
+    let length = sew_with_table(&table, job, &mut out).expect("a job that is sewn");
+    assert!(out[length..].iter().all(|byte| *byte == 0xA5));
+    records(&out[..length])
+}
+
+#[test]
+fn opposed_surfaces_join_if_the_table_says_so() {
+    let joined = [
+        (21, vec![1, 2, 2, 0, 0, 0, 1]),
+        (24, vec![7, 0]),
+        (29, vec![0, 0, 0, 1]),
+        (27, vec![]),
+        (28, vec![0]),
+    ];
+    let apart = [
+        (21, vec![1, 2, 0, 0, 0, 0, 0]),
+        (23, vec![5, 0, u32::MAX, u32::MAX]),
+        (24, vec![7, 0]),
+        (29, vec![0, 0]),
+        (25, vec![0, 0]),
+        (24, vec![8, 1]),
+        (29, vec![0, 1]),
+        (25, vec![0, 1]),
+        (27, vec![]),
+        (28, vec![0, 1]),
+    ];
+    let job = assembled(OPPOSED);
+    assert_eq!(records_with_table(FULL_TABLE, &job), joined);
+    assert_eq!(records_with_table([0, 0, 0, 1], &job), joined);
+    assert_eq!(records_with_table([1, 0, 0, 0], &job), apart);
+    assert_eq!(records_with_table([0, 0, 0, 0], &job), apart);
+    assert_eq!(sewn(&job), Ok(written(&joined)));
+}
+
+/// Body and listing by the table, and not by another.
+#[test]
+fn bodies_are_listed_as_the_table_joins() {
+    let joined = "body 1 2 2 0 0 0 1\nface 7 0\nmembers 0 0 0 1\nlump\nshell 0\n";
+    let apart = "body 1 2 0 0 0 0 0\nedge 5 0 - -\nface 7 0\nmembers 0 0\nloop 0 0\n\
+        face 8 1\nmembers 0 1\nloop 0 1\nlump\nshell 0 1\n";
+    let job = assembled(OPPOSED);
+    for (table, text) in [
+        ([1, 0, 0, 1], joined),
+        ([0, 0, 0, 1], joined),
+        ([1, 0, 0, 0], apart),
+        ([0, 0, 0, 0], apart),
+    ] {
+        let listed = listing_with_table(&table, &job);
+        assert_eq!(listed.as_deref(), Ok(text), "{table:?}");
+        let bytes = written(&records_with_table(table, &job));
+        assert_eq!(body_with_table(&table, &job), Ok(bytes), "{table:?}");
+    }
+    assert_eq!(listing(&job).as_deref(), Ok(joined));
+    assert_eq!(body_with_table(&[1, 0], &job), Err(refused(48, 4)));
+    assert_eq!(listing_with_table(&[1, 0], &job), Err(refused(48, 4)));
+    let why = listing_with_table(&[1, 0], &[]).unwrap_err().to_string();
+    assert!(why.starts_with("refused 48: "), "{why}");
+}
+
+/// Each answer with equal and with different senses: which tables join the two faces, and whether sewing does without one.
+#[test]
+fn each_entry_joins_its_own_answers() {
+    for answer in 0..3 {
+        for equal in [true, false] {
+            let text = OPPOSED.replace("surface 0 2", &format!("surface 0 {answer}"));
+            let job = assembled(&if equal {
+                text.replace("8 1 0", "8 0 0")
+            } else {
+                text
+            });
+            let ordinary = records(&sewn(&job).expect("a job that is sewn"));
+            let joins = answer > 0 && document_01_joins(answer, equal);
+            assert_eq!(ordinary[0].1[6], u32::from(joins), "{answer} {equal}");
+            for table in PERMITTED {
+                let entry = 2 * answer + usize::from(!equal);
+                let joins = answer > 0 && table[entry - 2] == 1;
+                let body = records_with_table(table, &job);
+                assert_eq!(body[0].1[6], u32::from(joins), "{answer} {equal} {table:?}");
+                let faces = body.iter().filter(|record| record.0 == BODY_FACE);
+                assert_eq!(
+                    faces.count(),
+                    2 - usize::from(joins),
+                    "{answer} {equal} {table:?}"
+                );
+            }
+        }
+    }
+}
+
+/// The fields of the walks with a table.
+fn walks_with_table(table: [u8; 4], job: &[u8]) -> Result<Vec<u32>, Refusal> {
+    let mut out = vec![0xA5; 32_768];
+    let length = walk_stage_with_table(&table, job, &mut out)?;
+    assert!(out[length..].iter().all(|byte| *byte == 0xA5));
+    Ok(fields(&out[..length]))
+}
+
+#[test]
+fn walks_pass_over_what_the_table_joins() {
+    let (job, _) = part("P9.txt");
+    let joined = vec![0, 3, 1, 3, 0, 1, 4, 5, 0, 5, 4, 0];
+    let apart = vec![0, 1, 0, 1, 0, 0, 2, 3, 0, 3, 2, 0, 4, 5, 0, 5, 4, 0];
+    assert_eq!(walks_with_table(FULL_TABLE, &job), Ok(joined.clone()));
+    assert_eq!(walks_with_table([1, 0, 0, 0], &job), Ok(joined));
+    assert_eq!(walks_with_table([0, 0, 0, 1], &job), Ok(apart.clone()));
+    assert_eq!(walks_with_table([0, 0, 0, 0], &job), Ok(apart));
+    let why = Err(refused(48, 1));
+    assert_eq!(walks_with_table([1, 1, 0, 1], &job), why);
+    for table in PERMITTED {
+        hold_room(&format!("P9 {table:?}"), &|out| {
+            walk_stage_with_table(&table, &job, out)
+        });
+        hold_room(&format!("P9 {table:?}"), &|out| {
+            sew_with_table(&table, &job, out)
+        });
+    }
+}
+
+/// Whatever the table, the surface questions are put: refused alike is what is not answered, undecided, or vanishing.
+#[test]
+fn every_table_puts_the_same_surface_questions() {
+    for (line, why) in [
+        ("", refused(20, 8)),
+        ("surface 1 2\n", refused(20, 8)),
+        ("surface 0 4\n", refused(21, 8)),
+        ("surface 0 3\n", refused(22, 8)),
+    ] {
+        let job = assembled(&OPPOSED.replace("surface 0 2\n", line));
+        assert_eq!(sew(&job, &mut [0; 1024]), Err(why), "{line}");
+        for table in PERMITTED {
+            for run in WITH_TABLE {
+                assert_eq!(
+                    run(&table, &job, &mut [0; 1024]),
+                    Err(why),
+                    "{line} {table:?}"
+                );
+            }
+        }
+    }
+}
+
+/// Boundaries follow from the pairs alone: a ring four times in one face has two pairs in one boundary with every table.
+#[test]
+fn two_pairs_in_one_boundary_are_refused_whatever_the_table_is() {
+    let text = "head 1\nedge 5 0 - -\nface 7 0 0 0 0\nloop 0 0\nloop 0 1\nloop 0 0\nloop 0 1\nradial 0 0 1 2 3\n";
+    let job = assembled(text);
+    let mut out = [0xA5; 64];
+    for table in PERMITTED {
+        let answer = sew_with_table(&table, &job, &mut out);
+        assert_eq!(answer, Err(refused(30, 0)), "{table:?}");
+        assert_eq!(walks_with_table(table, &job), Ok(vec![]), "{table:?}");
+    }
+    assert_eq!(sew(&job, &mut out), Err(refused(30, 0)));
+    assert_eq!(out, [0xA5; 64]);
+}
+
+/// Answer, place and output of the full table are those without one, on every part and whatever the room is.
+#[test]
+fn the_full_table_is_sewing_without_a_table() {
+    let parts = (1..=9).map(|n| format!("P{n}.txt"));
+    let (mut accepted, mut joined) = (0, 0);
+    for name in parts.chain(parts_of_the_requests()) {
+        let (job, _) = part(&name);
+        for room in [0, 12, 100, 65_536] {
+            let (mut out, mut due) = (vec![0xA5; room], vec![0xA5; room]);
+            let answer = sew_with_table(&FULL_TABLE, &job, &mut out);
+            assert_eq!(answer, sew(&job, &mut due), "{name} in {room}");
+            assert_eq!(out, due, "{name} in {room}");
+            let answer = walk_stage_with_table(&FULL_TABLE, &job, &mut out);
+            assert_eq!(
+                answer,
+                stage(Stage::Walk, &job, &mut due),
+                "{name} in {room}"
+            );
+            assert_eq!(out, due, "{name} in {room}");
+        }
+        assert_eq!(body_with_table(&FULL_TABLE, &job), body(&job), "{name}");
+        let text = listing_with_table(&FULL_TABLE, &job);
+        assert_eq!(text, listing(&job), "{name}");
+        if let Ok(body) = sewn(&job) {
+            accepted += 1;
+            joined += usize::from(fields(&body[30..34])[0] > 0);
+        }
+    }
+    assert!(accepted >= 20 && joined >= 12, "{accepted}, {joined}");
+}
+
+/// Lesser tables on every part: they join no more faces and remove no more uses, and a table of zeros joins none.
+#[test]
+fn a_lesser_table_joins_no_more() {
+    let parts = (1..=9).map(|n| format!("P{n}.txt"));
+    let mut fewer = 0;
+    for name in parts.chain(parts_of_the_requests()) {
+        let (job, _) = part(&name);
+        let Ok(full) = sewn(&job) else {
+            continue;
+        };
+        let selected = of_kind(&job, FACE).len();
+        let full = fields(&full[6..34]);
+        for table in PERMITTED {
+            let mut out = vec![0; 65_536];
+            let Ok(length) = sew_with_table(&table, &job, &mut out) else {
+                continue;
+            };
+            let told = fields(&out[6..34]);
+            let faces = of_kind(&out[..length], BODY_FACE).len();
+            assert_eq!(told[1], full[1], "{name} {table:?}: uses");
+            assert!(told[2] <= full[2] && told[6] <= full[6], "{name} {table:?}");
+            assert_eq!(selected, faces + told[6] as usize, "{name} {table:?}");
+            assert!(table != [0; 4] || told[6] == 0, "{name} {table:?}");
+            fewer += usize::from(told[6] < full[6]);
+        }
+    }
+    assert!(fewer >= 12, "{fewer}");
+}
+
 #[test]
 fn a_part_lists_as_the_program_prints_it() {
     for n in 1..=9 {
@@ -637,7 +1017,7 @@ fn stages_answer_by_themselves() {
 fn every_refusal_has_words() {
     let numbers: Vec<usize> = Refusal::numbers().collect();
     let expected = [
-        1, 2, 3, 4, 5, 6, 7, 10, 11, 12, 13, 20, 21, 22, 23, 30, 31, 32, 33, 34, 40, 45,
+        1, 2, 3, 4, 5, 6, 7, 10, 11, 12, 13, 20, 21, 22, 23, 30, 31, 32, 33, 34, 40, 45, 48,
     ];
     assert_eq!(numbers, expected);
     let mut seen = Vec::new();
@@ -700,6 +1080,7 @@ fn the_header_has_the_same_version_and_kinds() {
         format!("    ZAXCLOVER_FACE = {FACE}, "),
         format!("    ZAXCLOVER_BODY_FACE = {BODY_FACE}, "),
         format!("    ZAXCLOVER_BODY_MEMBERS = {BODY_MEMBERS} "),
+        format!("    ZAXCLOVER_TABLE_BYTES = {}, ", FULL_TABLE.len()),
     ] {
         assert!(header.contains(&line), "{line}");
     }
