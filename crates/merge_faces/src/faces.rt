@@ -75,8 +75,8 @@ impl Faces {
     }
 }
 
-// The faces merged by the answers to the surface questions, as the table has it, with the boundaries, numbers and lowest members that belong to
-// their groups.
+// The faces merged by the answers to the surface questions, as the table has it, with the boundaries, numbers and lowest
+// members that belong to their groups.
 pub fn merge_faces(
     job: &Loaded<'_>,
     uses: &[Use],

@@ -5,8 +5,8 @@ use merge_faces::Faces;
 use rules::{KeptVertexLoop, Rules, Use};
 use std::marker::Model;
 
-// A job once its faces are merged by these rules: its uses, the twin of each, and the merged faces. Contracts see the merging of the
-// definitions, with the uses that it removes.
+// A job once its faces are merged by these rules: its uses, the twin of each, and the merged faces. Contracts see the
+// merging of the definitions, with the uses that it removes.
 #[derive(Drop)]
 pub struct Merged<'a> {
     pub rules: Rules,

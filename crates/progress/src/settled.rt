@@ -9,9 +9,9 @@ use rules::{KeptVertexLoop, Rules, Use};
 use std::marker::Model;
 use walk::Steps;
 
-// A job through its walks, by these rules: the uses and the twin of each, the merged faces, the vertex loops kept, which uses are removed
-// and how many, the successor of each use, and how many uses were passed over in total. Contracts see the walks of the
-// definitions.
+// A job through its walks, by these rules: the uses and the twin of each, the merged faces, the vertex loops kept, which
+// uses are removed and how many, the successor of each use, and how many uses were passed over in total. Contracts see the
+// walks of the definitions.
 #[derive(Drop)]
 pub struct Walks<'a> {
     pub rules: Rules,
