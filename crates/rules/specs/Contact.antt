@@ -1,8 +1,12 @@
--- Contact tests, for any labelling of the selected faces: by boundary for 30 and 31, by lump for 33 and 32.
+-- Contact tests, for any labelling of the selected faces: by boundary for 30 and 31, by lump for 33 and 32. Document 02's
+-- request Two, 42: of the fans at a point, whatever their labels.
 use Rattle.std.specs.Prelude.{ℕ, List, [], ◌∷◌, map, Bool, ◌&&◌, cond, length, eqb, ltb}
-use Rattle.lists.specs.Lists.{below, keep, some, repeats, least}
+use Rattle.lists.specs.Lists.{below, keep, some, times, repeats, least}
 use Rattle.rules.specs.declared.Use.{Use}
 use Rattle.rules.specs.declared.Fault.{Fault}
+use Rattle.rules.specs.declared.Fault.TheVariants.{ManyFans}
+use Rattle.rules.specs.declared.Profile.{Profile}
+use Rattle.rules.specs.declared.Profile.TheVariants.{AnyContact, PrintShop}
 use Rattle.rules.specs.Outcome.{Outcome, Ok, refuse}
 use Rattle.rules.specs.Read.{face_of_use}
 use Rattle.rules.specs.Pair.{uses_of_edge, twin_of}
@@ -50,3 +54,14 @@ edges_clear fault us ts labels edges = clear fault (keep (edge_touches us ts lab
 -- Endings, 31 and 32: points ascending
 abbrev pub points_clear : Fault → List Use → List ℕ → List ℕ → List ℕ → Outcome (Unit {0})
 points_clear fault us starts labels names = clear fault (contact_points us starts labels names)
+
+-- Two: the points with more than one fan
+unfoldable pub shared_points : List ℕ → List ℕ → List ℕ
+shared_points starts names =
+    let points = map (fan_point starts) names in
+    keep (λ p. ltb 1 (times p points)) points
+
+-- Two, 42: in the print-shop profile each point has one fan; by ascending point
+abbrev pub one_fan_each : Profile → List ℕ → List ℕ → Outcome (Unit {0})
+one_fan_each AnyContact starts names = Ok tt
+one_fan_each PrintShop starts names = clear ManyFans (shared_points starts names)

@@ -31,4 +31,5 @@ pub mod Cases
 pub mod MoreCases
 pub mod RequestCases
 pub mod TableCases
+pub mod PrintCases
 pub mod FaultNumbers

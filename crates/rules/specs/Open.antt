@@ -18,7 +18,7 @@ use Rattle.rules.specs.Merge.{joins_faces, surface_step, merge_step, removed_use
 use Rattle.rules.specs.VertexLoops.{already_there, keep_unless_there}
 use Rattle.rules.specs.Walk.{pass, successor_of, passed_of, successors, passed_counts, circuit, loop_step}
 use Rattle.rules.specs.Fans.{fan_step, start_points}
-use Rattle.rules.specs.Contact.{edge_touches, touches, contact_points}
+use Rattle.rules.specs.Contact.{edge_touches, touches, contact_points, shared_points}
 use Rattle.rules.specs.Edges.{edge_data, item_of, face_loop}
 use Rattle.rules.specs.Join.{ends_from, is_place, one_for_two, replaced_in, joined_edge, join_edges, join_at, ring_at, may_join, at_corner, sweep, maximal_edges}
 use Rattle.rules.specs.Shells.{orient_shell, enclosing_shell, nest, lumps, lump_labels}
@@ -43,13 +43,13 @@ unfolding flat_map from has repeats same times least all some keep positions pos
     joined join_groups group_numbers pair_two each_once take_predecessor take_predecessors last_of pair_round
     pair_uses complete pair table_of joins_faces surface_step merge_step removed_uses merge_faces already_there
     keep_unless_there pass successor_of passed_of successors passed_counts circuit loop_step fan_step start_points
-    edge_touches touches contact_points edge_data item_of face_loop ends_from is_place one_for_two replaced_in
-    joined_edge join_edges join_at ring_at may_join at_corner sweep maximal_edges orient_shell enclosing_shell nest
-    lumps lump_labels body_face body_faces solid_body face_records lump_records body_records walks_of walked fans_of
-    fanned unjoined edged through_joining lumps_clear body_of solid rebuild sewn sewn_with_table lump_fields
-    read_stage pair_stage merge_stage vertex_loop_stage walk_stage walk_stage_with_table loop_stage fan_stage
-    edge_stage joining_stage shell_stage lump_stage digits_before word_of fields_text sewn_records records_with_table
-    read_rows pair_rows merge_rows vertex_loop_rows walk_rows loop_rows fan_rows table_rows edge_rows joining_rows
-    shell_rows lump_rows_from lump_rows staged_rows row_text stage_listing walk_rows_with_table stage_number
-    numbered_among stage_of is_asked
+    edge_touches touches contact_points shared_points edge_data item_of face_loop ends_from is_place one_for_two
+    replaced_in joined_edge join_edges join_at ring_at may_join at_corner sweep maximal_edges orient_shell
+    enclosing_shell nest lumps lump_labels body_face body_faces solid_body face_records lump_records body_records
+    walks_of walked fans_of fanned unjoined edged through_joining lumps_clear body_of solid rebuild sewn
+    sewn_with_table lump_fields read_stage pair_stage merge_stage vertex_loop_stage walk_stage walk_stage_with_table
+    loop_stage fan_stage edge_stage joining_stage shell_stage lump_stage digits_before word_of fields_text
+    sewn_records records_with_table read_rows pair_rows merge_rows vertex_loop_rows walk_rows loop_rows fan_rows
+    table_rows edge_rows joining_rows shell_rows lump_rows_from lump_rows staged_rows row_text stage_listing
+    walk_rows_with_table stage_number numbered_among stage_of is_asked
 computes = tt

@@ -44,7 +44,7 @@ is_asked s (Some t) = eqb (stage_number s) (stage_number t)
 abbrev pub operation : Option Stage → List ℕ → ℕ → Outcome (List ℕ)
 operation None = sewn ordinary
 operation (Some Read) = read_stage
-operation (Some Pair) = pair_stage
+operation (Some Pair) = pair_stage ordinary
 operation (Some Merge) = merge_stage ordinary
 operation (Some VertexLoops) = vertex_loop_stage ordinary
 operation (Some Walk) = walk_stage ordinary

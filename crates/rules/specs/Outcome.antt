@@ -2,7 +2,8 @@
 use Rattle.std.specs.Prelude.{ℕ, List, [], ◌∷◌, Bool, true, false, ◌&&◌, eqb, Result}
 use Rattle.rules.specs.declared.Fault.{Fault}
 use Rattle.rules.specs.declared.Fault.TheVariants.{TooLong, CutShort, Misplaced, FieldNotPermitted, LimitPassed, LoopJoints, AnsweredTwice, EqualSenses, OddUses, SamePredecessor, NoTwin, Unanswered}
-use Rattle.rules.specs.declared.Fault.TheVariants.{AnswerUndecided, NormalsVanish, NotRound, PairsInBoundary, FansInBoundary, FansInLump, PairsInLump, NoOuterShell, NoRoom, SelectedTwice, WrongTable}
+use Rattle.rules.specs.declared.Fault.TheVariants.{AnswerUndecided, NormalsVanish, NotRound, PairsInBoundary, FansInBoundary, FansInLump, PairsInLump, NoOuterShell}
+use Rattle.rules.specs.declared.Fault.TheVariants.{NoRoom, ManyUses, ManyFans, SelectedTwice, WrongTable}
 use Rattle.rules.specs.declared.Refusal.{Refusal}
 pub use Rattle.std.specs.Prelude.{Ok, Err}
 
@@ -36,6 +37,8 @@ fault_number FansInLump = 32
 fault_number PairsInLump = 33
 fault_number NoOuterShell = 34
 fault_number NoRoom = 40
+fault_number ManyUses = 41
+fault_number ManyFans = 42
 fault_number SelectedTwice = 45
 fault_number WrongTable = 48
 

@@ -1,13 +1,15 @@
--- Pairing: the twin of every use. Refusals 10, 11, 12, 13, 23.
+-- Pairing: the twin of every use. Refusals 10, 11, 12, 13, 23; of document 02's request Two 41.
 use Rattle.std.specs.Prelude.{ℕ, ◌%◌, List, [], ◌∷◌, Bool, ◌&&◌, not, cond, length, get_or, set, replicate, eqb}
 use Rattle.lists.specs.Lists.{below, has, all, positions, index_of}
 use Rattle.rules.specs.declared.Use.{Use}
+use Rattle.rules.specs.declared.Profile.{Profile}
+use Rattle.rules.specs.declared.Profile.TheVariants.{AnyContact, PrintShop}
 use Rattle.rules.specs.Outcome.{Outcome, Ok, refuse, ◌>>=◌, need, throughout}
 use Rattle.rules.specs.Sense.{same_sense, is_same}
 use Rattle.rules.specs.Job.{unset, Answer}
 use Rattle.rules.specs.Questions.{ask_radial}
 use Rattle.rules.specs.Read.{use_at}
-use Rattle.rules.specs.declared.Fault.TheVariants.{EqualSenses, OddUses, SamePredecessor, NoTwin, NotRound}
+use Rattle.rules.specs.declared.Fault.TheVariants.{EqualSenses, OddUses, SamePredecessor, NoTwin, NotRound, ManyUses}
 
 -- a use is of edge e
 abbrev pub on_edge : ℕ → Use → Bool
@@ -59,24 +61,29 @@ unfoldable pub pair_round : List Answer → List Use → ℕ → List ℕ → Li
 pair_round answers us e uses ts = ask_radial answers e >>= λ order.
     need (each_once uses order) NotRound e (take_predecessors us e (last_of 0 order) order ts)
 
--- Pairing, by the number of uses of the edge: none, one (11), two, an odd number (11), four or more
-unfoldable pub pair_uses : List Answer → List Use → ℕ → List ℕ → List ℕ → Outcome (List ℕ)
-pair_uses answers us e [] ts = Ok ts
-pair_uses answers us e (a ∷ []) ts = refuse OddUses e
-pair_uses answers us e (a ∷ b ∷ []) ts = pair_two us e a b ts
-pair_uses answers us e (a ∷ b ∷ c ∷ more) ts =
+-- an even number of uses, four or more; Two, 41: in the print-shop profile an edge with more than two uses is refused
+abbrev pub pair_even : Profile → List Answer → List Use → ℕ → List ℕ → List ℕ → Outcome (List ℕ)
+pair_even AnyContact answers us e uses ts = pair_round answers us e uses ts
+pair_even PrintShop answers us e uses ts = refuse ManyUses e
+
+-- Pairing, by the number of uses of the edge: none, one (11), two, an odd number (11), four or more; Two: 41 is tested right after 11 for that edge
+unfoldable pub pair_uses : Profile → List Answer → List Use → ℕ → List ℕ → List ℕ → Outcome (List ℕ)
+pair_uses profile answers us e [] ts = Ok ts
+pair_uses profile answers us e (a ∷ []) ts = refuse OddUses e
+pair_uses profile answers us e (a ∷ b ∷ []) ts = pair_two us e a b ts
+pair_uses profile answers us e (a ∷ b ∷ c ∷ more) ts =
     let uses = a ∷ b ∷ c ∷ more in
-    let round = pair_round answers us e uses ts in
-    need (eqb (length uses % 2) 0) OddUses e round
+    let even = pair_even profile answers us e uses ts in
+    need (eqb (length uses % 2) 0) OddUses e even
 
 -- Pairing: one edge
-abbrev pub pair_edge : List Answer → List Use → ℕ → List ℕ → Outcome (List ℕ)
-pair_edge answers us e ts = pair_uses answers us e (uses_of_edge us e) ts
+abbrev pub pair_edge : Profile → List Answer → List Use → ℕ → List ℕ → Outcome (List ℕ)
+pair_edge profile answers us e ts = pair_uses profile answers us e (uses_of_edge us e) ts
 
 -- Endings, 13: after all edges, the lowest use without twin
 unfoldable pub complete : List ℕ → Outcome (List ℕ)
 complete ts = need (not (has unset ts)) NoTwin (index_of unset ts) (Ok ts)
 
 -- Pairing: edges ascending, all twins unset at first
-unfoldable pub pair : List Answer → List Use → ℕ → Outcome (List ℕ)
-pair answers us edges = throughout (pair_edge answers us) (below edges) (replicate (length us) unset) >>= complete
+unfoldable pub pair : Profile → List Answer → List Use → ℕ → Outcome (List ℕ)
+pair profile answers us edges = throughout (pair_edge profile answers us) (below edges) (replicate (length us) unset) >>= complete

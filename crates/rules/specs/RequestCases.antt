@@ -287,7 +287,7 @@ joins_right = refl
 -- face joins and groups when so many uses of the three in a round have asked: the third question, of use 3, changes nothing
 unfoldable pub joins_so_far : ℕ → Outcome (List ℕ)
 joins_so_far k = loaded (framed_all three_in_a_round.job) >>= λ j.
-    pair j.answers (uses_of j) (length j.edges) >>= λ ts.
+    pair ordinary.profile j.answers (uses_of j) (length j.edges) >>= λ ts.
     throughout (merge_step full_table j.answers j.faces (uses_of j) ts) (below k) (ungrouped (length j.faces)) >>= λ g.
     Ok (g.joins ∷ g.groups)
 

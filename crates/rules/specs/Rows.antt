@@ -30,12 +30,12 @@ read_rows rules j = Ok (map use_fields (uses_of j))
 
 -- `pair`: use, ascending
 unfoldable pub pair_rows : Rules → Job → Outcome (List (List ℕ))
-pair_rows rules j = pair j.answers (uses_of j) (length j.edges) >>= λ ts. Ok (map (λ t. t ∷ []) ts)
+pair_rows rules j = pair rules.profile j.answers (uses_of j) (length j.edges) >>= λ ts. Ok (map (λ t. t ∷ []) ts)
 
 -- `merge`: selected face, ascending
 unfoldable pub merge_rows : Rules → Job → Outcome (List (List ℕ))
 merge_rows rules j =
-    pair j.answers (uses_of j) (length j.edges) >>= λ ts.
+    pair rules.profile j.answers (uses_of j) (length j.edges) >>= λ ts.
     merge_faces rules.table j.answers j.faces (uses_of j) ts >>= λ m.
     Ok (map (group_fields m) (below (length j.faces)))
 

@@ -1,6 +1,8 @@
--- What a caller may set: document 01's own rules are `ordinary`. The joining table of document 02's request Eleven, and refusal 48.
+-- What a caller may set: document 01's own rules are `ordinary`. Of document 02 the joining table of request Eleven, with refusal 48, and the
+-- profile of request Two.
 use Rattle.std.specs.Prelude.{ℕ, List, Bool, true, false, ◌&&◌, ◌||◌, length, get_or, eqb}
 use Rattle.rules.specs.declared.Table.{Table}
+use Rattle.rules.specs.declared.Profile.TheVariants.{AnyContact, PrintShop}
 use Rattle.rules.specs.declared.Rules.{Rules}
 use Rattle.rules.specs.declared.Fault.TheVariants.{WrongTable}
 use Rattle.rules.specs.Outcome.{Outcome, Ok, need}
@@ -16,11 +18,15 @@ full_table = record {
 
 -- document 01's rules, but for the table
 abbrev pub with_table : Table → Rules
-with_table t = record { table = t }
+with_table t = record { table = t; profile = AnyContact }
 
--- the rules of document 01; Eleven: all but the two operations that take a table keep these
+-- the rules of document 01: all keep these but the operations with a table (Eleven) and sewing for a print shop (Two)
 abbrev pub ordinary : Rules
 ordinary = with_table full_table
+
+-- Two: document 01's rules, but that boundaries must have two uses at each edge and one fan at each point
+abbrev pub print_shop : Rules
+print_shop = record { table = full_table; profile = PrintShop }
 
 -- THE JOINING TABLE AS BYTES
 

@@ -16,7 +16,7 @@ use Rattle.rules.specs.Merge.{Merged, merge_faces, merged_faces}
 use Rattle.rules.specs.VertexLoops.{vertex_loops}
 use Rattle.rules.specs.Walk.{successors, passed_counts, Circuit, circuits, loops_of}
 use Rattle.rules.specs.Fans.{fans, fan_names, start_points}
-use Rattle.rules.specs.Contact.{edges_clear, points_clear}
+use Rattle.rules.specs.Contact.{edges_clear, points_clear, one_fan_each}
 use Rattle.rules.specs.Edges.{edges_of, face_loops}
 use Rattle.rules.specs.Join.{Joining, maximal_edges}
 use Rattle.rules.specs.Shells.{Shell, all_shell_faces, shells, Nested, nested, lumps, lump_labels}
@@ -53,7 +53,7 @@ walks_of us ts m ks =
 unfoldable pub walked : Rules → Job → Outcome Walked
 walked rules j =
     let us = uses_of j in
-    pair j.answers us (length j.edges) >>= λ ts.
+    pair rules.profile j.answers us (length j.edges) >>= λ ts.
     merge_faces rules.table j.answers j.faces us ts >>= λ m.
     vertex_loops j.answers j.points (merged_faces m) j.loops >>= λ ks.
     Ok (walks_of us ts m ks)
@@ -100,9 +100,10 @@ pub record Joined : Type 0 where
   pub fan : Fanned
   pub joining : Joining
 
--- The stages: contact test 31, then edges
+-- The stages: contact test 31, then edges. Two: before it 42, right after 30
 unfoldable pub edged : Rules → Job → Outcome Joined
 edged rules j = fanned rules j >>= λ f.
+    one_fan_each rules.profile f.starts f.names >>= λ _.
     points_clear FansInBoundary f.walk.uses f.starts f.walk.merge.boundaries f.names >>= λ _.
     Ok (record { fan = f; joining = unjoined j f })
 

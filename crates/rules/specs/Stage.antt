@@ -92,12 +92,12 @@ stage_bytes room fs = fitting room (field_bytes fs)
 unfoldable pub read_stage : List ℕ → ℕ → Outcome (List ℕ)
 read_stage job room = loaded job >>= λ j. stage_bytes room (flat_map use_fields (uses_of j))
 
-unfoldable pub pair_stage : List ℕ → ℕ → Outcome (List ℕ)
-pair_stage job room = loaded job >>= λ j. pair j.answers (uses_of j) (length j.edges) >>= stage_bytes room
+unfoldable pub pair_stage : Rules → List ℕ → ℕ → Outcome (List ℕ)
+pair_stage rules job room = loaded job >>= λ j. pair rules.profile j.answers (uses_of j) (length j.edges) >>= stage_bytes room
 
 unfoldable pub merge_stage : Rules → List ℕ → ℕ → Outcome (List ℕ)
 merge_stage rules job room = loaded job >>= λ j.
-    pair j.answers (uses_of j) (length j.edges) >>= λ ts.
+    pair rules.profile j.answers (uses_of j) (length j.edges) >>= λ ts.
     merge_faces rules.table j.answers j.faces (uses_of j) ts >>= λ m.
     stage_bytes room (flat_map (group_fields m) (below (length j.faces)))
 

@@ -9,7 +9,7 @@ ghost use Rattle.rules.specs.Operation.{stage_number, stage_of, is_asked};
 ghost use Rattle.rules.specs.Kinds.{number_of};
 ghost use Rattle.rules.specs.Job.{ring, start_by, end_by};
 ghost use Rattle.rules.specs.Read.{stored_sense};
-ghost use Rattle.rules.specs.Rules.{with_table, ordinary};
+ghost use Rattle.rules.specs.Rules.{with_table, ordinary, print_shop};
 
 use std::ops::Mul;
 
@@ -229,10 +229,19 @@ pub const FULL_TABLE: Table = Table {
     },
 };
 
+// Which contacts a boundary may have: those that document 01 permits, or none. A print shop wants two uses at each edge and
+// one fan at each point.
+#[derive(Clone, Copy, PartialEq, Eq)]
+pub enum Profile {
+    AnyContact,
+    PrintShop,
+}
+
 // What a caller may set. It goes from the entry on as one value.
 #[derive(Clone, Copy)]
 pub struct Rules {
     pub table: Table,
+    pub profile: Profile,
 }
 
 impl Rules {
@@ -240,7 +249,10 @@ impl Rules {
     pub fn with_table(table: Table) -> Rules
         ensures { result ≡ with_table table }
     {
-        Rules { table }
+        Rules {
+            table,
+            profile: Profile::AnyContact,
+        }
     }
 
     // The rules of document 01.
@@ -248,6 +260,16 @@ impl Rules {
         ensures { result ≡ ordinary }
     {
         Rules::with_table(FULL_TABLE)
+    }
+
+    // Document 01's rules, and 41 and 42 besides.
+    pub fn print_shop() -> Rules
+        ensures { result ≡ print_shop }
+    {
+        Rules {
+            table: FULL_TABLE,
+            profile: Profile::PrintShop,
+        }
     }
 }
 
@@ -462,6 +484,8 @@ pub enum Fault {
     PairsInLump = 33,
     NoOuterShell = 34,
     NoRoom = 40,
+    ManyUses = 41,
+    ManyFans = 42,
     SelectedTwice = 45,
     WrongTable = 48,
 }

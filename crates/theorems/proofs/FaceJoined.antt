@@ -133,7 +133,7 @@ module _ (rules : Rules) (job : List ℕ) (j : Job) (l : loaded job ≡ Ok j) wh
   each ts p h few s s' b e =
       let S : Sound j = loaded_sound job j l in
       let us : List Use = uses_of j in
-      let T : Twins us ts = pairs_fully j.answers us ts (length j.edges) (omega (arith, S.few)) p in
+      let T : Twins us ts = pairs_fully rules.profile j.answers us ts (length j.edges) (omega (arith, S.few)) p in
       step_tells rules.table j.answers j.faces us ts h s b (use_face_below j S) T.below few s' e
 
 -- a surface question makes a face join where it changes the face groups; faces selected less face joins equals faces written: for all rules and every job

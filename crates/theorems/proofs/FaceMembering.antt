@@ -112,7 +112,7 @@ module _ (rules : Rules) (job : List ℕ) (j : Job) (l : loaded job ≡ Ok j) wh
       let s : Settled rules j w = walked_settled rules j w e in
       let S : Sound j = loaded_sound job j l in
       let us : List Use = uses_of j in
-      let T : Twins us w.twins = pairs_fully j.answers us w.twins (length j.edges) (omega (arith, S.few)) s.pairs in (
+      let T : Twins us w.twins = pairs_fully rules.profile j.answers us w.twins (length j.edges) (omega (arith, S.few)) s.pairs in (
         merged_lowest rules.table j.answers j.faces us w.twins (merge_grouping w.merge)
             (merge_groups rules.table j.answers j.faces us w.twins w.merge s.surfaces) (use_face_below j S) T.below,
         merge_groups_length rules.table j.answers j.faces us w.twins w.merge s.surfaces,

@@ -37,7 +37,7 @@ pub walked_settled : (rules : Rules) (j : Job) (w : Walked) → walked rules j �
 unfolding walked walks_of
 walked_settled rules j w e =
     let us = uses_of j in
-    let a = bind_ok (pair j.answers us (length j.edges)) _ w e in
+    let a = bind_ok (pair rules.profile j.answers us (length j.edges)) _ w e in
     let b = bind_ok (merge_faces rules.table j.answers j.faces us a.0) _ w a.2 in
     let c = bind_ok (vertex_loops j.answers j.points (merged_faces b.0) j.loops) _ w b.2 in
     subst (Settled rules j) (ok_one c.2) (record { pairs = a.1; surfaces = b.1; vertices = c.1; walks = refl })
@@ -53,7 +53,7 @@ pub ground : (rules : Rules) (job : List ℕ) (j : Job) (w : Walked) → loaded 
 ground rules job j w l s =
     let us : List Use = uses_of j in
     let S : Sound j = loaded_sound job j l in
-    let T : Twins us w.twins = pairs_fully j.answers us w.twins (length j.edges) (omega (arith, S.few)) s.pairs in
+    let T : Twins us w.twins = pairs_fully rules.profile j.answers us w.twins (length j.edges) (omega (arith, S.few)) s.pairs in
     let L : Linked us w.twins w.merge.removed w.merge.groups =
     linked rules.table j.answers j.faces us w.twins w.merge s.surfaces T (next_below j) (next_one_to_one j) (next_face_lem j) in
     let e : us ≡ w.uses = settled_uses rules j w s in

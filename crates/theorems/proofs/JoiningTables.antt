@@ -213,7 +213,7 @@ merges_less t less job j ts l p s full e f i k hi hk =
     let us : List Use = uses_of j in
     let S : Sound j = loaded_sound job j l in
     let face = use_face_below j S in
-    let T : Twins us ts = pairs_fully j.answers us ts (length j.edges) (omega (arith, S.few)) p in
+    let T : Twins us ts = pairs_fully ordinary.profile j.answers us ts (length j.edges) (omega (arith, S.few)) p in
     merged_within t j.answers j.faces us ts s e face T.below (value_equivalence (label_of full.groups))
     (λ h lt u y.
     let q = bind_ok (ask j.answers 8 (h ∷ [])) _ true y in

@@ -38,3 +38,9 @@ pub mod FaceJoined
 pub mod FaceMembering
 pub mod Promised
 pub mod JoiningTables
+pub mod Unlabelled
+pub mod Refused
+pub mod PrintEndings
+pub mod PrintRefusals
+pub mod PrintOnly
+pub mod PrintShop

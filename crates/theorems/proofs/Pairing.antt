@@ -19,6 +19,8 @@ use Rattle.lists.specs.Members.{all_in, nodup_full, positions_in, positions_nodu
 use Rattle.rules.specs.declared.Sense.{Sense}
 use Rattle.rules.specs.declared.Sense.TheVariants.{Same, Reversed}
 use Rattle.rules.specs.declared.Use.{Use}
+use Rattle.rules.specs.declared.Profile.{Profile}
+use Rattle.rules.specs.declared.Profile.TheVariants.{AnyContact, PrintShop}
 use Rattle.rules.specs.Outcome.{Ok, need, throughout, Outcome}
 use Rattle.rules.proofs.OutcomeLaws.{refuse_ok, ok_one, bind_ok, need_ok, cond_ok}
 use Rattle.rules.specs.Sense.{same_sense, is_same}
@@ -26,7 +28,7 @@ use Rattle.rules.specs.Job.{unset, Answer}
 use Rattle.rules.specs.Questions.{ask_radial}
 use Rattle.rules.specs.Read.{use_at, no_use}
 use Rattle.rules.specs.Pair.{on_edge, uses_of_edge, twin_of, twinned, same_use, pair_two, each_once, take_predecessor}
-use Rattle.rules.specs.Pair.{take_predecessors, last_of, pair_round, pair_uses, pair_edge, complete, pair}
+use Rattle.rules.specs.Pair.{take_predecessors, last_of, pair_round, pair_even, pair_uses, pair_edge, complete, pair}
 use Rattle.theorems.specs.Linked.{Twins}
 use Rattle.rules.specs.declared.Fault.TheVariants.{SamePredecessor, NoTwin, EqualSenses, OddUses, NotRound}
 
@@ -189,7 +191,12 @@ module _ (us : List Use) where
 
     -- ONE EDGE
 
-    module _ (answers : List Answer) (ts ts' : List ℕ) (w : Halfway ts) where
+    -- where an even number is paired, it is paired round the edge
+    even_round : (profile : Profile) (answers : List Answer) (uses ts ts' : List ℕ) → pair_even profile answers us e uses ts ≡ Ok ts' → pair_round answers us e uses ts ≡ Ok ts'
+    even_round AnyContact answers uses ts ts' q = q
+    even_round PrintShop answers uses ts ts' q = absurd (refuse_ok q)
+
+    module _ (profile : Profile) (answers : List Answer) (ts ts' : List ℕ) (w : Halfway ts) where
       -- the radial order is the uses of the edge once each
       order_done : (uses order : List ℕ) → Nodup uses → ((x : ℕ) → x ∈ uses → (x < length us) × (edge x ≡ e) × (twin_of ts x ≡ unset)) → 1 ≤ length uses
           → each_once uses order ≡ true → take_predecessors us e (last_of 0 order) order ts ≡ Ok ts' → Done e ts ts'
@@ -213,7 +220,7 @@ module _ (us : List Use) where
             rest = λ x m. inl (of x m).2;
           }) q
 
-      uses_done : (uses : List ℕ) → Nodup uses → ((x : ℕ) → x ∈ uses → (x < length us) × (edge x ≡ e) × (twin_of ts x ≡ unset)) → pair_uses answers us e uses ts ≡ Ok ts' → Done e ts ts'
+      uses_done : (uses : List ℕ) → Nodup uses → ((x : ℕ) → x ∈ uses → (x < length us) × (edge x ≡ e) × (twin_of ts x ≡ unset)) → pair_uses profile answers us e uses ts ≡ Ok ts' → Done e ts ts'
       unfolding pair_uses pair_two pair_round
       uses_done [] nd inside q = nothing e ts ts' w q
       uses_done (a ∷ []) nd inside q = absurd (refuse_ok q)
@@ -225,33 +232,33 @@ module _ (us : List Use) where
           subst (Done e ts) (ok_one c.1) (pair_done ts a b x.0 y.0 (λ v. nd.0 (Memᴰ.head v)) w few e x.1 y.1 s x.2 y.2)
       uses_done (a ∷ b ∷ c ∷ more) nd inside q =
           let uses : List ℕ = a ∷ b ∷ c ∷ more in
-          let r = need_ok (eqb (length uses % 2) 0) OddUses e (pair_round answers us e uses ts) ts' q in
-          let o = bind_ok (ask_radial answers e) _ ts' r.1 in
+          let r = need_ok (eqb (length uses % 2) 0) OddUses e (pair_even profile answers us e uses ts) ts' q in
+          let o = bind_ok (ask_radial answers e) _ ts' (even_round profile answers uses ts ts' r.1) in
           let k = need_ok (each_once uses o.0) NotRound e (take_predecessors us e (last_of 0 o.0) o.0 ts) ts' o.2 in
           order_done uses o.0 nd inside (omega arith) k.0 k.1
 
   -- EVERY EDGE
 
-  edges_done : length us ≤ unset → (answers : List Answer) (l ts ts' : List ℕ) → Nodup l → Halfway ts → ((h : ℕ) → h < length us → edge h ∈ l → twin_of ts h ≡ unset)
-      → throughout (pair_edge answers us) l ts ≡ Ok ts' → Halfway ts'
+  edges_done : length us ≤ unset → (profile : Profile) (answers : List Answer) (l ts ts' : List ℕ) → Nodup l → Halfway ts → ((h : ℕ) → h < length us → edge h ∈ l → twin_of ts h ≡ unset)
+      → throughout (pair_edge profile answers us) l ts ≡ Ok ts' → Halfway ts'
   unfolding throughout
-  edges_done few answers [] ts ts' nd w fresh q = subst Halfway (ok_one q) w
-  edges_done few answers (e ∷ l) ts ts' nd w fresh q =
-      let r = bind_ok (pair_edge answers us e ts) (throughout (pair_edge answers us) l) ts' q in
-      let d : Done e ts r.0 = uses_done few e answers ts r.0 w (uses_of_edge us e) (positions_nodup (on_edge e) 0 us)
+  edges_done few profile answers [] ts ts' nd w fresh q = subst Halfway (ok_one q) w
+  edges_done few profile answers (e ∷ l) ts ts' nd w fresh q =
+      let r = bind_ok (pair_edge profile answers us e ts) (throughout (pair_edge profile answers us) l) ts' q in
+      let d : Done e ts r.0 = uses_done few e profile answers ts r.0 w (uses_of_edge us e) (positions_nodup (on_edge e) 0 us)
       (λ x m. let o = of_edge us e x m in (o.0, o.1, fresh x o.0 (Memᴰ.head o.1))) r.1 in
-      edges_done few answers l r.0 ts' nd.1 d.half
+      edges_done few profile answers l r.0 ts' nd.1 d.half
       (λ h lt m. d.others h lt (λ v. nd.0 (Memᴰ.cast (sym v) m)) ∙ fresh h lt (Memᴰ.tail m)) r.2
 
 -- Pairing that refuses nothing gives each use its twin.
-pub pairs_fully : (answers : List Answer) (us : List Use) (ts : List ℕ) (edges : ℕ) → length us ≤ unset → pair answers us edges ≡ Ok ts → Twins us ts
+pub pairs_fully : (profile : Profile) (answers : List Answer) (us : List Use) (ts : List ℕ) (edges : ℕ) → length us ≤ unset → pair profile answers us edges ≡ Ok ts → Twins us ts
 unfolding pair complete
-pairs_fully answers us ts edges few q =
+pairs_fully profile answers us ts edges few q =
     let start : List ℕ = replicate (length us) unset in
-    let r = bind_ok (throughout (pair_edge answers us) (below edges) start) complete ts q in
+    let r = bind_ok (throughout (pair_edge profile answers us) (below edges) start) complete ts q in
     let c = need_ok (not (has unset r.0)) NoTwin (index_of unset r.0) (Ok r.0) ts r.2 in
     let clear : (h : ℕ) → h < length us → twin_of start h ≡ unset = λ h lt. get_or-replicate (length us) h unset 0 lt in
-    let w : Halfway us r.0 = edges_done us few answers (below edges) start r.0 (below_nodup edges)
+    let w : Halfway us r.0 = edges_done us few profile answers (below edges) start r.0 (below_nodup edges)
     (record { size = length-replicate (length us) unset; each = λ h lt. inl (clear h lt) }) (λ h lt m. clear h lt) r.1 in
     let z = w.size in
     let found : (h : ℕ) → h < length us → HasTwin us r.0 h = λ h lt.

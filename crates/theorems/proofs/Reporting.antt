@@ -18,11 +18,12 @@ use Rattle.rules.specs.Job.{Job}
 use Rattle.rules.specs.Load.{loaded}
 use Rattle.rules.specs.Read.{uses_of}
 use Rattle.rules.specs.declared.Rules.{Rules}
-use Rattle.rules.specs.declared.Rules.{Rules}
+use Rattle.rules.specs.declared.Profile.{Profile}
+use Rattle.rules.specs.declared.Profile.TheVariants.{AnyContact, PrintShop}
 use Rattle.rules.specs.Merge.{is_removed}
 use Rattle.rules.specs.Walk.{passed_of, passed_counts}
 use Rattle.rules.specs.Fans.{names_fan}
-use Rattle.rules.specs.Contact.{edge_touches, contact_points, clear, edges_clear, points_clear}
+use Rattle.rules.specs.Contact.{edge_touches, contact_points, clear, edges_clear, points_clear, shared_points, one_fan_each}
 use Rattle.rules.specs.Join.{Joining, maximal_edges}
 use Rattle.rules.specs.Shells.{Shell, Nested, nested}
 use Rattle.rules.specs.Body.{Totals, Body, empty_body, solid_body, body_kind, totals_record, body_records}
@@ -125,7 +126,8 @@ unfolding edged
 edged_walks rules j x e =
     let a = bind_ok (fanned rules j) _ x e in
     let f : Fanned = a.0 in
-    let b = bind_ok (points_clear FansInBoundary f.walk.uses f.starts f.walk.merge.boundaries f.names) _ x a.2 in
+    let o = bind_ok (one_fan_each rules.profile f.starts f.names) _ x a.2 in
+    let b = bind_ok (points_clear FansInBoundary f.walk.uses f.starts f.walk.merge.boundaries f.names) _ x o.2 in
     let c = fanned_walks rules j f a.1 in
     (c.0, c.1, sym (ok_one b.2) ∙ ap (λ (z : Fanned). record { fan = z; joining = unjoined j z }) c.2)
 
@@ -177,6 +179,12 @@ unfolding edge_touches positions
 no_edge_touches fault us ts labels edges e =
     ap (λ u. edges_clear fault u ts labels edges) e ∙ ap (clear fault) (keep_nothing (edge_touches [] ts labels) (below edges) (λ x m. refl))
 
+-- without fans no point has more than one
+no_fan_shared : (profile : Profile) (starts : List ℕ) → one_fan_each profile starts [] ≡ Ok tt
+unfolding shared_points keep
+no_fan_shared AnyContact starts = refl
+no_fan_shared PrintShop starts = refl
+
 -- without uses joining finds nothing to do
 pub none_joined : (rules : Rules) (j : Job) (w : Walked) → length w.uses ≡ 0 → walked rules j ≡ Ok w
     → (through_joining rules j ≡ Ok (record { fan = fans_of j w; joining = unjoined j (fans_of j w) }))
@@ -192,7 +200,8 @@ none_joined rules j w e q =
     let f : fanned rules j ≡ Ok F = bind_on _ q ∙ bind_on _ c in
     let p : points_clear FansInBoundary F.walk.uses F.starts F.walk.merge.boundaries F.names ≡ Ok tt =
     ap (λ l. points_clear FansInBoundary F.walk.uses F.starts F.walk.merge.boundaries l) names in
-    let d : edged rules j ≡ Ok (record { fan = F; joining = unjoined j F }) = bind_on _ f ∙ bind_on _ p in
+    let o : one_fan_each rules.profile F.starts F.names ≡ Ok tt = ap (one_fan_each rules.profile F.starts) names ∙ no_fan_shared rules.profile F.starts in
+    let d : edged rules j ≡ Ok (record { fan = F; joining = unjoined j F }) = bind_on _ f ∙ bind_on _ o ∙ bind_on _ p in
     (bind_on _ d ∙ bind_on _ m, m)
 
 -- THE PASSED TOTAL

@@ -220,14 +220,14 @@ module _ (rules : Rules) (job : List ℕ) (bytes : Below 256 job) (j : Job) (l :
       (one_low v.next [] (omega (arith, next_below j r.0 r.1, sound.few)) none_low)))))))
 
   -- what pairing gives are twins
-  twins_of_lem : (ts : List ℕ) → pair j.answers (uses_of j) (length j.edges) ≡ Ok ts → Twins (uses_of j) ts
-  twins_of_lem ts e = pairs_fully j.answers (uses_of j) ts (length j.edges) (omega (arith, sound.few)) e
+  twins_of_lem : (ts : List ℕ) → pair rules.profile j.answers (uses_of j) (length j.edges) ≡ Ok ts → Twins (uses_of j) ts
+  twins_of_lem ts e = pairs_fully rules.profile j.answers (uses_of j) ts (length j.edges) (omega (arith, sound.few)) e
 
   -- `pair`: one field
   pub pair_shaped : (rows : List (List ℕ)) → pair_rows rules j ≡ Ok rows → AllShaped 1 0 rows
   unfolding pair_rows
   pair_shaped rows e =
-      let a = bind_ok (pair j.answers (uses_of j) (length j.edges)) _ rows e in
+      let a = bind_ok (pair rules.profile j.answers (uses_of j) (length j.edges)) _ rows e in
       let T : Twins (uses_of j) a.0 = twins_of_lem a.0 a.1 in
       subst (AllShaped 1 0) (ok_one a.2) (each_shaped (λ t. t ∷ []) 1 0 a.0 (λ x m.
       let r = in_get_or 0 m in
@@ -239,7 +239,7 @@ module _ (rules : Rules) (job : List ℕ) (bytes : Below 256 job) (j : Job) (l :
   unfolding merge_rows
   merge_shaped rows e =
       let us : List Use = uses_of j in
-      let a = bind_ok (pair j.answers us (length j.edges)) _ rows e in
+      let a = bind_ok (pair rules.profile j.answers us (length j.edges)) _ rows e in
       let ts : List ℕ = a.0 in
       let b = bind_ok (merge_faces rules.table j.answers j.faces us ts) _ rows a.2 in
       let m : Merged = b.0 in

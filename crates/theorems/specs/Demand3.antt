@@ -198,7 +198,7 @@ pub record Reports (j : Job) (w : Walked) (cs : List Change) (bytes : List ℕ) 
 
 -- the job pairs fully, its surface and vertex-loop questions are answered and decided, no normal vanishes; w is what the walk stage makes of it
 pub record Settled (rules : Rules) (j : Job) (w : Walked) : Type 0 where
-  pub pairs : pair j.answers (uses_of j) (length j.edges) ≡ Ok w.twins
+  pub pairs : pair rules.profile j.answers (uses_of j) (length j.edges) ≡ Ok w.twins
   pub surfaces : merge_faces rules.table j.answers j.faces (uses_of j) w.twins ≡ Ok w.merge
   pub vertices : vertex_loops j.answers j.points (merged_faces w.merge) j.loops ≡ Ok w.vertex_loops
   pub walks : w ≡ walks_of (uses_of j) w.twins w.merge w.vertex_loops

@@ -23,7 +23,7 @@ before rules j ts h = throughout (merge_step rules.table j.answers j.faces (uses
 -- and makes one face join more
 abbrev pub EachQuestion : Rules → Job → Type 0
 EachQuestion rules j =
-    (ts : List ℕ) → pair j.answers (uses_of j) (length j.edges) ≡ Ok ts
+    (ts : List ℕ) → pair rules.profile j.answers (uses_of j) (length j.edges) ≡ Ok ts
     → (h : ℕ) → h < length (uses_of j) → (s s' : Grouping) → before rules j ts h ≡ Ok s → merge_step rules.table j.answers j.faces (uses_of j) ts h s ≡ Ok s'
     → (s' ≡ s) ⊎ ((s'.groups ≡ s.groups → ⊥) × (s'.joins ≡ suc s.joins))
 

@@ -13,7 +13,7 @@ use Rattle.rules.specs.Load.{loaded}
 use Rattle.rules.specs.Read.{uses_of}
 use Rattle.rules.specs.Groups.{label_of, Grouping}
 use Rattle.rules.specs.Pair.{pair}
-use Rattle.rules.specs.Rules.{full_table, with_table, permitted, byte_at, table_of}
+use Rattle.rules.specs.Rules.{full_table, with_table, ordinary, permitted, byte_at, table_of}
 use Rattle.rules.specs.Merge.{joins_faces, merged_groups}
 use Rattle.rules.specs.Sew.{Walked}
 use Rattle.theorems.specs.Demand3.{Settled, WalksHold}
@@ -73,7 +73,7 @@ JoinsLess t = (equal : Bool) (v : SurfaceAnswer) → joins_faces t equal v ≡ O
 -- so any two faces of a job that are merged under it are merged under the full table
 abbrev pub MergesLess : Table → Type 0
 MergesLess t =
-    (job : List ℕ) (j : Job) (ts : List ℕ) → loaded job ≡ Ok j → pair j.answers (uses_of j) (length j.edges) ≡ Ok ts
+    (job : List ℕ) (j : Job) (ts : List ℕ) → loaded job ≡ Ok j → pair ordinary.profile j.answers (uses_of j) (length j.edges) ≡ Ok ts
     → (s full : Grouping) → merged_groups t j.answers j.faces (uses_of j) ts ≡ Ok s → merged_groups full_table j.answers j.faces (uses_of j) ts ≡ Ok full
     → (i k : ℕ) → i < length j.faces → k < length j.faces → label_of s.groups i ≡ label_of s.groups k → label_of full.groups i ≡ label_of full.groups k
 

@@ -28,3 +28,4 @@ pub mod FaceJoins
 pub mod FaceMembers
 pub mod Promises
 pub mod JoiningTables
+pub mod PrintShop
