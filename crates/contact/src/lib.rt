@@ -1,5 +1,6 @@
 // Contact tests, for any labelling of the selected faces: by boundary, whose faults are `PairsInBoundary` and
-// `FansInBoundary`, and by lump, whose faults are `PairsInLump` and `FansInLump`.
+// `FansInBoundary`; by lump, whose faults are `PairsInLump` and `FansInLump`; and of fans with no labels at all, whose fault
+// is `ManyFans`.
 
 #![tactic(auto)]
 

@@ -10,7 +10,6 @@ use Rattle.rules.proofs.OutcomeLaws.{ok_one, bind_ok}
 use Rattle.rules.specs.Frame.{Record, framed, framed_all}
 use Rattle.rules.specs.Load.{loaded}
 use Rattle.rules.specs.declared.Rules.{Rules}
-use Rattle.rules.specs.Rules.{ordinary}
 use Rattle.rules.specs.Body.{Body, body_records}
 use Rattle.rules.specs.Sew.{rebuild, fitting, sewn, Ends}
 use Rattle.rules.specs.Listing.{listing_of, sewn_records, listing}
@@ -54,21 +53,21 @@ pub recorded_listing : (rules : Rules) (job before after : List ℕ) (e : Outcom
 recorded_listing rules job before after e bytes h E = room_listing rules job before after e (all_fit rules job (length before) bytes h) E
 
 -- what sewing a job makes of an output
-abbrev pub SewnInto : List ℕ → List ℕ → List ℕ → Type 0
-SewnInto job before after = (e : Outcome ℕ) × Ends (sewn ordinary job (length before)) before after e
+abbrev pub SewnInto : Rules → List ℕ → List ℕ → List ℕ → Type 0
+SewnInto rules job before after = (e : Outcome ℕ) × Ends (sewn rules job (length before)) before after e
 
-pub sews : (job before after : List ℕ) (e : Outcome ℕ) → Ends (sewn ordinary job (length before)) before after e → SewnInto job before after
-sews job before after e E = (e, E)
+pub sews : (rules : Rules) (job before after : List ℕ) (e : Outcome ℕ) → Ends (sewn rules job (length before)) before after e → SewnInto rules job before after
+sews rules job before after e E = (e, E)
 
 -- a page on which a job's listing was put: the place after the text, which is at most 196,608, and the whole text where the page has room
-abbrev pub Lists : List ℕ → List ℕ → List ℕ → ℕ → Type 0
-Lists job page printed r = Printed (listing ordinary job) page printed 196608 r
+abbrev pub Lists : Rules → List ℕ → List ℕ → List ℕ → ℕ → Type 0
+Lists rules job page printed r = Printed (listing rules job) page printed 196608 r
 
 -- the text of sewing's answer is put as the job's listing
-pub lists : (job before after page printed : List ℕ) (q : ℕ) (e : Outcome ℕ) → Below 256 job → length before ≡ 65536
-    → Ends (sewn ordinary job (length before)) before after e → Wrote page 0 (listing_of (recorded after e)) printed q → Lists job page printed q
-lists job before after page printed q e bytes n E w =
-    let fit = all_fit ordinary job 65536 bytes (omega arith) in
-    prints (listing ordinary job) page printed 196608 q
-    (wrote_as page printed (listing_of (recorded after e)) (listing ordinary job) 0 q (listing_is ordinary job before after e fit n E) w)
-    (listed_small (sewn_records ordinary job 65536) fit (sewn_within ordinary job 65536))
+pub lists : (rules : Rules) (job before after page printed : List ℕ) (q : ℕ) (e : Outcome ℕ) → Below 256 job → length before ≡ 65536
+    → Ends (sewn rules job (length before)) before after e → Wrote page 0 (listing_of (recorded after e)) printed q → Lists rules job page printed q
+lists rules job before after page printed q e bytes n E w =
+    let fit = all_fit rules job 65536 bytes (omega arith) in
+    prints (listing rules job) page printed 196608 q
+    (wrote_as page printed (listing_of (recorded after e)) (listing rules job) 0 q (listing_is rules job before after e fit n E) w)
+    (listed_small (sewn_records rules job 65536) fit (sewn_within rules job 65536))

@@ -96,18 +96,18 @@ module _ (rules : Rules) (job : List ℕ) (room : ℕ) where
   unfolding read_stage read_rows
   read_bytes = staged_bytes read_stage read_rows rules job room (bind_same (loaded job) _ _ (λ j. each_fits room use_fields (uses_of j)))
 
-  pub pair_bytes : pair_stage job room ≡ row_bytes (staged_rows pair_rows rules job room)
+  pub pair_bytes : pair_stage rules job room ≡ row_bytes (staged_rows pair_rows rules job room)
   unfolding pair_stage pair_rows
   pair_bytes =
-      staged_bytes pair_stage pair_rows rules job room (bind_same (loaded job) _ _ (λ j.
-      bind_then (pair j.answers (uses_of j) (length j.edges)) _ _ (stage_bytes room)
+      staged_bytes (pair_stage rules) pair_rows rules job room (bind_same (loaded job) _ _ (λ j.
+      bind_then (pair rules.profile j.answers (uses_of j) (length j.edges)) _ _ (stage_bytes room)
       (λ ts. ap (stage_bytes room) (sym (flat_map_single ts)) ∙ each_fits room (λ t. t ∷ []) ts)))
 
   pub merge_bytes : merge_stage rules job room ≡ row_bytes (staged_rows merge_rows rules job room)
   unfolding merge_stage merge_rows
   merge_bytes =
       staged_bytes (merge_stage rules) merge_rows rules job room (bind_same (loaded job) _ _ (λ j.
-      bind_then (pair j.answers (uses_of j) (length j.edges)) _ _ _ (λ ts.
+      bind_then (pair rules.profile j.answers (uses_of j) (length j.edges)) _ _ _ (λ ts.
       bind_then (merge_faces rules.table j.answers j.faces (uses_of j) ts) _ _ _ (λ m.
       each_fits room (group_fields m) (below (length j.faces))))))
 

@@ -1,5 +1,5 @@
 // Sews the job of the file that its last word names, or of standard input, and prints a line for each record of the body, or
-// the refusal. The words before may set a joining table.
+// the refusal. The words before may set a joining table, or the print-shop profile.
 
 #![tactic(auto)]
 
@@ -17,6 +17,7 @@ fn print_listing(rt: &(impl Print + Eprint), program: Program<'_>, asked: Asked<
     let mut page = [0u8; PAGE];
     let length = match asked {
         Asked::Table(table) => listed::list_with_table(table, job, &mut out, &mut page),
+        Asked::PrintShop => listed::list_for_print(job, &mut out, &mut page),
         Asked::Ordinary => listed::list(job, &mut out, &mut page),
     };
     program.print(rt, lines::front(&page, length));
@@ -25,7 +26,9 @@ fn print_listing(rt: &(impl Print + Eprint), program: Program<'_>, asked: Asked<
 fn main(rt: HostRuntime) {
     let program = Program {
         name: "listing",
-        usage: "listing [table ENTRIES] [FILE]: lists the body of a job; ENTRIES is a joining table such as 1001; without FILE the job is read from standard input",
+        usage: "listing [table ENTRIES | print-shop] [FILE]: lists the body of a job; ENTRIES is a joining table such as 1001; \
+            print-shop refuses edges with more than two uses and points with more than one fan; without FILE the job is read \
+            from standard input",
     };
     let mut entries = [0u8; ENTRIES];
     let Some(asked) = words_at(&rt, 1, &mut entries) else {

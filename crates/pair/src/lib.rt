@@ -2,17 +2,17 @@
 
 #![tactic(auto)]
 
-ghost use Rattle.std.specs.Prelude.{◌≡◌, ◌+◌, ◌*◌, ◌%◌, ◌<◌, ◌≤◌, eqb, length, drop, take, replicate, position, IfOk};
+ghost use Rattle.std.specs.Prelude.{◌≡◌, ◌%◌, ◌<◌, ◌≤◌, eqb, length, take, replicate, position, IfOk};
 ghost use Rattle.lists.specs.Lists.{has, all};
 ghost use Rattle.rules.specs.Job.{unset};
 ghost use Rattle.rules.specs.Outcome.{◌>>=◌ as ◌and_then◌, need};
 ghost use Rattle.rules.specs.declared.Fault.TheVariants.{OddUses};
-ghost use Rattle.rules.specs.Pair.{uses_of_edge, twinned, same_use, pair_two, take_predecessor, take_predecessors, last_of, pair_round, pair_edge, pair as pair_all};
+ghost use Rattle.rules.specs.Pair.{uses_of_edge, twinned, pair_two, take_predecessor, take_predecessors, last_of, pair_round, pair_even, pair_edge, pair as pair_all};
 
 use edge_uses::EdgeUses;
 use fields::put_entry;
 use loaded::{Loaded, Order};
-use rules::{Fault, MOST_EDGES, Refusal, Sense, UNSET, Use};
+use rules::{Fault, MOST_EDGES, Profile, Refusal, Sense, UNSET, Use};
 use uses::use_at;
 
 // a and b become twins.
@@ -90,28 +90,27 @@ fn take_predecessors(
     Ok(())
 }
 
-// What is paired: the uses on the chains of their edges, and the job, which has the orders round its edges.
+// What is paired: the uses on the chains of their edges, one for each edge of the job, and the job, which has the orders
+// round its edges; and whether an edge may have more than two uses.
 #[derive(Drop)]
 struct Pairing<'a> {
     job: &'a Loaded<'a>,
     linked: &'a EdgeUses<'a>,
-    ghost edges: { linked.now.edges ≡ length job.now.edges },
+    profile: Profile,
+    ghost chained: { linked.now.edges ≡ length job.now.edges },
 }
 
-// Neither no use nor two: an odd number is refused; four or more are paired in the order round the edge, which must have
-// each of them once.
+// Four or more uses, `n`, in the order round the edge, which must have each of them once.
 #[tactic(auto, unfolding(rules::specs::Pair::pair_round, rules::specs::Pair::each_once, rules::specs::Outcome::need))]
-fn pair_more(pairing: &Pairing<'_>, twins: &mut [u32], e: usize) -> Result<(), Refusal>
-    requires { (e < pairing.now.linked.now.edges) × (0 < length (uses_of_edge pairing.now.linked.now.uses e)) }
-    ensures { let hs = uses_of_edge pairing.now.linked.now.uses e in
-        (result and_then λ _. Ok twins.new) ≡ need (eqb (length hs % 2) 0) OddUses e (pair_round pairing.now.job.now.answers pairing.now.linked.now.uses e hs twins.old) }
+fn pair_round(pairing: &Pairing<'_>, twins: &mut [u32], e: usize, n: usize) -> Result<(), Refusal>
+    requires edge { e < pairing.now.linked.now.edges }
+    requires uses { n ≡ length (uses_of_edge pairing.now.linked.now.uses e) }
+    requires some { 0 < n }
+    ensures { let us = pairing.now.linked.now.uses in
+        (result and_then λ _. Ok twins.new) ≡ pair_round pairing.now.job.now.answers us e (uses_of_edge us e) twins.old }
 {
     // So an edge's number is one of 32 bits, in which its order is asked for.
     prove!(pairing.job.edges() <= MOST_EDGES);
-    let n = pairing.linked.count(e);
-    if n % 2 == 1 {
-        return Err(Fault::OddUses.at(e));
-    }
     let order = pairing.job.radial(e)?;
     if order.len() != n || !has_all(&order, pairing.linked, e) {
         return Err(Fault::NotRound.at(e));
@@ -119,11 +118,29 @@ fn pair_more(pairing: &Pairing<'_>, twins: &mut [u32], e: usize) -> Result<(), R
     take_predecessors(&order, pairing.linked.uses(), twins, e)
 }
 
+// Neither no use nor two: an odd number is refused, and any other for a print shop.
+#[tactic(auto, unfolding(rules::specs::Outcome::need))]
+fn pair_more(pairing: &Pairing<'_>, twins: &mut [u32], e: usize) -> Result<(), Refusal>
+    requires { (e < pairing.now.linked.now.edges) × (0 < length (uses_of_edge pairing.now.linked.now.uses e)) }
+    ensures { let hs = uses_of_edge pairing.now.linked.now.uses e in
+        (result and_then λ _. Ok twins.new) ≡ need (eqb (length hs % 2) 0) OddUses e
+        (pair_even pairing.now.profile pairing.now.job.now.answers pairing.now.linked.now.uses e hs twins.old) }
+{
+    let n = pairing.linked.count(e);
+    if n % 2 == 1 {
+        return Err(Fault::OddUses.at(e));
+    }
+    match pairing.profile {
+        Profile::AnyContact => pair_round(pairing, twins, e, n),
+        Profile::PrintShop => Err(Fault::ManyUses.at(e)),
+    }
+}
+
 // One edge, by its uses, of which the chain has the last first.
 #[tactic(auto, using(crate::specs::EdgeLaws::by_count))]
 fn pair_edge(pairing: &Pairing<'_>, twins: &mut [u32], e: usize) -> Result<(), Refusal>
     requires { e < pairing.now.linked.now.edges }
-    ensures { (result and_then λ _. Ok twins.new) ≡ pair_edge pairing.now.job.now.answers pairing.now.linked.now.uses e twins.old }
+    ensures { (result and_then λ _. Ok twins.new) ≡ pair_edge pairing.now.profile pairing.now.job.now.answers pairing.now.linked.now.uses e twins.old }
 {
     let mut on = pairing.linked.of(e);
     match (on.next(), on.next(), on.next()) {
@@ -144,7 +161,7 @@ fn lone(twins: &[u32]) -> Option<usize>
 #[tactic(auto, using(lists::specs::Runs::left_at, lists::specs::Runs::left_none, crate::specs::Complete::complete_is), unfolding(rules::specs::Outcome::throughout, rules::specs::Pair::pair))]
 fn pair_edges(pairing: &Pairing<'_>, twins: &mut [u32]) -> Result<(), Refusal>
     requires { twins.old ≡ replicate (length pairing.now.linked.now.uses) unset }
-    ensures { (result and_then λ _. Ok twins.new) ≡ pair_all pairing.now.job.now.answers pairing.now.linked.now.uses (length pairing.now.job.now.edges) }
+    ensures { (result and_then λ _. Ok twins.new) ≡ pair_all pairing.now.profile pairing.now.job.now.answers pairing.now.linked.now.uses (length pairing.now.job.now.edges) }
 {
     // by number: an edge is its number, and has no record to go along
     for e in 0..pairing.job.edges() {
@@ -158,13 +175,21 @@ fn pair_edges(pairing: &Pairing<'_>, twins: &mut [u32]) -> Result<(), Refusal>
 
 // The twins of a job's uses, at the start of a table of N entries, all unset at first. A part of few uses takes a small
 // table, which is cleared and handed on sooner.
-pub fn pair<const N: usize>(job: &Loaded<'_>, linked: &EdgeUses<'_>) -> Result<[u32; N], Refusal>
+pub fn pair<const N: usize>(
+    job: &Loaded<'_>,
+    linked: &EdgeUses<'_>,
+    profile: Profile,
+) -> Result<[u32; N], Refusal>
     requires { (length linked.now.uses ≤ N) × (linked.now.edges ≡ length job.now.edges) }
-    ensures { ((result and_then λ twins. Ok (take (length linked.now.uses) twins)) ≡ pair_all job.now.answers linked.now.uses (length job.now.edges))
+    ensures { ((result and_then λ twins. Ok (take (length linked.now.uses) twins)) ≡ pair_all profile job.now.answers linked.now.uses (length job.now.edges))
         × IfOk result (λ twins. length twins ≡ N) }
 {
     let mut twins = [UNSET; N];
-    let pairing = Pairing { job, linked };
+    let pairing = Pairing {
+        job,
+        linked,
+        profile,
+    };
     pair_edges(&pairing, &mut twins[..linked.uses().len()])?;
     Ok(twins)
 }

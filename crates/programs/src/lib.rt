@@ -19,6 +19,9 @@ use std::{fs, io};
 // No path is longer, its end counted.
 const PATH: usize = 4096;
 
+// The longest word that asks for rules, `print-shop`.
+const WORD: usize = 10;
+
 // A joining table has four entries; one more tells a longer word.
 pub const ENTRIES: usize = 5;
 
@@ -199,28 +202,41 @@ pub enum Asked<'a> {
     Ordinary,
     // `table ENTRIES`: the joining table of these bytes.
     Table(&'a [u8]),
+    // `print-shop`: for a print shop.
+    PrintShop,
 }
 
-impl Asked<'_> {
+impl<'a> Asked<'a> {
+    // The joining table that is asked for, if one is.
+    pub fn table(self) -> Option<&'a [u8]> {
+        match self {
+            Asked::Table(table) => Some(table),
+            Asked::PrintShop | Asked::Ordinary => None,
+        }
+    }
+
     // How many words they are.
     pub fn words(self) -> usize
         ensures { result ≤ 2 }
     {
         match self {
             Asked::Table(_) => 2,
+            Asked::PrintShop => 1,
             Asked::Ordinary => 0,
         }
     }
 }
 
-// What the words from word i on ask for; nothing where they stop short. The bytes of a table are put into the room.
+// What the words from word i on ask for; nothing where they stop short. The bytes of a table are put into the room. Where
+// there is no word, or a longer one, that is no word of these: it is the job's name, or there is none.
 pub fn words_at<'a>(rt: &impl Env, i: usize, room: &'a mut [u8; ENTRIES]) -> Option<Asked<'a>> {
-    let mut word = [0u8; 5];
+    let mut word = [0u8; WORD];
     let Ok(length) = rt.arg(i, &mut word) else {
         return Some(Asked::Ordinary);
     };
     match &word[..length] {
         b"table" => table_at(rt, i.saturating_add(1), room),
+        b"print-shop" => Some(Asked::PrintShop),
         _ => Some(Asked::Ordinary),
     }
 }

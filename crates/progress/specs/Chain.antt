@@ -17,7 +17,7 @@ use Rattle.rules.specs.Merge.{Merged, merge_faces, merged_faces}
 use Rattle.rules.specs.VertexLoops.{vertex_loops}
 use Rattle.rules.specs.Walk.{loops_of}
 use Rattle.rules.specs.Fans.{kept_with_ends}
-use Rattle.rules.specs.Contact.{edges_clear, points_clear}
+use Rattle.rules.specs.Contact.{edges_clear, points_clear, one_fan_each}
 use Rattle.rules.specs.Join.{maximal_edges}
 use Rattle.rules.specs.Shells.{Shell, Nested, nested, lumps}
 use Rattle.rules.specs.Body.{empty_body, body_records}
@@ -55,7 +55,10 @@ after_edges rules stage j room x =
 unfoldable pub after_fans : Rules → Option Stage → Job → ℕ → Fanned → Outcome (List ℕ)
 after_fans rules stage j room f =
     let w = f.walk in
-    let later = points_clear FansInBoundary w.uses f.starts w.merge.boundaries f.names >>= λ _. after_edges rules stage j room (record { fan = f; joining = unjoined j f }) in
+    let later =
+    one_fan_each rules.profile f.starts f.names >>= λ _.
+    points_clear FansInBoundary w.uses f.starts w.merge.boundaries f.names >>= λ _.
+    after_edges rules stage j room (record { fan = f; joining = unjoined j f }) in
     cond (is_asked Fans stage) (stage_bytes room (flat_map (fan_fields f) (keep (kept_with_ends j.edges w.uses w.merge.removed) (below (length w.uses))))) later
 
 unfoldable pub after_loops : Rules → Option Stage → Job → ℕ → Walked → Outcome (List ℕ)
@@ -85,7 +88,7 @@ after_pairing rules stage j us room ts =
     cond (is_asked Pair stage) (stage_bytes room ts) later
 
 unfoldable pub after_reading : Rules → Option Stage → Job → ℕ → List Use → Outcome (List ℕ)
-after_reading rules stage j room us = pair j.answers us (length j.edges) >>= after_pairing rules stage j us room
+after_reading rules stage j room us = pair rules.profile j.answers us (length j.edges) >>= after_pairing rules stage j us room
 
 -- the stage that is asked for, from a job's bytes on
 unfoldable pub staged : Rules → Option Stage → List ℕ → ℕ → Outcome (List ℕ)

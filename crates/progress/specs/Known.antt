@@ -16,14 +16,14 @@ use Rattle.loaded.specs.Opened.{Loads}
 use Rattle.merge_faces.specs.FaceTables.{FaceTables, TablesOf}
 
 -- its uses are read and paired
-pub record Paired (j : Job) (us : List Use) (ts : List ℕ) : Type 0 where
+pub record Paired (rules : Rules) (j : Job) (us : List Use) (ts : List ℕ) : Type 0 where
   pub loads : Loads j
   pub uses : us ≡ uses_of j
-  pub pairs : pair j.answers us (length j.edges) ≡ Ok ts
+  pub pairs : pair rules.profile j.answers us (length j.edges) ≡ Ok ts
 
 -- its faces are merged
 pub record Grouped (rules : Rules) (j : Job) (us : List Use) (ts : List ℕ) (m : FaceTables) : Type 0 where
-  pub paired : Paired j us ts
+  pub paired : Paired rules j us ts
   pub merges : merged_groups rules.table j.answers j.faces us ts ≡ Ok (record { groups = m.groups; joins = m.joins })
   pub tables : TablesOf us ts (length j.faces) m
 

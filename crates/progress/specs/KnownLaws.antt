@@ -43,17 +43,20 @@ module _ {j : Job} (l : Loads j) where
   pub loads_loops : length j.loops ≤ 1024
   loads_loops = let c = loaded_limits l.bytes j l.loads in omega (arith, c.1.loops, c.2.loops)
 
+  pub loads_edges : length j.edges ≤ 1024
+  loads_edges = let c = loaded_limits l.bytes j l.loads in omega (arith, c.1.edges, c.2.edges)
+
   loads_faces : length j.faces ≤ 256
   loads_faces = faces_few l.bytes j l.loads
 
 -- PAIRED
 
-module _ {j : Job} {us : List Use} {ts : List ℕ} (P : Paired j us ts) where
+module _ {rules : Rules} {j : Job} {us : List Use} {ts : List ℕ} (P : Paired rules j us ts) where
   pub paired_few : length us ≤ 2048
   paired_few = omega (arith, (loads_sound P.loads).few, ap length P.uses)
 
   pub paired_twins : Twins us ts
-  paired_twins = pairs_fully j.answers us ts (length j.edges) (omega (arith, paired_few)) P.pairs
+  paired_twins = pairs_fully rules.profile j.answers us ts (length j.edges) (omega (arith, paired_few)) P.pairs
 
   face_below : (h : ℕ) → h < length us → face_of_use us h < length j.faces
   face_below = subst (λ (u : List Use). (h : ℕ) → h < length u → face_of_use u h < length j.faces) (sym P.uses) (use_face_below j (loads_sound P.loads))
@@ -88,7 +91,7 @@ module _ {rules : Rules} {j : Job} {us : List Use} {ts : List ℕ} {m : FaceTabl
   settled_rules : SettledRules rules j (walked_in us ts m rm kept)
   unfolding walks_of
   settled_rules = record {
-    pairs = sym (ap (λ u. pair j.answers u (length j.edges)) G.paired.uses) ∙ G.paired.pairs;
+    pairs = sym (ap (λ u. pair rules.profile j.answers u (length j.edges)) G.paired.uses) ∙ G.paired.pairs;
     surfaces = sym (ap (λ u. merge_faces rules.table j.answers j.faces u ts) G.paired.uses) ∙ grouped_merges G rm S.removed;
     vertices = ap (λ n. vertex_loops j.answers j.points n j.loops) (sym G.tables.numbers) ∙ S.keeps.vertices;
     walks = ap (λ u. walks_of u ts (merged_in m rm) kept) G.paired.uses;

@@ -15,7 +15,7 @@ use Rattle.rules.specs.Pair.{pair}
 use Rattle.rules.specs.declared.Rules.{Rules}
 use Rattle.rules.specs.Merge.{Merged, merge_faces, merged_faces}
 use Rattle.rules.specs.VertexLoops.{vertex_loops}
-use Rattle.rules.specs.Contact.{edges_clear, points_clear}
+use Rattle.rules.specs.Contact.{edges_clear, points_clear, one_fan_each}
 use Rattle.rules.specs.Fans.{kept_with_ends}
 use Rattle.rules.specs.Join.{maximal_edges}
 use Rattle.rules.specs.Walk.{loops_of}
@@ -37,7 +37,7 @@ module _ (rules : Rules) (j : Job) (stage : Option Stage) (room : ℕ) where
   through_walks : is_asked Pair stage ≡ false → is_asked Merge stage ≡ false → after_reading rules stage j room (uses_of j) ≡ (walked rules j >>= after_keeping rules stage j room)
   unfolding walked after_reading after_pairing after_merging
   through_walks b d =
-      bind_then (pair j.answers (uses_of j) (length j.edges))
+      bind_then (pair rules.profile j.answers (uses_of j) (length j.edges))
       (λ ts. merge_faces rules.table j.answers j.faces (uses_of j) ts >>= λ m. vertex_loops j.answers j.points (merged_faces m) j.loops >>= λ ks. Ok (walks_of (uses_of j) ts m ks))
       (after_keeping rules stage j room)
       (after_pairing rules stage j (uses_of j) room)
@@ -69,14 +69,24 @@ module _ (rules : Rules) (j : Job) (stage : Option Stage) (room : ℕ) where
   unfolding edged after_fans
   through_edges a =
       bind_then (fanned rules j)
-      (λ f. points_clear FansInBoundary f.walk.uses f.starts f.walk.merge.boundaries f.names >>= λ _. Ok (record { fan = f; joining = unjoined j f }))
+      (λ f. one_fan_each rules.profile f.starts f.names >>= λ _. apart f)
       (after_edges rules stage j room)
       (after_fans rules stage j room)
-      (λ f. rw a (bind_then (points_clear FansInBoundary f.walk.uses f.starts f.walk.merge.boundaries f.names)
+      (λ f. rw a (bind_then (one_fan_each rules.profile f.starts f.names)
+      (λ _. apart f)
+      (after_edges rules stage j room)
+      (λ _. points_clear FansInBoundary f.walk.uses f.starts f.walk.merge.boundaries f.names >>= λ _. onward f)
+      (λ _. bind_then (points_clear FansInBoundary f.walk.uses f.starts f.walk.merge.boundaries f.names)
       (λ _. Ok (record { fan = f; joining = unjoined j f }))
       (after_edges rules stage j room)
-      (λ _. after_edges rules stage j room (record { fan = f; joining = unjoined j f }))
-      (λ _. refl)))
+      (λ _. onward f)
+      (λ _. refl))))
+    where
+      apart : Fanned → Outcome Joined
+      apart f = points_clear FansInBoundary f.walk.uses f.starts f.walk.merge.boundaries f.names >>= λ _. Ok (record { fan = f; joining = unjoined j f })
+
+      onward : Fanned → Outcome (List ℕ)
+      onward f = after_edges rules stage j room (record { fan = f; joining = unjoined j f })
 
   through_join : is_asked Edges stage ≡ false → (edged rules j >>= after_edges rules stage j room) ≡ (through_joining rules j >>= after_joining stage j room)
   unfolding through_joining after_edges
@@ -96,18 +106,19 @@ module _ (rules : Rules) (j : Job) (stage : Option Stage) (room : ℕ) where
 abbrev by_job : Rules → Option Stage → ℕ → Job → Outcome (List ℕ)
 by_job rules stage room j = after_reading rules stage j room (uses_of j)
 
-pub stage_pair : (rules : Rules) (job : List ℕ) (room : ℕ) → staged rules (Some Pair) job room ≡ pair_stage job room
+pub stage_pair : (rules : Rules) (job : List ℕ) (room : ℕ) → staged rules (Some Pair) job room ≡ pair_stage rules job room
 unfolding staged pair_stage after_reading after_pairing is_asked stage_number
 stage_pair rules job room =
-    bind_same (loaded job) (by_job rules (Some Pair) room) (λ j. pair j.answers (uses_of j) (length j.edges) >>= stage_bytes room)
-    (λ j. bind_same (pair j.answers (uses_of j) (length j.edges)) (after_pairing rules (Some Pair) j (uses_of j) room) (stage_bytes room) (λ ts. refl))
+    bind_same (loaded job) (by_job rules (Some Pair) room) (λ j. pair rules.profile j.answers (uses_of j) (length j.edges) >>= stage_bytes room)
+    (λ j. bind_same (pair rules.profile j.answers (uses_of j) (length j.edges)) (after_pairing rules (Some Pair) j (uses_of j) room) (stage_bytes room) (λ ts. refl))
 
 pub stage_merge : (rules : Rules) (job : List ℕ) (room : ℕ) → staged rules (Some Merge) job room ≡ merge_stage rules job room
 unfolding staged merge_stage after_reading after_pairing after_merging is_asked stage_number
 stage_merge rules job room =
     bind_same (loaded job) (by_job rules (Some Merge) room)
-    (λ j. pair j.answers (uses_of j) (length j.edges) >>= λ ts. merge_faces rules.table j.answers j.faces (uses_of j) ts >>= fields j)
-    (λ j. bind_same (pair j.answers (uses_of j) (length j.edges)) (after_pairing rules (Some Merge) j (uses_of j) room) (λ ts. merge_faces rules.table j.answers j.faces (uses_of j) ts >>= fields j)
+    (λ j. pair rules.profile j.answers (uses_of j) (length j.edges) >>= λ ts. merge_faces rules.table j.answers j.faces (uses_of j) ts >>= fields j)
+    (λ j. bind_same (pair rules.profile j.answers (uses_of j) (length j.edges)) (after_pairing rules (Some Merge) j (uses_of j) room)
+    (λ ts. merge_faces rules.table j.answers j.faces (uses_of j) ts >>= fields j)
     (λ ts. bind_same (merge_faces rules.table j.answers j.faces (uses_of j) ts) (after_merging rules (Some Merge) j (uses_of j) ts room) (fields j) (λ m. refl)))
   where
     fields : Job → Merged → Outcome (List ℕ)

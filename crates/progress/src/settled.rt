@@ -1,7 +1,8 @@
 // The walks of a job.
 
-ghost use Rattle.std.specs.Prelude.{◌≡◌, length};
+ghost use Rattle.std.specs.Prelude.{◌≡◌, ◌≤◌, length};
 
+use edge_uses::EdgeUses;
 use fans::KeptUses;
 use loaded::Loaded;
 use merge_faces::Faces;
@@ -9,14 +10,14 @@ use rules::{KeptVertexLoop, Rules, Use};
 use std::marker::Model;
 use walk::Steps;
 
-// A job through its walks, by these rules: the uses and the twin of each, the merged faces, the vertex loops kept, which
-// uses are removed and how many, the successor of each use, and how many uses were passed over in total. Contracts see the
-// walks of the definitions.
+// A job through its walks, by these rules: the uses on the chains of their edges and the twin of each, the merged faces, the
+// vertex loops kept, which uses are removed and how many, the successor of each use, and how many uses were passed over in
+// total. Contracts see the walks of the definitions.
 #[derive(Drop)]
 pub struct Walks<'a> {
     pub rules: Rules,
     pub job: &'a Loaded<'a>,
-    pub uses: &'a [Use],
+    pub linked: &'a EdgeUses<'a>,
     pub twins: &'a [u32],
     pub faces: &'a Faces,
     pub kept: &'a [KeptVertexLoop],
@@ -24,6 +25,7 @@ pub struct Walks<'a> {
     pub succ: &'a [u32],
     pub gone: usize,
     pub passed: usize,
+    ghost chained: { linked.now.edges ≡ length job.now.edges },
 }
 
 impl<'a> Model for Walks<'a> {
@@ -31,12 +33,19 @@ impl<'a> Model for Walks<'a> {
 
     ghost Value = { Walking };
 
-    ghost view = { λ w. record { rules = w.rules; job = w.job.now; walked = walked_in w.uses.now w.twins.now w.faces.now w.removed.now w.kept.now } };
+    ghost view = { λ w. record { rules = w.rules; job = w.job.now; walked = walked_in w.linked.now.uses w.twins.now w.faces.now w.removed.now w.kept.now } };
 
-    ghost invariant = { λ w. Settled w.rules w.job.now w.uses.now w.twins.now w.faces.now w.kept.now w.removed.now w.succ.now w.gone w.passed };
+    ghost invariant = { λ w. Settled w.rules w.job.now w.linked.now.uses w.twins.now w.faces.now w.kept.now w.removed.now w.succ.now w.gone w.passed };
 }
 
 impl<'a> Walks<'a> {
+    // The uses.
+    pub fn uses(&self) -> &'a [Use]
+        ensures { (result.now ≡ self.now.walked.uses) × (length result.now ≤ 2048) }
+    {
+        self.linked.uses()
+    }
+
     // Which uses are removed, and the successor of each.
     pub fn steps(&self) -> Steps<'a>
         ensures { (result.removed.now ≡ self.now.walked.merge.removed) × (result.succ.now ≡ self.now.walked.successors) × (length result.succ.now ≡ length self.now.walked.uses) }
@@ -53,7 +62,7 @@ impl<'a> Walks<'a> {
     {
         KeptUses {
             job: self.job,
-            uses: self.uses,
+            uses: self.uses(),
             removed: self.removed,
         }
     }

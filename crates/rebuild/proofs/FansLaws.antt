@@ -1,14 +1,16 @@
 -- A job with its fans, and the tables that hold it.
 use Rattle.std.specs.Prelude.{ℕ, ◌<◌, ◌≤◌, ◌≡◌, refl, List, Bool, length}
 use Rattle.std.proofs.Common.{arith, sym, ap, subst, ◌∙◌}
-use Rattle.lists.specs.Lists.{◌∈◌, Nodup}
-use Rattle.lists.specs.Runs.{pigeon_below}
+use Rattle.lists.specs.Lists.{◌∈◌, Nodup, below}
+use Rattle.lists.specs.Runs.{length_below}
+use Rattle.lists.specs.Members.{keep_length}
 use Rattle.rules.specs.declared.Use.{Use}
 use Rattle.rules.specs.declared.KeptVertexLoop.{KeptVertexLoop}
 use Rattle.rules.specs.declared.Rules.{Rules}
 use Rattle.rules.specs.Job.{Job}
-use Rattle.rules.specs.Sew.{fans_of, Fanned}
-use Rattle.theorems.specs.Fanning.{FansHold, fan_list}
+use Rattle.rules.specs.Fans.{names_fan}
+use Rattle.rules.specs.Sew.{Walked, fans_of, Fanned}
+use Rattle.theorems.specs.Fanning.{FansHold, fan_labels, fan_list}
 use Rattle.theorems.proofs.Fanning.{fans_hold}
 use Rattle.merge_faces.specs.FaceTables.{FaceTables}
 use Rattle.progress.specs.Known.{Settled, Walking, walked_in}
@@ -64,5 +66,9 @@ module _ {v : Fanning} {rules : Rules} {j : Job} {us : List Use} {ts : List ℕ}
   pub names_low : (n : ℕ) → n ∈ names → n < 2048
   names_low n i = omega (arith, names_below n i, ap length F.walks.uses, F.walks.ground.few)
 
-  pub names_few : length names ≤ 2048
-  names_few = pigeon_below 2048 names names_once names_low
+-- there are no more fans than uses
+pub names_few : (j : Job) (w : Walked) {fans names starts : List ℕ} → record { walk = w; fans = fans; names = names; starts = starts } ≡ fans_of j w
+    → length w.uses ≤ 2048 → length names ≤ 2048
+unfolding fans_of
+names_few j w is few =
+    omega (arith, few, ap (λ (f : Fanned). length f.names) is, keep_length (names_fan j.edges w.uses w.merge.removed (fan_labels j w)) (below (length w.uses)), length_below (length w.uses))

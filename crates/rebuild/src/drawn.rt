@@ -137,8 +137,9 @@ fn write_body<const USES: usize>(
     let f = d.fans;
     let w = f.walks;
     let j = d.joining;
+    let n = w.uses().len();
     let totals = Totals {
-        uses: w.uses.len(),
+        uses: n,
         removed: w.gone,
         passed: w.passed,
         joins: j.joins,
@@ -157,6 +158,6 @@ fn write_body<const USES: usize>(
     let mut number_table = [0u32; USES];
     let mut vertex_table = [0u32; USES];
     let numbers = &mut number_table[..j.edges.len()];
-    let vertices = &mut vertex_table[..w.uses.len()];
+    let vertices = &mut vertex_table[..n];
     put_body(&solid, numbers, vertices, out)
 }

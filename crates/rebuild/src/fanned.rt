@@ -1,7 +1,7 @@
 // From the fans on: the stage `fans`, the edges and loops of the result, the stage `edges`, joining.
 
-ghost use Rattle.std.specs.Prelude.{◌≡◌, ◌*◌, ◌≤◌, length, take};
-ghost use Rattle.rules.specs.Contact.{points_clear};
+ghost use Rattle.std.specs.Prelude.{◌≡◌, ◌≤◌, length, take};
+ghost use Rattle.rules.specs.Contact.{points_clear, one_fan_each};
 ghost use Rattle.rules.specs.Sew.{unjoined, Ends};
 ghost use Rattle.maximal_edges.specs.Joined.{state_in};
 ghost use Rattle.progress.specs.Chain.{after_fans, after_edges};
@@ -14,7 +14,7 @@ use fields::{NO_SPAN, Span};
 use maximal_edges::maximal_edges;
 use progress::Walks;
 use result_out::{write_fans, write_joining};
-use rules::{EdgeData, Fault, Refusal, Stage};
+use rules::{EdgeData, Fault, Profile, Refusal, Stage};
 use std::marker::Model;
 
 // The walks with the fan of each use, the fans by name, and the point where each use starts. Contracts see the fans of the
@@ -39,14 +39,14 @@ impl<'a> Model for Fans<'a> {
     ghost invariant = { λ f. record { walk = f.walks.now.walked; fans = f.fans.now; names = f.names.now; starts = f.starts.now } ≡ fans_of f.walks.now.job f.walks.now.walked };
 }
 
-// 31 by boundary, 32 by lump: no two fans at one point have the same label.
+// 31 by boundary, 32 by lump, 42 with no labels: no two fans at one point have the same label.
 #[tactic(auto, unfolding(rules::specs::Sew::walks_of))]
 pub fn clear_points(fault: Fault, f: &Fans<'_>, labels: &[u32]) -> Result<(), Refusal>
     ensures { result ≡ points_clear fault f.now.fan.walk.uses f.now.fan.starts labels.now f.now.fan.names }
 {
     let w = f.walks;
     let fans = LabelledFans {
-        uses: w.uses,
+        uses: w.uses(),
         starts: f.starts,
         labels,
         names: f.names,
@@ -54,7 +54,20 @@ pub fn clear_points(fault: Fault, f: &Fans<'_>, labels: &[u32]) -> Result<(), Re
     points_clear(fault, &fans)
 }
 
-// The stage `fans`, then 31.
+// 42: a print shop wants one fan at each point. With no labels at all every face has the same, so that the test by label
+// finds any two fans at a point.
+#[tactic(auto, using(theorems::proofs::Unlabelled::unlabelled))]
+fn one_fan_each(f: &Fans<'_>) -> Result<(), Refusal>
+    ensures { result ≡ one_fan_each f.now.rules.profile f.now.fan.starts f.now.fan.names }
+{
+    let w = f.walks;
+    match w.rules.profile {
+        Profile::AnyContact => Ok(()),
+        Profile::PrintShop => clear_points(Fault::ManyFans, f, &[]),
+    }
+}
+
+// The stage `fans`, then 42 and 31.
 #[tactic(auto, unfolding(progress::specs::Chain::after_fans, rules::specs::Sew::walks_of))]
 pub fn on_fanned<const USES: usize>(
     stage: Option<Stage>,
@@ -69,6 +82,7 @@ pub fn on_fanned<const USES: usize>(
     if Stage::Fans.is_asked(stage) {
         return write_fans(&w.kept_uses(), f.fans, f.starts, out);
     }
+    one_fan_each(f)?;
     clear_points(Fault::FansInBoundary, f, w.faces.boundaries())?;
     draw_in_tables::<USES>(stage, f, out)
 }
@@ -95,9 +109,10 @@ fn make_edges(
     ensures { Lined f.now rows.new result.edges items.new (take result.loops stretches.new) (take result.loops faces.new) × (result.loops ≤ length f.now.fan.walk.uses) }
 {
     let w = f.walks;
+    let uses = w.uses();
     let loops = walk::loops(&w.steps(), items, stretches);
     edges::loop_faces(
-        w.uses,
+        uses,
         w.faces.numbers(),
         items,
         &stretches[..loops],
@@ -105,7 +120,7 @@ fn make_edges(
     );
     let sides = Sides {
         job: w.job,
-        uses: w.uses,
+        uses,
         twins: w.twins,
         removed: w.removed,
         numbers: w.faces.numbers(),
@@ -113,7 +128,7 @@ fn make_edges(
         fans: f.fans,
     };
     let edges = edges::edges(&sides, rows, owns);
-    edges::items(w.uses, owns, items);
+    edges::items(uses, owns, items);
     Lengths { edges, loops }
 }
 
@@ -128,7 +143,7 @@ fn draw_in_tables<const USES: usize>(
     ensures { Ends (after_edges f.now.rules stage f.now.job (length out.old) (record { fan = f.now.fan; joining = unjoined f.now.job f.now.fan })) out.old out.new result }
 {
     let w = f.walks;
-    let n = w.uses.len();
+    let n = w.uses().len();
     let mut edges = [NO_EDGE; USES];
     let mut owners = [0u32; USES];
     let mut codes = [0u32; USES];

@@ -15,45 +15,25 @@ mod drawn;
 mod fanned;
 
 use contact::LabelledPairs;
-use edge_uses::link;
 use fanned::{Fans, on_fanned};
 use fans::{fan_names, start_points};
 use fields::Filled;
 use progress::Walks;
-use rules::{FEW, Fault, MOST_EDGES, MOST_USES, Refusal, Stage};
+use rules::{FEW, Fault, MOST_USES, Refusal, Stage};
 
 // CONTACT TESTS
 
-// 30 by boundary, 33 by lump, in tables for so many edges and uses: the uses of each edge are chained first.
-fn clear_in_tables<const EDGES: usize, const USES: usize>(
-    fault: Fault,
-    w: &Walks<'_>,
-    labels: &[u32],
-) -> Result<(), Refusal>
-    requires { (length w.now.job.edges ≤ EDGES) × (EDGES ≤ 1024) × (length w.now.walked.uses ≤ USES) × (USES ≤ 2048) × LowLabels labels.now }
-    ensures { result ≡ edges_clear fault w.now.walked.uses w.now.walked.twins labels.now (length w.now.job.edges) }
-{
-    let mut table = [0u32; EDGES];
-    let mut room = [0u32; USES];
-    let heads = &mut table[..w.job.edges()];
-    let linked = link(w.uses, heads, &mut room[..w.uses.len()]);
-    let pairs = LabelledPairs {
-        linked: &linked,
-        twins: w.twins,
-        labels,
-    };
-    contact::edges_clear(fault, &pairs)
-}
-
-// In tables for up to 64 edges and uses, where that is enough, and else for as many as there may be.
+// 30 by boundary, 33 by lump: no two pairs at an edge with more than two uses have the same label.
 fn clear_edges(fault: Fault, w: &Walks<'_>, labels: &[u32]) -> Result<(), Refusal>
     requires { LowLabels labels.now }
     ensures { result ≡ edges_clear fault w.now.walked.uses w.now.walked.twins labels.now (length w.now.job.edges) }
 {
-    if w.job.edges() <= FEW && w.uses.len() <= FEW {
-        return clear_in_tables::<FEW, FEW>(fault, w, labels);
-    }
-    clear_in_tables::<MOST_EDGES, MOST_USES>(fault, w, labels)
+    let pairs = LabelledPairs {
+        linked: w.linked,
+        twins: w.twins,
+        labels,
+    };
+    contact::edges_clear(fault, &pairs)
 }
 
 // FANS
@@ -92,7 +72,7 @@ pub fn rebuild(stage: Option<Stage>, w: &Walks<'_>, out: &mut [u8]) -> Result<us
     ensures { Ends (after_loops w.now.rules stage w.now.job (length out.old) w.now.walked) out.old out.new result }
 {
     clear_edges(Fault::PairsInBoundary, w, w.faces.boundaries())?;
-    if w.uses.len() <= FEW {
+    if w.uses().len() <= FEW {
         return fans_in_tables::<FEW>(stage, w, out);
     }
     fans_in_tables::<MOST_USES>(stage, w, out)

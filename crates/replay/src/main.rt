@@ -34,6 +34,7 @@ enum Operation {
     SewingInRoom,
     SewingWithTable,
     WalkWithTable,
+    SewingForPrint,
     // A number that none has: the job is sewn.
     Unknown(usize),
 }
@@ -52,6 +53,7 @@ impl From<usize> for Operation {
             13 => Operation::SewingInRoom,
             14 => Operation::SewingWithTable,
             15 => Operation::WalkWithTable,
+            16 => Operation::SewingForPrint,
             _ => match Stage::numbered(n) {
                 Some(stage) => Operation::Single(stage),
                 None => Operation::Unknown(n),
@@ -72,6 +74,7 @@ impl Operation {
             Operation::SewingInRoom => 13,
             Operation::SewingWithTable => 14,
             Operation::WalkWithTable => 15,
+            Operation::SewingForPrint => 16,
             Operation::Unknown(n) => n,
         }
     }
@@ -80,7 +83,10 @@ impl Operation {
     fn shows_output(self) -> bool {
         matches!(
             self,
-            Operation::Sewing | Operation::SewingInRoom | Operation::SewingWithTable,
+            Operation::Sewing
+                | Operation::SewingInRoom
+                | Operation::SewingWithTable
+                | Operation::SewingForPrint,
         )
     }
 
@@ -176,7 +182,7 @@ impl<'a> Reader<'a> {
         let operation = Operation::from(self.field()? as usize);
         let table = self.table(operation)?;
         let room = match operation {
-            Operation::Sewing | Operation::SewingWithTable => BODY,
+            Operation::Sewing | Operation::SewingWithTable | Operation::SewingForPrint => BODY,
             Operation::SewingInRoom => self.field()? as usize,
             _ => OUT,
         };
@@ -260,6 +266,7 @@ fn run(operation: Operation, table: &[u8], job: &[u8], out: &mut [u8]) -> Result
     match operation {
         Operation::SewingWithTable => sewing::sew_with_table(table, job, out),
         Operation::WalkWithTable => sewing::walk_stage_with_table(table, job, out),
+        Operation::SewingForPrint => sewing::sew_for_print(job, out),
         Operation::LoopRequests => Ok(requests(job, out)),
         Operation::Single(stage) => programs::operate(Some(stage), job, out),
         _ => sewing::sew(job, out),

@@ -7,7 +7,7 @@
 ghost use Rattle.std.specs.Prelude.{◌≡◌, ◌≤◌, ◌<◌, length, false};
 ghost use Rattle.rules.specs.Operation.{is_asked};
 ghost use Rattle.rules.specs.Read.{uses_of};
-ghost use Rattle.rules.specs.Rules.{ordinary};
+ghost use Rattle.rules.specs.Rules.{ordinary, print_shop};
 ghost use Rattle.rules.specs.Walk.{circuits, loops_of};
 ghost use Rattle.stages_out.specs.Rows.{Staged, round_rows};
 ghost use Rattle.rules.specs.Sew.{sewn, sewn_with_table, Ends};
@@ -15,13 +15,14 @@ ghost use Rattle.rules.specs.Stage.{read_stage, pair_stage, merge_stage, vertex_
 ghost use Rattle.rules.specs.Stage.{walk_stage, walk_stage_with_table, loop_stage, fan_stage, edge_stage, joining_stage, shell_stage, lump_stage};
 ghost use Rattle.theorems.specs.Promises.{Promises};
 ghost use Rattle.theorems.specs.JoiningTables.{PromisesWith, WalksWith};
+ghost use Rattle.theorems.specs.PrintShop.{PrintPromises};
 ghost use Rattle.loaded.specs.Opened.{Loads};
 ghost use Rattle.progress.specs.Chain.{after_reading, after_pairing, after_merging, after_keeping, after_walks, staged, sewn_by};
 ghost use Rattle.progress.specs.Known.{Paired};
 ghost use Rattle.sewing.specs.Promised.{Promised};
 
 use body::put_empty;
-use edge_uses::link;
+use edge_uses::{EdgeUses, link};
 use fields::NO_SPAN;
 use job::INDEX;
 use joining_table::table_of;
@@ -68,7 +69,7 @@ fn on_walks(stage: Option<Stage>, w: &Walks<'_>, out: &mut [u8]) -> Result<usize
 {
     // A test in each step and no table of closures: each stage is handed other tables, which a closure could not own.
     if Stage::Loops.is_asked(stage) {
-        return put_loops(w.uses, w.faces.numbers(), &w.steps(), out);
+        return put_loops(w.uses(), w.faces.numbers(), &w.steps(), out);
     }
     rebuild(stage, w, out)
 }
@@ -83,22 +84,23 @@ fn walk_in_tables<const USES: usize>(
     requires { (length k.now.walked.uses ≤ USES) × (USES ≤ 2048) }
     ensures { Ends (after_walks k.now.rules stage k.now.job (length out.old) k.now.walked) out.old out.new result }
 {
-    let n = k.uses.len();
+    let uses = k.linked.uses();
+    let n = uses.len();
     let mut flags = [false; USES];
     let mut table = [0u32; USES];
     let mut counts = [0u32; USES];
     let removed = &mut flags[..n];
     let succ = &mut table[..n];
     let passed = &mut counts[..n];
-    let gone = remove(k.uses, k.twins, k.faces.groups(), removed);
-    let total = successors(k.uses, k.twins, removed, succ, passed);
+    let gone = remove(uses, k.twins, k.faces.groups(), removed);
+    let total = successors(uses, k.twins, removed, succ, passed);
     if Stage::Walk.is_asked(stage) {
         return write_walk(removed, succ, passed, out);
     }
     let walks = Walks {
         rules: k.rules,
         job: k.job,
-        uses: k.uses,
+        linked: k.linked,
         twins: k.twins,
         faces: k.faces,
         kept: k.vertex_loops,
@@ -118,7 +120,7 @@ fn on_kept(stage: Option<Stage>, k: &Kept<'_>, out: &mut [u8]) -> Result<usize, 
     if Stage::VertexLoops.is_asked(stage) {
         return write_kept(k.vertex_loops, out);
     }
-    if k.uses.len() <= FEW {
+    if k.linked.uses().len() <= FEW {
         return walk_in_tables::<FEW>(stage, k, out);
     }
     walk_in_tables::<MOST_USES>(stage, k, out)
@@ -138,7 +140,7 @@ fn keep_in_table<const LOOPS: usize>(
     let kept = Kept {
         rules: m.rules,
         job: m.job,
-        uses: m.uses,
+        linked: m.linked,
         twins: m.twins,
         faces: m.faces,
         vertex_loops: table.as_slice(),
@@ -166,21 +168,22 @@ fn on_paired(
     rules: Rules,
     stage: Option<Stage>,
     job: &Loaded<'_>,
-    uses: &[Use],
+    linked: &EdgeUses<'_>,
     twins: &[u32],
     out: &mut [u8],
 ) -> Result<usize, Refusal>
-    requires { Paired job.now uses.now twins.now }
-    ensures { Ends (after_pairing rules stage job.now uses.now (length out.old) twins.now) out.old out.new result }
+    requires paired { Paired rules job.now linked.now.uses twins.now }
+    requires chained { linked.now.edges ≡ length job.now.edges }
+    ensures { Ends (after_pairing rules stage job.now linked.now.uses (length out.old) twins.now) out.old out.new result }
 {
     if Stage::Pair.is_asked(stage) {
         return write_twins(twins, out);
     }
-    let faces = merge_faces(job, uses, twins, rules.table)?;
+    let faces = merge_faces(job, linked.uses(), twins, rules.table)?;
     let merged = Merged {
         rules,
         job,
-        uses,
+        linked,
         twins,
         faces: &faces,
     };
@@ -208,8 +211,8 @@ fn read_in_tables<const USES: usize, const EDGES: usize>(
     let uses = &mut table[..n];
     read(job, uses);
     let linked = link(uses, &mut heads[..job.edges()], &mut links[..n]);
-    let twins: [u32; USES] = pair(job, &linked)?;
-    on_paired(rules, stage, job, uses, &twins[..n], out)
+    let twins: [u32; USES] = pair(job, &linked, rules.profile)?;
+    on_paired(rules, stage, job, &linked, &twins[..n], out)
 }
 
 // The uses read and paired, once the job is loaded.
@@ -256,7 +259,7 @@ pub fn read_stage(job: &[u8], out: &mut [u8]) -> Result<usize, Refusal>
 // The stage `pair`.
 #[tactic(auto, using(progress::specs::StageLaws::stage_pair))]
 pub fn pair_stage(job: &[u8], out: &mut [u8]) -> Result<usize, Refusal>
-    ensures { Ends (pair_stage job.now (length out.old)) out.old out.new result }
+    ensures { Ends (pair_stage ordinary job.now (length out.old)) out.old out.new result }
 {
     run(Rules::ordinary(), Some(Stage::Pair), job, out)
 }
@@ -367,4 +370,12 @@ pub fn sew_with_table(table: &[u8], job: &[u8], out: &mut [u8]) -> Result<usize,
 {
     let supplied = table_of(table)?;
     sew_by(Rules::with_table(supplied), job, out)
+}
+
+// Sewing for a print shop: an edge with more than two uses is refused with 41, a point with more than one fan with 42. An
+// accepted job has the ordinary body; what demand 3 says holds of it. No single stage takes this profile.
+pub fn sew_for_print(job: &[u8], out: &mut [u8]) -> Result<usize, Refusal>
+    ensures { Ends (sewn print_shop job.now (length out.old)) out.old out.new result × PrintPromises job.now }
+{
+    sew_by(Rules::print_shop(), job, out)
 }

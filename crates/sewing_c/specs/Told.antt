@@ -5,7 +5,7 @@ use Rattle.lists.specs.Lists.{has}
 use Rattle.rules.specs.declared.Refusal.{Refusal}
 use Rattle.rules.specs.Outcome.{Outcome, Ok, Err, fault_number}
 use Rattle.rules.specs.Job.{Stretch}
-use Rattle.rules.specs.Rules.{ordinary}
+use Rattle.rules.specs.declared.Rules.{Rules}
 use Rattle.rules.specs.Sew.{sewn, sewn_with_table, written}
 use Rattle.rules.specs.Listing.{line_of, refusal_line, listing_of, sewn_records, records_with_table}
 use Rattle.fields.specs.Wrote.{Wrote}
@@ -16,7 +16,7 @@ use Rattle.lines.specs.Text.{records_in}
 
 -- the numbers of refusals, of documents 01 and 02; 0 is none of them
 unfoldable pub is_number : ℕ → Bool
-is_number n = has n (1 ∷ 2 ∷ 3 ∷ 4 ∷ 5 ∷ 6 ∷ 7 ∷ 10 ∷ 11 ∷ 12 ∷ 13 ∷ 20 ∷ 21 ∷ 22 ∷ 23 ∷ 30 ∷ 31 ∷ 32 ∷ 33 ∷ 34 ∷ 40 ∷ 45 ∷ 48 ∷ [])
+is_number n = has n (1 ∷ 2 ∷ 3 ∷ 4 ∷ 5 ∷ 6 ∷ 7 ∷ 10 ∷ 11 ∷ 12 ∷ 13 ∷ 20 ∷ 21 ∷ 22 ∷ 23 ∷ 30 ∷ 31 ∷ 32 ∷ 33 ∷ 34 ∷ 40 ∷ 41 ∷ 42 ∷ 45 ∷ 48 ∷ [])
 
 -- an outcome that, if it is a refusal, has such a number
 pub record Numbered {A : Type 0} (o : Outcome A) : Type 0 where
@@ -53,9 +53,11 @@ answer_text number value out = cond (eqb number 0) (flat_map line_of (records_in
 pub record ListsAnswer (number value : ℕ) (out page printed : List ℕ) (r : ℕ) : Type 0 where
   -- the text of what the output's bytes read back as
   pub text : Wrote page 0 (answer_text number value (take 4294967295 out)) printed r
-  -- where that is sewing's answer to a job of bytes: the text of the job's records, which for an output of 65,536 bytes is the job's listing
-  pub records : (job before : List ℕ) → Below 256 job → length before < 4294967296 → length out ≡ length before → Tells (sewn ordinary job (length before)) before out value number
-      → Wrote page 0 (listing_of (sewn_records ordinary job (length before))) printed r
+  -- where that is sewing's answer to a job of bytes, by whatever rules: the text of the job's records, which for an output of 65,536 bytes is
+  -- the job's listing by these rules
+  pub records : (rules : Rules) (job before : List ℕ) → Below 256 job → length before < 4294967296 → length out ≡ length before
+      → Tells (sewn rules job (length before)) before out value number
+      → Wrote page 0 (listing_of (sewn_records rules job (length before))) printed r
   -- and where it is the answer of sewing with a joining table
   pub records_with : (table job before : List ℕ) → Below 256 job → length before < 4294967296 → length out ≡ length before
       → Tells (sewn_with_table table job (length before)) before out value number

@@ -7,8 +7,7 @@ use Rattle.lists.specs.Lists.{has}
 use Rattle.rules.specs.declared.Fault.{Fault}
 use Rattle.rules.specs.declared.Fault.TheVariants.{TooLong, CutShort, Misplaced, LimitPassed, FieldNotPermitted, LoopJoints, AnsweredTwice, SelectedTwice}
 use Rattle.rules.specs.declared.Fault.TheVariants.{EqualSenses, OddUses, SamePredecessor, NoTwin, Unanswered, AnswerUndecided, NormalsVanish, NotRound}
-use Rattle.rules.specs.declared.Fault.TheVariants.{PairsInBoundary, FansInBoundary, FansInLump, PairsInLump, NoOuterShell, NoRoom, WrongTable}
-use Rattle.rules.specs.Rules.{ordinary}
+use Rattle.rules.specs.declared.Fault.TheVariants.{PairsInBoundary, FansInBoundary, FansInLump, PairsInLump, NoOuterShell, NoRoom, ManyUses, ManyFans, WrongTable}
 use Rattle.rules.specs.Sew.{Ends, ended, sewn, sewn_with_table}
 use Rattle.rules.specs.Outcome.{Outcome, Ok, Err, fault_number}
 use Rattle.rules.specs.Listing.{line_of, refusal_line, listing_of, sewn_records, records_with_table}
@@ -44,6 +43,8 @@ fault_listed FansInLump = refl
 fault_listed PairsInLump = refl
 fault_listed NoOuterShell = refl
 fault_listed NoRoom = refl
+fault_listed ManyUses = refl
+fault_listed ManyFans = refl
 fault_listed SelectedTwice = refl
 fault_listed WrongTable = refl
 
@@ -97,11 +98,11 @@ module _ {number value r : ℕ} {out page printed : List ℕ} where
   answer_lists : Wrote page 0 (answer_text number value (take 4294967295 out)) printed r → ListsAnswer number value out page printed r
   answer_lists w = record {
     text = w;
-    records = λ job before bytes few same T.
+    records = λ rules job before bytes few same T.
         let all : take 4294967295 out ≡ out = take_all 4294967295 out (omega (arith, few, same)) in
-        let a = answered (sewn ordinary job (length before)) before out number value T in
-        wrote_as page printed (answer_text number value (take 4294967295 out)) (listing_of (sewn_records ordinary job (length before))) 0 r
-        (ap (answer_text number value) all ∙ a.2 ∙ recorded_listing ordinary job before out a.0 bytes few a.1) w;
+        let a = answered (sewn rules job (length before)) before out number value T in
+        wrote_as page printed (answer_text number value (take 4294967295 out)) (listing_of (sewn_records rules job (length before))) 0 r
+        (ap (answer_text number value) all ∙ a.2 ∙ recorded_listing rules job before out a.0 bytes few a.1) w;
     records_with = λ table job before bytes few same T.
         let all : take 4294967295 out ≡ out = take_all 4294967295 out (omega (arith, few, same)) in
         let a = answered (sewn_with_table table job (length before)) before out number value T in

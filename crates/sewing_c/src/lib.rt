@@ -5,12 +5,13 @@
 
 ghost use Rattle.std.specs.Prelude.{◌≡◌, length};
 ghost use Rattle.rules.specs.Load.{requested};
-ghost use Rattle.rules.specs.Rules.{ordinary};
+ghost use Rattle.rules.specs.Rules.{ordinary, print_shop};
 ghost use Rattle.rules.specs.Sew.{sewn, sewn_with_table};
 ghost use Rattle.rules.specs.Stage.{read_stage, pair_stage, merge_stage, vertex_loop_stage, walk_stage, walk_stage_with_table};
 ghost use Rattle.rules.specs.Stage.{loop_stage, fan_stage, edge_stage, joining_stage, shell_stage, lump_stage};
 ghost use Rattle.theorems.specs.Promises.{Promises};
 ghost use Rattle.theorems.specs.JoiningTables.{PromisesWith, WalksWith};
+ghost use Rattle.theorems.specs.PrintShop.{PrintPromises};
 ghost use Rattle.lines.specs.Listed.{Lists};
 ghost use Rattle.sewing.specs.Promised.{Promised};
 ghost use Rattle.sewing_c.specs.Told.{number_of, end_value, Tells, ListsAnswer, Inside, TellsLoop};
@@ -61,6 +62,16 @@ pub extern "C" fn zaxclover_sew_with_table(
     tell(ending, value)
 }
 
+// Sewing for a print shop: answers as sewing does. An edge with more than two uses and a point with more than one fan are
+// refused; an accepted job has the ordinary body, and what demand 3 says holds of it.
+#[unsafe(no_mangle)]
+pub extern "C" fn zaxclover_sew_for_print(job: &[u8], out: &mut [u8], value: &mut usize) -> usize
+    ensures { Tells (sewn print_shop job.now (length out.old)) out.old out.new value.new result × PrintPromises job.now }
+{
+    let ending = sewing::sew_for_print(job, out);
+    tell(ending, value)
+}
+
 // THE SINGLE STAGES, which answer as sewing does
 
 // The stage `read`.
@@ -75,7 +86,7 @@ pub extern "C" fn zaxclover_read_stage(job: &[u8], out: &mut [u8], value: &mut u
 // The stage `pair`.
 #[unsafe(no_mangle)]
 pub extern "C" fn zaxclover_pair_stage(job: &[u8], out: &mut [u8], value: &mut usize) -> usize
-    ensures { Tells (pair_stage job.now (length out.old)) out.old out.new value.new result }
+    ensures { Tells (pair_stage ordinary job.now (length out.old)) out.old out.new value.new result }
 {
     let ending = sewing::pair_stage(job, out);
     tell(ending, value)
@@ -232,7 +243,7 @@ pub extern "C" fn zaxclover_listing(
 // no room for is not stored.
 #[unsafe(no_mangle)]
 pub extern "C" fn zaxclover_list(job: &[u8], page: &mut [u8]) -> usize
-    ensures { Lists job.now page.old page.new result }
+    ensures { Lists ordinary job.now page.old page.new result }
 {
     let mut out = [0u8; 65536];
     listed::list(job, &mut out, page)

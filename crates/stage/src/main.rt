@@ -25,27 +25,29 @@ fn stage_named(rt: &impl Env) -> Option<Stage> {
     }
 }
 
-// What the words behind a stage's name ask for; nothing where the stage cannot be run so: `walk` alone takes a joining table.
+// What the words behind a stage's name ask for; nothing where the stage cannot be run so: `walk` alone takes a joining table,
+// and none is run for a print shop.
 fn asked_of<'a>(rt: &impl Env, stage: Stage, room: &'a mut [u8; ENTRIES]) -> Option<Asked<'a>> {
     match words_at(rt, 2, room)? {
         Asked::Table(_) if stage != Stage::Walk => None,
+        Asked::PrintShop => None,
         asked => Some(asked),
     }
 }
 
-// Runs a stage on a job as it is asked for and prints its lines.
+// Runs a stage on a job, or `walk` with a joining table, and prints its lines.
 fn print_stage(
     rt: &(impl Print + Eprint),
     program: Program<'_>,
     stage: Stage,
-    asked: Asked<'_>,
+    table: Option<&[u8]>,
     job: &[u8],
 ) {
     let mut out = [0u8; OUT];
     let mut page = [0u8; PAGE];
-    let length = match asked {
-        Asked::Table(table) => programs::list_walk_with_table(table, job, &mut out, &mut page),
-        Asked::Ordinary => programs::list_stage(Some(stage), job, &mut out, &mut page),
+    let length = match table {
+        Some(table) => programs::list_walk_with_table(table, job, &mut out, &mut page),
+        None => programs::list_stage(Some(stage), job, &mut out, &mut page),
     };
     program.print(rt, lines::front(&page, length));
 }
@@ -70,5 +72,5 @@ fn main(rt: HostRuntime) {
     let Some(n) = program.read_job(&rt, 2 + asked.words(), &mut job) else {
         return;
     };
-    print_stage(&rt, program, stage, asked, lines::front(&job, n));
+    print_stage(&rt, program, stage, asked.table(), lines::front(&job, n));
 }

@@ -1,3 +1,4 @@
+use Rattle.rules.specs.Rules.{ordinary}
 use Rattle.lines.specs.Listed.{bytes_below, sews, lists}
 use Rattle.listed.proofs.list.Goals as goal
 
@@ -8,7 +9,7 @@ returns c =
     let put = c.put_listing in
     let bytes = bytes_below a.job.now (λ i. (c.type_inv.job i).fits) in
     let size = c.told-out in (
-      sews a.job.now a.out.now sew.new.out sew.result sew.ensures.0,
-      lists a.job.now a.out.now sew.new.out a.page.now put.new.page put.result sew.result bytes size sew.ensures.0
+      sews ordinary a.job.now a.out.now sew.new.out sew.result sew.ensures.0,
+      lists ordinary a.job.now a.out.now sew.new.out a.page.now put.new.page put.result sew.result bytes size sew.ensures.0
           put.ensures,
     )

@@ -4,7 +4,7 @@ use Rattle.rules.specs.Join.{Joining}
 use Rattle.rules.specs.Sew.{body_of}
 use Rattle.progress.specs.Parts.{part_long}
 use Rattle.progress.specs.KnownLaws.{grouped_lowest}
-use Rattle.rebuild.specs.Fanning.{Drawing}
+use Rattle.rebuild.specs.Fanning.{Fanning, Drawing}
 use Rattle.rebuild.proofs.FansLaws.{fans_seen}
 use Rattle.rebuild.proofs.SolidLaws.{ends_ok}
 use Rattle.rebuild.proofs.drawn.write_body.Goals as goal
@@ -15,8 +15,7 @@ whole_as_front-numbers g c =
 
 pub whole_as_front-vertices : goal.whole_as_front-vertices
 whole_as_front-vertices g c =
-    let F = fans_seen c.w.invariant c.w.view_is c.f.invariant c.f.view_is in
-    let uses = ap length F.walks.uses ∙ ap (λ (v : Drawing). length v.joined.fan.walk.uses) c.d.view_is in
+    let uses = ap length c.uses-n.ensures.0 ∙ ap (λ (v : Fanning). length v.fan.walk.uses) c.f.view_is ∙ ap (λ (v : Drawing). length v.joined.fan.walk.uses) c.d.view_is in
     (omega (arith, uses, c.requires.uses), omega (arith, c.requires.few))
 
 pub invariant_of-solid : goal.invariant_of-solid
@@ -30,10 +29,10 @@ put_body-requires g c =
     let same = ap (λ (s : Joining). length s.edges) c.j.view_is in
     let fit : length c.j.inside.edges.now ≤ g.row.USES = omega (arith, same, ap (λ (v : Drawing). length v.joined.joining.edges) c.d.view_is, c.requires.edges) in
     let F = fans_seen c.w.invariant c.w.view_is c.f.invariant c.f.view_is in
-    let uses = ap length F.walks.uses ∙ ap (λ (v : Drawing). length v.joined.fan.walk.uses) c.d.view_is in
-    let few : length c.w.inside.uses.now ≤ g.row.USES = omega (arith, uses, c.requires.uses) in (
+    let uses = ap length c.uses-n.ensures.0 ∙ ap (λ (v : Fanning). length v.fan.walk.uses) c.f.view_is in
+    let few : length c.uses-n.result.now ≤ g.row.USES = omega (arith, uses, ap (λ (v : Drawing). length v.joined.fan.walk.uses) c.d.view_is, c.requires.uses) in (
       omega (arith, same, part_long {A = ℕ} 0 _ _ fit),
-      ends_ok F _ _ (omega (arith, part_long {A = ℕ} 0 _ _ few)) c.d.invariant,
+      ends_ok F _ _ (omega (arith, part_long {A = ℕ} 0 _ _ few, uses, ap length F.walks.uses)) c.d.invariant,
     )
 
 pub returns : goal.returns
@@ -41,5 +40,6 @@ unfolding body_of
 returns g c =
     let F = fans_seen c.w.invariant c.w.view_is c.f.invariant c.f.view_is in
     let W = F.walks in
-    let body = rw (W.uses, W.gone, W.passed, c.joins.ensures ∙ W.joins, W.job, W.groups, W.members, W.kept, F.starts) at c.put_body.ensures in
+    let uses = c.uses-n.ensures.0 ∙ ap (λ (v : Fanning). v.fan.walk.uses) c.f.view_is in
+    let body = rw (uses, W.gone, W.passed, c.joins.ensures ∙ W.joins, W.job, W.groups, W.members, W.kept, F.starts) at c.put_body.ensures in
     rw (← c.d.view_is) (rw (← ap (λ (s : Joining). s.joins) c.j.view_is, ← ap (λ (s : Joining). s.rings) c.j.view_is) body)

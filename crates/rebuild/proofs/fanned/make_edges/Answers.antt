@@ -47,6 +47,7 @@ pub returns : goal.returns
 returns c =
     let F = fans_seen c.w.invariant c.w.view_is c.f.invariant c.f.view_is in
     let walk = ap (λ (v : Fanning). v.fan.walk) c.f.view_is in
+    let uses = c.uses-uses.ensures.0 ∙ ap (λ (w : Walked). w.uses) walk ∙ sym F.walks.uses in
     let removed = c.steps.ensures.0 ∙ ap (λ (w : Walked). w.merge.removed) walk ∙ sym F.walks.removed in
     let succ = c.steps.ensures.1 ∙ ap (λ (w : Walked). w.successors) walk ∙ sym F.walks.succ in
     let made = rw (removed, succ) at c.loops-loops.ensures in
@@ -55,8 +56,8 @@ returns c =
           c.loops-loops.new.ways c.loops-loops.new.stretches _ c.edges-edges.new.rows c.edges-edges.new.owns c.items.new.ways c.loops-loops.result c.edges-edges.result
           made.0 made.1 made.2
           (cut_back _ c.args.faces.now c.loop_faces.new.faces few c.loop_faces.auto.faces
-          ∙ (rw (c.numbers.ensures.0, length-take-le _ _ few) at c.loop_faces.ensures))
-          (rw c.numbers-2.ensures.0 at c.edges-edges.ensures) c.items.ensures
+          ∙ (rw (uses, c.numbers.ensures.0, length-take-le _ _ few) at c.loop_faces.ensures))
+          (rw (uses, c.numbers-2.ensures.0) at c.edges-edges.ensures) (rw uses at c.items.ensures)
           c.edges-edges.auto.rows c.loops-loops.auto.ways c.loops-loops.auto.stretches
           (back_long _ c.args.faces.now c.loop_faces.new.faces few c.loop_faces.auto.faces),
       omega (arith, made.1, F.size),
