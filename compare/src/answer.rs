@@ -13,7 +13,7 @@ pub enum Wanted {
 
 impl Wanted {
     /// `sew`, a stage's name, or `loop` with a number; after `sew` and `walk`
-    /// perhaps `table` with its entries.
+    /// perhaps `table` with its entries, after `sew` perhaps `print-shop`.
     pub fn of_words(words: &[String]) -> Result<Self, String> {
         match words {
             [name, number] if name == "loop" => {
@@ -21,6 +21,10 @@ impl Wanted {
                 parsed.map_err(|_| format!("{number}: not the number of a loop"))
             }
             [name] if name == "sew" => Ok(Self::Sew(Supplied::Nothing)),
+            [name, word] if word == "print-shop" => match name.as_str() {
+                "sew" => Ok(Self::Sew(Supplied::PrintShop)),
+                _ => Err(format!("{name}: only sew is for a print shop")),
+            },
             [name] => Ok(Self::Stage(stage_named(name)?, Supplied::Nothing)),
             [name, word, entries] if word == "table" => {
                 let table = Supplied::Table(table_of(entries));

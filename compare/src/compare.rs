@@ -5,7 +5,7 @@ use crate::features::features;
 use crate::records;
 use crate::second::{self, Job, Refusal, Stage, Trail};
 use crate::text;
-use reference::Ending;
+use reference::{Ending, Observed};
 use std::panic::{AssertUnwindSafe, catch_unwind};
 
 /// Bytes that a listing program lends for the body.
@@ -21,7 +21,16 @@ pub struct Compared {
     pub kinds: Vec<u32>,
     /// What an accepted job has in it.
     pub features: Vec<&'static str>,
+    /// What the reference gives of a job that loads.
+    pub reference: Option<Reference>,
     pub differences: Vec<String>,
+}
+
+/// The reference's body in the room given, with what it has of one, and the fan
+/// and the point of each kept use that has ends.
+pub struct Reference {
+    pub body: Result<Vec<u8>, Ending>,
+    pub fans: Observed,
 }
 
 pub fn compare(bytes: &[u8], room: usize) -> Compared {
@@ -60,7 +69,7 @@ fn compare_loaded(bytes: &[u8], job: &Job, room: usize) -> Compared {
     differences.extend(member_twice(&whole));
     let body = second::sew_output(&trail, room);
     let reference = in_room(verdict.body, lacking(&whole), room);
-    compare_bodies(&body, reference, &mut differences);
+    compare_bodies(&body, &reference, &mut differences);
     compare_questions(&trail, &verdict.asked, &mut differences);
     let kinds = trail.asked.iter().map(|question| question.kind());
     let features = match body {
@@ -72,6 +81,10 @@ fn compare_loaded(bytes: &[u8], job: &Job, room: usize) -> Compared {
         job: None,
         kinds: kinds.collect(),
         features,
+        reference: Some(Reference {
+            body: reference,
+            fans: verdict.stages[Stage::Fans as usize].clone(),
+        }),
         differences,
     }
 }
@@ -116,7 +129,7 @@ fn member_twice(body: &[u8]) -> Option<String> {
     Some(format!("member {:?} stands twice in a body", twice[0]))
 }
 
-fn ending(refusal: Refusal) -> Ending {
+pub fn ending(refusal: Refusal) -> Ending {
     (refusal.number, refusal.place)
 }
 
@@ -136,14 +149,14 @@ fn compare_stages(trail: &Trail, found: &[reference::Observed], differences: &mu
 
 fn compare_bodies(
     ours: &Result<Vec<u8>, Refusal>,
-    reference: Result<Vec<u8>, Ending>,
+    reference: &Result<Vec<u8>, Ending>,
     differences: &mut Vec<String>,
 ) {
     let ours = ours.as_deref().map(compared).map_err(|r| ending(*r));
-    if ours != reference {
+    if ours != *reference {
         differences.push(format!(
             "sewing: reference {}, second {}",
-            shown(&reference, |body| text::listing(body)),
+            shown(reference, |body| text::listing(body)),
             shown(&ours, |body| text::listing(body))
         ));
     }

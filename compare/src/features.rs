@@ -175,7 +175,7 @@ fn note_turns(trail: &Trail, found: &mut Found) {
 }
 
 /// The turns: a use and all that "old successor of its twin" yields.
-fn turns(uses: &[Use], twins: &[usize]) -> Vec<Vec<usize>> {
+pub fn turns(uses: &[Use], twins: &[usize]) -> Vec<Vec<usize>> {
     let mut seen = vec![false; uses.len()];
     let mut turns = Vec::new();
     for start in 0..uses.len() {

@@ -6,9 +6,11 @@ mod bench;
 mod cli;
 mod compare;
 mod compared;
+mod demand;
 mod features;
 mod generate;
 mod parts;
+mod print_shop;
 mod program;
 mod run;
 mod second;
@@ -30,9 +32,10 @@ use std::io::Write;
 const USAGE: &str = "\
 usage: judge run --seed S --jobs N
        judge parts DIR [--csv FILE] [--html FILE]
-       judge answer STAGE [table ENTRIES] [--room N] < job
-                                     (STAGE: sew, a stage, loop N; a table with sew and walk)
-       judge make --seed S --job I [--table ENTRIES] > job
+       judge answer STAGE [table ENTRIES | print-shop] [--room N] < job
+                                     (STAGE: sew, a stage, loop N; a table with sew and walk,
+                                      print-shop with sew)
+       judge make --seed S --job I [--table ENTRIES | print-shop] > job
        judge vectors --seed S OUT
        judge table --seed S OUT
        judge program [--listing PATH] [--stage PATH]
@@ -103,12 +106,15 @@ fn print_answer(args: &Args) -> Result<bool, Failed> {
 }
 
 fn print_generated(args: &Args) -> Result<bool, Failed> {
-    args.no_others()?;
     let (seed, job) = (args.wanted_number("seed")?, args.wanted_number("job")?);
     let drawn = generate::sample(seed, job).job;
     let Some(entries) = args.option("table") else {
-        return print(&drawn);
+        return match &args.others[..] {
+            [word] if word == "print-shop" => print(&run::for_print(&drawn, seed, job)),
+            _ => args.no_others().and_then(|()| print(&drawn)),
+        };
     };
+    args.no_others()?;
     let table = generate::tables::Drawn {
         bytes: answer::table_of(entries),
         fault: None,

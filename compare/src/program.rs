@@ -5,7 +5,7 @@ use crate::cli::{self, Args, Failed, say};
 use crate::compare::ROOM;
 use crate::generate::rng::Rng;
 use crate::generate::{self, tables};
-use crate::run::with_table;
+use crate::run::{for_print, with_table};
 use crate::second::Stage;
 use crate::vectors;
 use std::io::Write;
@@ -17,11 +17,12 @@ use std::sync::atomic::{AtomicUsize, Ordering};
 /// Differences shown at most.
 const SHOWN: usize = 40;
 
-/// A job, what to call it, and tables to supply with it.
+/// A job, what to call it, tables to supply with it, and the job for a print shop.
 struct Named {
     name: String,
     job: Vec<u8>,
     tables: Vec<Vec<u8>>,
+    for_print: Vec<u8>,
 }
 
 struct Programs<'a> {
@@ -78,8 +79,9 @@ fn jobs(args: &Args) -> Result<Vec<Named>, Failed> {
                 .filter(|(operation, _)| *operation == 14);
             Named {
                 name: format!("vector {i}"),
-                job,
                 tables: of_sewing.map(|(_, table)| table).collect(),
+                for_print: job.clone(),
+                job,
             }
         });
         return Ok(named.collect());
@@ -88,10 +90,12 @@ fn jobs(args: &Args) -> Result<Vec<Named>, Failed> {
         let files = cli::job_files(&[path.to_string()])?;
         let named = |(i, file): (usize, std::path::PathBuf)| {
             let table = tables::some(&mut Rng::new(48, i as u64)).bytes;
+            let job = cli::read_job(&file)?;
             Ok(Named {
                 name: file.display().to_string(),
-                job: cli::read_job(&file)?,
                 tables: vec![table],
+                for_print: job.clone(),
+                job,
             })
         };
         return files.into_iter().enumerate().map(named).collect();
@@ -99,36 +103,46 @@ fn jobs(args: &Args) -> Result<Vec<Named>, Failed> {
     let (seed, jobs) = (args.wanted_number("seed")?, args.wanted_number("jobs")?);
     let sample = |i| {
         let table = tables::of_job(seed, i);
-        let job = with_table(&generate::sample(seed, i).job, &table, seed, i);
+        let job = generate::sample(seed, i).job;
         Named {
             name: format!("job {i}"),
-            job,
+            for_print: for_print(&job, seed, i),
+            job: with_table(&job, &table, seed, i),
             tables: vec![table.bytes],
         }
     };
     Ok((0..jobs).map(sample).collect())
 }
 
-/// Runs both programs on a job, ordinarily and with its tables; counts runs and
-/// differences.
+/// Runs both programs on a job, ordinarily and with its tables, and listing for a
+/// print shop; counts runs and differences.
 fn one(programs: &Programs, job: &Named, counts: &Mutex<(usize, usize)>) -> Result<(), Failed> {
     // No word of text says some faulty tables.
     let tables = job.tables.iter().filter_map(|table| entries_of(table));
     let tables: Vec<String> = tables.collect();
+    let all = (&job.name[..], &job.job[..]);
     if let Some(path) = programs.listing {
-        check(path, &[], &["sew"], job, counts)?;
+        check(path, &[], &["sew"], all, counts)?;
         for entries in &tables {
             let words = ["table", entries];
-            check(path, &words, &["sew", "table", entries], job, counts)?;
+            check(path, &words, &["sew", "table", entries], all, counts)?;
         }
+        let for_print = (&job.name[..], &job.for_print[..]);
+        check(
+            path,
+            &["print-shop"],
+            &["sew", "print-shop"],
+            for_print,
+            counts,
+        )?;
     }
     if let Some(path) = programs.stage {
         for stage in Stage::ALL {
-            check(path, &[stage.name()], &[stage.name()], job, counts)?;
+            check(path, &[stage.name()], &[stage.name()], all, counts)?;
         }
         for entries in &tables {
             let words = ["walk", "table", entries];
-            check(path, &words, &words, job, counts)?;
+            check(path, &words, &words, all, counts)?;
         }
     }
     Ok(())
@@ -140,7 +154,7 @@ fn check(
     path: &str,
     arguments: &[&str],
     wanted: &[&str],
-    Named { name, job, .. }: &Named,
+    (name, job): (&str, &[u8]),
     counts: &Mutex<(usize, usize)>,
 ) -> Result<(), Failed> {
     let printed = printed(path, arguments, job).map_err(|error| format!("{path}: {error}"))?;

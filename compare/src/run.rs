@@ -3,9 +3,10 @@
 use crate::cli::say;
 use crate::compare::{Compared, compare};
 use crate::generate::rng::Rng;
-use crate::generate::{self, Expected, Sample, tables as drawn};
+use crate::generate::{self, Expected, Sample, print_shop as drawn_for_print, tables as drawn};
+use crate::print_shop;
 use crate::summary::Summary;
-use crate::tables::{self, Held};
+use crate::tables;
 use crate::twice;
 use std::sync::Mutex;
 use std::sync::atomic::{AtomicU64, Ordering};
@@ -39,20 +40,73 @@ pub fn with_table(job: &[u8], table: &drawn::Drawn, seed: u64, index: u64) -> Ve
 }
 
 /// The sample with the table drawn for it.
-pub fn judge_table(sample: &Sample, seed: u64, index: u64) -> Held {
+pub fn judge_table(sample: &Sample, seed: u64, index: u64) -> tables::Held {
     let table = drawn::of_job(seed, index);
     let job = with_table(&sample.job, &table, seed, index);
     tables::hold(&job, sample.room, &table)
 }
 
-/// Draws a job and compares it, ordinarily and with a table. Drawing sews as
-/// well, to know the questions.
-fn draw_and_judge(seed: u64, index: u64) -> (Sample, Compared, Option<Held>) {
+/// Job number `index` of a seed as it is sewn for a print shop.
+pub fn for_print(job: &[u8], seed: u64, index: u64) -> Vec<u8> {
+    drawn_for_print::suited(job, &mut Rng::new(seed, index).apart(41))
+}
+
+/// The sample, as it was compared, for a print shop. A job made of it is compared
+/// with the reference too.
+pub fn judge_print(
+    sample: &Sample,
+    compared: &Compared,
+    seed: u64,
+    index: u64,
+) -> print_shop::Held {
+    let job = for_print(&sample.job, seed, index);
+    if job == sample.job {
+        return print_shop::hold(&job, sample.room, compared);
+    }
+    let compared = compare(&job, sample.room);
+    let mut held = print_shop::hold(&job, sample.room, &compared);
+    held.differences.extend(compared.differences);
+    held
+}
+
+/// A job with what was found about it.
+struct Judged {
+    sample: Sample,
+    compared: Compared,
+    with_table: Option<tables::Held>,
+    for_print: Option<print_shop::Held>,
+}
+
+impl Judged {
+    /// The first difference, in words.
+    fn told(&self) -> Option<String> {
+        let ordinary = self.compared.differences.first().cloned();
+        let with_table = self.with_table.as_ref().and_then(|held| {
+            let told = held.differences.first()?;
+            Some(format!("with table {:?}: {told}", held.table))
+        });
+        let for_print = self.for_print.as_ref().and_then(|held| {
+            let told = held.differences.first()?;
+            Some(format!("for print: {told}"))
+        });
+        ordinary.or(with_table).or(for_print)
+    }
+}
+
+/// Draws a job and compares it, ordinarily, with a table and for print. Drawing
+/// sews as well, to know the questions.
+fn draw_and_judge(seed: u64, index: u64) -> Judged {
     let drawn = std::panic::catch_unwind(|| {
         let sample = generate::sample(seed, index);
         let compared = judge(&sample);
-        let held = judge_table(&sample, seed, index);
-        (sample, compared, Some(held))
+        let with_table = Some(judge_table(&sample, seed, index));
+        let for_print = Some(judge_print(&sample, &compared, seed, index));
+        Judged {
+            sample,
+            compared,
+            with_table,
+            for_print,
+        }
     });
     drawn.unwrap_or_else(|_| {
         let sample = Sample {
@@ -66,7 +120,12 @@ fn draw_and_judge(seed: u64, index: u64) -> (Sample, Compared, Option<Held>) {
             differences: vec![stopped],
             ..Compared::default()
         };
-        (sample, compared, None)
+        Judged {
+            sample,
+            compared,
+            with_table: None,
+            for_print: None,
+        }
     })
 }
 
@@ -98,25 +157,22 @@ pub fn run(seed: u64, jobs: u64) -> bool {
 }
 
 fn one(seed: u64, index: u64, jobs: u64, summary: &Mutex<Summary>) {
-    let (sample, compared, held) = draw_and_judge(seed, index);
+    let judged = draw_and_judge(seed, index);
+    let sample = &judged.sample;
     let mut summary = summary.lock().expect("no worker stopped");
-    summary.add(sample.class, &sample.job, &compared);
-    let with_table = held.and_then(|held| {
-        summary.tables.add(&held);
-        let told = held.differences.first()?;
-        Some(format!("with table {:?}: {told}", held.table))
-    });
-    if let Some(told) = compared.differences.first().or(with_table.as_ref())
-        && summary.unlike + summary.tables.unlike <= SHOWN
+    summary.add(sample.class, &sample.job, &judged.compared);
+    let with_table = judged.with_table.iter();
+    with_table.for_each(|held| summary.tables.add(held));
+    let for_print = judged.for_print.iter();
+    for_print.for_each(|held| summary.prints.add(held));
+    let unlike = summary.all_unlike();
+    if let Some(told) = judged.told()
+        && unlike <= SHOWN
     {
         let length = sample.job.len();
         say!("job {index} ({}, {length} bytes): {told}", sample.class);
     }
     if summary.jobs.is_multiple_of(1_000) {
-        eprint!(
-            "\r{} of {jobs} jobs, {} disagree",
-            summary.jobs,
-            summary.unlike + summary.tables.unlike
-        );
+        eprint!("\r{} of {jobs} jobs, {unlike} disagree", summary.jobs);
     }
 }

@@ -2,6 +2,7 @@
 
 use crate::compare::Compared;
 use crate::generate::CLASSES;
+use crate::print_shop::totals::Prints;
 use crate::second::{Job, Refusal, load};
 use crate::tables::totals::Tables;
 use std::collections::BTreeMap;
@@ -27,6 +28,7 @@ pub struct Summary {
     /// Loaded jobs that reach each limit.
     full: [usize; 7],
     pub tables: Tables,
+    pub prints: Prints,
 }
 
 /// What is counted in a job, and its limit.
@@ -100,7 +102,12 @@ impl Summary {
     }
 
     pub fn agrees(&self) -> bool {
-        self.unlike == 0 && self.tables.unlike == 0
+        self.all_unlike() == 0
+    }
+
+    /// Disagreements, with tables and for print too.
+    pub fn all_unlike(&self) -> usize {
+        self.unlike + self.tables.unlike + self.prints.unlike
     }
 
     /// The summary of any jobs.
@@ -140,6 +147,7 @@ impl Summary {
         }
         lines.push(format!("loaded at a limit: {}", sizes(self.full)));
         lines.extend(self.tables.lines());
+        lines.extend(self.prints.lines());
         lines.extend(self.lines());
         lines
     }

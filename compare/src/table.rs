@@ -10,7 +10,9 @@ use crate::records;
 use crate::run::judge;
 use crate::second::load::{MAX_BYTES, MAX_FACES};
 use crate::second::{self, Stage, Supplied};
-use crate::vectors::{Answer, sew_answer, stage_answer, suited_jobs};
+use crate::vectors::{
+    Answer, print_shop_parts, printed_jobs, sew_answer, stage_answer, suited_jobs,
+};
 use std::collections::BTreeMap;
 use std::fmt::Write;
 
@@ -34,7 +36,7 @@ const HEAD: &str = "\
 use Rattle.std.specs.Prelude.{◌≡◌, refl, List, [], ◌∷◌, Bool, true, false, not, ◌&&◌, cond, ℕ, eqb, replicate}
 use Rattle.lists.specs.Lists.{positions, same}
 use Rattle.rules.specs.Outcome.{Outcome, Ok, Err, fault_number}
-use Rattle.rules.specs.Rules.{ordinary}
+use Rattle.rules.specs.Rules.{ordinary, print_shop}
 use Rattle.rules.specs.Sew.{sewn, sewn_with_table}
 use Rattle.rules.specs.Stage.{read_stage, pair_stage, merge_stage, vertex_loop_stage, walk_stage, walk_stage_with_table, loop_stage, fan_stage, edge_stage, joining_stage, shell_stage, lump_stage}
 use Rattle.rules.specs.Open.{computes}
@@ -44,8 +46,8 @@ pub data Told : Type 0 where
   wrote : List ℕ → Told
   refused : ℕ → ℕ → Told
 
--- a job, the operation (0 sewing, 1 to 11 the stages, 14 and 15 sewing and the walk stage with a table), the table,
--- the room, the answer
+-- a job, the operation (0 sewing, 1 to 11 the stages, 14 and 15 sewing and the walk stage with a table, 16 sewing for a
+-- print shop), the table, the room, the answer
 pub record Row : Type 0 where
   pub job : List ℕ
   pub operation : ℕ
@@ -61,10 +63,11 @@ agrees (Err r) (refused n p) = eqb (fault_number r.fault) n && eqb r.place p
 
 unfoldable stages : ℕ → List ℕ → List ℕ → ℕ → Outcome (List ℕ)
 stages o table job room =
-    cond (eqb o 14) (sewn_with_table table job room)
+    cond (eqb o 16) (sewn print_shop job room)
+    (cond (eqb o 14) (sewn_with_table table job room)
     (cond (eqb o 15) (walk_stage_with_table table job room)
     (cond (eqb o 1) (read_stage job room)
-    (cond (eqb o 2) (pair_stage job room)
+    (cond (eqb o 2) (pair_stage ordinary job room)
     (cond (eqb o 3) (merge_stage ordinary job room)
     (cond (eqb o 4) (vertex_loop_stage ordinary job room)
     (cond (eqb o 5) (walk_stage ordinary job room)
@@ -74,7 +77,7 @@ stages o table job room =
     (cond (eqb o 9) (joining_stage ordinary job room)
     (cond (eqb o 10) (shell_stage ordinary job room)
     (cond (eqb o 11) (lump_stage ordinary job room)
-    (sewn ordinary job room)))))))))))))
+    (sewn ordinary job room))))))))))))))
 
 unfoldable wrong : Row → Bool
 wrong r = not (agrees (stages r.operation r.table r.job r.room) r.answer)
@@ -102,13 +105,16 @@ pub fn table(seed: u64) -> Result<(String, String), Failed> {
     }
     let jobs: usize = classes.values().sum();
     let with_tables = table_rows(seed)?;
+    let for_print = print_shop_rows(seed)?;
     let said = format!(
-        "{} jobs, {} rows; by class {classes:?}; by ending (0 accepted) {numbers:?}; {} rows with tables",
+        "{} jobs, {} rows; by class {classes:?}; by ending (0 accepted) {numbers:?}; {} rows with tables; {} jobs more for print",
         jobs + 2,
         rows.len(),
-        with_tables.len()
+        with_tables.len(),
+        for_print.len()
     );
     rows.extend(with_tables);
+    rows.extend(for_print);
     Ok((module(&rows), said))
 }
 
@@ -171,7 +177,8 @@ fn jobs_of(class: &'static str, c: usize, seed: u64) -> Result<Vec<(Vec<u8>, usi
     Ok(jobs)
 }
 
-/// Rows for sewing and for each stage of a job; gives sewing's number.
+/// Rows for sewing, ordinarily and for print, and for each stage of a job; gives
+/// ordinary sewing's number.
 fn add_rows(rows: &mut Vec<Row>, job: &[u8], room: usize) -> u32 {
     let sewn = second::sewn(&Supplied::Nothing, job);
     let answer = sew_answer(&sewn, room);
@@ -183,6 +190,7 @@ fn add_rows(rows: &mut Vec<Row>, job: &[u8], room: usize) -> u32 {
         room,
         answer,
     });
+    rows.push(print_shop_row(job, room));
     if sewn.is_err() {
         return number;
     }
@@ -201,6 +209,25 @@ fn add_rows(rows: &mut Vec<Row>, job: &[u8], room: usize) -> u32 {
         }
     }
     number
+}
+
+/// The parts for a print shop, and jobs of each of its endings.
+fn print_shop_rows(seed: u64) -> Result<Vec<Row>, Failed> {
+    let drawn = printed_jobs(seed, LONGEST, ONE)?;
+    let jobs = print_shop_parts()?.into_iter().chain(drawn);
+    Ok(jobs.map(|job| print_shop_row(&job, ROOM)).collect())
+}
+
+/// A job sewn for a print shop.
+fn print_shop_row(job: &[u8], room: usize) -> Row {
+    let sewn = second::sewn(&Supplied::PrintShop, job);
+    Row {
+        job: list(job),
+        operation: 16,
+        table: Vec::new(),
+        room,
+        answer: sew_answer(&sewn, room),
+    }
 }
 
 /// Rows with tables: the faulty ones, the permitted ones, and the lesser ones with

@@ -62,11 +62,11 @@ pub fn hold(bytes: &[u8], room: usize, table: &Drawn) -> Held {
     held
 }
 
-fn sew_in(sewn: &Sewn, room: usize) -> Result<Vec<u8>, Refusal> {
+pub fn sew_in(sewn: &Sewn, room: usize) -> Result<Vec<u8>, Refusal> {
     second::sew_output(sewn.as_ref().map_err(|refusal| *refusal)?, room)
 }
 
-fn ended(sewn: &Sewn) -> String {
+pub fn ended(sewn: &Sewn) -> String {
     let refusal = sewn
         .as_ref()
         .map_or_else(|r| Some(*r), |trail| trail.refusal);
@@ -88,7 +88,7 @@ fn not_refused(place: u32, tabled: &Sewn) -> Option<String> {
 }
 
 /// Where two sewings differ: in a stage, the body, or the questions put.
-fn unlike(a: &Trail, b: &Trail, room: usize) -> Vec<String> {
+pub fn unlike(a: &Trail, b: &Trail, room: usize) -> Vec<String> {
     let mut told = Vec::new();
     for stage in Stage::ALL {
         for room in [usize::MAX, room] {
@@ -200,7 +200,7 @@ fn left_apart(job: &Job, table: &[u8], tabled: &Trail) -> Option<String> {
 }
 
 /// Each kept use stands in one loop, once.
-fn loops_lack(tabled: &Trail) -> Option<String> {
+pub fn loops_lack(tabled: &Trail) -> Option<String> {
     let (loops, steps) = (tabled.loops.as_ref()?, tabled.steps.as_ref()?);
     let mut walked: Vec<usize> = loops.iter().flat_map(|l| l.uses.clone()).collect();
     walked.sort_unstable();

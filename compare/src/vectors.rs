@@ -5,7 +5,8 @@ use crate::compare::{ROOM, compare};
 use crate::generate::rng::Rng;
 use crate::generate::tables::{Drawn, FAULTY, FULL, LESSER, suited};
 use crate::generate::{self, CLASSES, Sample, limits};
-use crate::run::judge;
+use crate::print_shop::{self, MANY_FANS, MANY_USES, sorts};
+use crate::run::{self, judge};
 use crate::second::load::MAX_BYTES;
 use crate::second::{self, Refusal, Sewn, Stage, Supplied};
 use crate::tables;
@@ -24,6 +25,11 @@ const LONG: usize = 8_000;
 const DRAWN: u64 = 3_000;
 /// Jobs kept for a table of each class, and of each refusal.
 const SUITED: usize = 2;
+/// Jobs drawn of each class for a print shop.
+const DRAWN_FOR_PRINT: u64 = 1_800;
+/// Jobs kept for a print shop of each ending, of each that it comes before, and of
+/// each sort.
+const PRINTED: usize = 2;
 /// Longest body that is written out.
 const WRITTEN_OUT: usize = 4_096;
 
@@ -43,6 +49,49 @@ const PARTS: [&str; 9] = [
     include_str!("../parts/P7.txt"),
     include_str!("../parts/P8.txt"),
     include_str!("../parts/P9.txt"),
+];
+
+/// The parts for a print shop.
+const PRINT_SHOP_PARTS: [&str; 39] = [
+    include_str!("../parts/requests/two-before-31.txt"),
+    include_str!("../parts/requests/two-before-34.txt"),
+    include_str!("../parts/requests/two-before-eleven.txt"),
+    include_str!("../parts/requests/two-before-joining.txt"),
+    include_str!("../parts/requests/two-before-ten.txt"),
+    include_str!("../parts/requests/two-both.txt"),
+    include_str!("../parts/requests/two-edge-not-use.txt"),
+    include_str!("../parts/requests/two-eleven-first.txt"),
+    include_str!("../parts/requests/two-equal-senses.txt"),
+    include_str!("../parts/requests/two-five-uses.txt"),
+    include_str!("../parts/requests/two-four-uses.txt"),
+    include_str!("../parts/requests/two-higher-points.txt"),
+    include_str!("../parts/requests/two-highest-point.txt"),
+    include_str!("../parts/requests/two-joined.txt"),
+    include_str!("../parts/requests/two-loading-first.txt"),
+    include_str!("../parts/requests/two-lower-than-31.txt"),
+    include_str!("../parts/requests/two-lowest-point.txt"),
+    include_str!("../parts/requests/two-lump.txt"),
+    include_str!("../parts/requests/two-no-faces.txt"),
+    include_str!("../parts/requests/two-no-fan-left.txt"),
+    include_str!("../parts/requests/two-one-fan-two-vertices.txt"),
+    include_str!("../parts/requests/two-opposed.txt"),
+    include_str!("../parts/requests/two-other-points.txt"),
+    include_str!("../parts/requests/two-point-zero.txt"),
+    include_str!("../parts/requests/two-removed.txt"),
+    include_str!("../parts/requests/two-rings.txt"),
+    include_str!("../parts/requests/two-seam.txt"),
+    include_str!("../parts/requests/two-six-uses.txt"),
+    include_str!("../parts/requests/two-surfaces-first.txt"),
+    include_str!("../parts/requests/two-ten-first.txt"),
+    include_str!("../parts/requests/two-three-uses.txt"),
+    include_str!("../parts/requests/two-touching.txt"),
+    include_str!("../parts/requests/two-two-such-edges.txt"),
+    include_str!("../parts/requests/two-two-vertices.txt"),
+    include_str!("../parts/requests/two-undecided.txt"),
+    include_str!("../parts/requests/two-vertex-loop.txt"),
+    include_str!("../parts/requests/two-vertex-loops-first.txt"),
+    include_str!("../parts/requests/two-walls-removed.txt"),
+    include_str!("../parts/requests/two-walls.txt"),
 ];
 
 pub struct Packed {
@@ -71,6 +120,9 @@ pub fn vectors(seed: u64) -> Result<Packed, Failed> {
         .collect();
     let suited = suited_jobs(seed, SMALL, SUITED)?.into_iter();
     all.extend(suited.map(|(job, table)| (job, ROOM, vec![table])));
+    let printed = print_shop_parts()?.into_iter();
+    let printed = printed.chain(printed_jobs(seed, SMALL, PRINTED)?);
+    all.extend(printed.map(|job| (job, ROOM, Vec::new())));
     let mut bytes = (all.len() as u32).to_le_bytes().to_vec();
     for (job, room, tables) in &all {
         agreed(job, tables)?;
@@ -83,6 +135,13 @@ pub fn vectors(seed: u64) -> Result<Packed, Failed> {
         bytes,
         jobs: all.len(),
     })
+}
+
+/// The jobs of the parts for a print shop.
+pub fn print_shop_parts() -> Result<Vec<Vec<u8>>, Failed> {
+    let jobs = PRINT_SHOP_PARTS.map(|part| job_text::assemble(part.as_bytes()));
+    let jobs: Result<Vec<Vec<u8>>, _> = jobs.into_iter().collect();
+    jobs.map_err(|_| "a part for a print shop is wrong".to_string())
 }
 
 /// The tables for a job: all that are permitted for a part, one of them for the
@@ -157,6 +216,56 @@ fn suited_job(
     };
     let sort = (table.bytes.clone(), sort);
     Ok(Some((job, table, sort)))
+}
+
+/// Jobs for a print shop, of every class and none longer than so many bytes: so many
+/// of each ending, of each ending that 41 and 42 come before, and of each sort.
+pub fn printed_jobs(seed: u64, longest: usize, most: usize) -> Result<Vec<Vec<u8>>, Failed> {
+    let mut jobs = Vec::new();
+    let mut kept: BTreeMap<String, usize> = BTreeMap::new();
+    let draws = (0..CLASSES.len()).flat_map(|c| (0..DRAWN_FOR_PRINT).map(move |i| (c, i)));
+    for (c, i) in draws {
+        let (class, _) = CLASSES[c];
+        let mut rng = Rng::new(seed, (c as u64) << 32 | i);
+        let sample = generate::sample_of(class, &mut rng);
+        let job = run::for_print(&sample.job, seed, (c as u64) << 32 | i);
+        if job.len() > longest || second::load(&job).is_err() {
+            continue;
+        }
+        let sorts =
+            sorts_for_print(&job).map_err(|told| format!("{class} job {i} for print: {told}"))?;
+        let few = |sort: &String| kept.get(sort).is_none_or(|count| *count < most);
+        if sorts.iter().any(few) {
+            for sort in sorts {
+                *kept.entry(sort).or_default() += 1;
+            }
+            jobs.push(job);
+        }
+    }
+    Ok(jobs)
+}
+
+/// The sorts of a job's ending for print, with the ordinary one that a fault comes
+/// before; or a difference.
+fn sorts_for_print(job: &[u8]) -> Result<Vec<String>, String> {
+    let compared = compare(job, ROOM);
+    let held = print_shop::hold(job, ROOM, &compared);
+    if let Some(difference) = compared
+        .differences
+        .into_iter()
+        .chain(held.differences)
+        .next()
+    {
+        return Err(difference);
+    }
+    let fault = held
+        .refusal
+        .filter(|refusal| [MANY_USES, MANY_FANS].contains(&refusal.number));
+    let ending = match fault {
+        Some(fault) => format!("{} before {}", fault.number, sorts::ending(held.ordinary)),
+        None => format!("{} for print", sorts::ending(held.refusal)),
+    };
+    Ok(held.sorts.into_iter().chain([ending]).collect())
 }
 
 /// Jobs of every class, mostly small ones, a few for each ending.
@@ -284,7 +393,9 @@ fn limit_jobs(
 
 fn agreed(job: &[u8], tables: &[Drawn]) -> Result<(), Failed> {
     let with_tables = tables.iter().map(|table| tables::hold(job, ROOM, table));
-    let mut differences = compare(job, ROOM).differences;
+    let compared = compare(job, ROOM);
+    let mut differences = print_shop::hold(job, ROOM, &compared).differences;
+    differences.extend(compared.differences);
     differences.extend(with_tables.flat_map(|held| held.differences));
     match differences.into_iter().next() {
         None => Ok(()),
@@ -301,7 +412,7 @@ fn pack(out: &mut Vec<u8>, job: &[u8], room: usize, tables: &[Drawn]) {
     let sewn = second::sewn(&Supplied::Nothing, job);
     let body = sew_answer(&sewn, ROOM);
     let rooms = rooms(&body, room);
-    put(out, (13 + rooms.len() + 2 * tables.len()) as u32);
+    put(out, (14 + rooms.len() + 2 * tables.len()) as u32);
     put_answer(out, 0, &body);
     put_body(out, &body);
     for (i, stage) in Stage::ALL.into_iter().enumerate() {
@@ -324,6 +435,9 @@ fn pack(out: &mut Vec<u8>, job: &[u8], room: usize, tables: &[Drawn]) {
         put_table(out, 15, &table.bytes);
         put_ending(out, &stage_answer(&sewn, Stage::Walk));
     }
+    let for_print = sew_answer(&second::sewn(&Supplied::PrintShop, job), ROOM);
+    put_answer(out, 16, &for_print);
+    put_body(out, &for_print);
 }
 
 /// An operation with a table, and the table.
@@ -475,7 +589,7 @@ impl<'a> Reader<'a> {
         self.field()?;
         if number == 0 {
             self.field()?;
-            if [0, 13, 14].contains(&operation) {
+            if [0, 13, 14, 16].contains(&operation) {
                 let shown = self.field()? as usize;
                 self.bytes(shown)?;
             }

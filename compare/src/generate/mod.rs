@@ -3,9 +3,11 @@
 pub mod classes;
 pub mod damage;
 pub mod draft;
+pub mod filling;
 pub mod grow;
 pub mod limits;
 pub mod oracle;
+pub mod print_shop;
 pub mod repeats;
 pub mod rng;
 pub mod shapes;

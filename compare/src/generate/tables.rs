@@ -1,12 +1,10 @@
 //! Joining tables to supply with a job, permitted and faulty ones, and jobs that
 //! suit a table.
 
+use super::filling::{Put, filled};
 use super::rng::Rng;
-use crate::records::{self, Record};
-use crate::second::load::{MAX_ANSWERS, MAX_BYTES};
-use crate::second::questions::Answers;
-use crate::second::{self, Question, Reply, Rules, Supplied};
-use std::collections::BTreeMap;
+use crate::records;
+use crate::second::{self, Rules, Supplied};
 
 /// The full table: it joins where document 01 does.
 pub const FULL: [u8; 4] = [1, 0, 0, 1];
@@ -204,74 +202,8 @@ fn turned(job: &[u8], rng: &mut Rng) -> Vec<u8> {
 /// not. Surfaces and the order round edges are asked under every table alike, and
 /// stay as they are.
 fn answered(job: Vec<u8>, rules: Rules, rng: &mut Rng) -> Vec<u8> {
-    let Ok(loaded) = second::load(&job) else {
-        return job;
-    };
     if rules == Rules::ORDINARY {
         return job;
     }
-    let mut filling = Filling {
-        before: &loaded.answers,
-        added: BTreeMap::new(),
-        first_outer: None,
-        rng,
-    };
-    second::sew_by(rules, &loaded, &mut filling);
-    let added: Vec<Record> = filling.added.iter().map(record).collect();
-    let answers = loaded.answers.len() + added.len();
-    let longer = [&job, &records::to_bytes(&added)[..]].concat();
-    match answers <= MAX_ANSWERS && longer.len() <= MAX_BYTES {
-        true => longer,
-        false => job,
-    }
-}
-
-/// The record of an answer that is a value.
-fn record((question, value): (&Question, &u32)) -> Record {
-    let mut fields = question.numbers();
-    fields.push(*value);
-    (question.kind() as u16, fields)
-}
-
-/// A job's answers, and others where it has none.
-struct Filling<'a> {
-    before: &'a BTreeMap<Question, Reply>,
-    added: BTreeMap<Question, u32>,
-    /// The first shell asked is outer, and every void lies in it.
-    first_outer: Option<u32>,
-    rng: &'a mut Rng,
-}
-
-impl Filling<'_> {
-    fn made_up(&mut self, question: &Question) -> Option<u32> {
-        let percent = match *question {
-            Question::Radial { .. } | Question::Surface { .. } => return None,
-            Question::Points { .. } => 30,
-            Question::Curves { .. } => 80,
-            Question::Singular { .. } => 20,
-            Question::Orientation { .. } if self.first_outer.is_none() => 100,
-            Question::Orientation { .. } => 60,
-            Question::Inside { container, .. } if self.first_outer == Some(container) => 100,
-            Question::Inside { .. } => 50,
-        };
-        Some(u32::from(self.rng.chance(percent)))
-    }
-}
-
-impl Answers for Filling<'_> {
-    fn answer(&mut self, question: &Question) -> Option<Reply> {
-        let reply = match (self.before.get(question), self.added.get(question)) {
-            (Some(before), _) => before.clone(),
-            (None, Some(added)) => Reply::Value(*added),
-            (None, None) => {
-                let value = self.made_up(question)?;
-                self.added.insert(question.clone(), value);
-                Reply::Value(value)
-            }
-        };
-        if let (Question::Orientation { face }, Reply::Value(1)) = (question, &reply) {
-            self.first_outer.get_or_insert(*face);
-        }
-        Some(reply)
-    }
+    filled(job, rules, Put::Later, rng)
 }

@@ -54,6 +54,9 @@ pub struct Programs {
     /// Sewing and the walk stage of the tested program with a table, which the
     /// reference has not.
     pub with_table: fn(&[u8], &[u8]) -> [Answer; 2],
+    /// Sewing of the tested program for a print shop, which the reference has not
+    /// either.
+    pub for_print: fn(&[u8]) -> Answer,
     pub reference: fn(&[u8]) -> (Answers, Vec<String>),
 }
 
@@ -63,6 +66,7 @@ pub const PROGRAMS: Programs = Programs {
     name: "library",
     tested: library,
     with_table: library_with_table,
+    for_print: library_for_print,
     reference,
 };
 
@@ -72,6 +76,7 @@ pub const PROGRAMS: Programs = Programs {
     name: SECOND,
     tested: second,
     with_table: second_with_table,
+    for_print: second_for_print,
     reference,
 };
 
@@ -117,6 +122,13 @@ fn library_with_table(table: &[u8], job: &[u8]) -> [Answer; 2] {
     [body, answer(&out, ended)]
 }
 
+#[cfg(feature = "library")]
+fn library_for_print(job: &[u8]) -> Answer {
+    let mut out = vec![0; ROOM];
+    let ended = zaxclover::sew_for_print(job, &mut out);
+    answer(&out, ended)
+}
+
 /// The second implementation, also for jobs that do not load.
 pub fn second(job: &[u8]) -> Answers {
     let sewn = second::sewn(&Supplied::Nothing, job);
@@ -129,6 +141,11 @@ pub fn second_with_table(table: &[u8], job: &[u8]) -> [Answer; 2] {
     let sewn = second::sewn(&Supplied::Table(table.to_vec()), job);
     let walk = stage_answer(&sewn, Stage::Walk);
     [sew_answer(&sewn, ROOM), walk].map(|answer| answer.map_err(ended))
+}
+
+pub fn second_for_print(job: &[u8]) -> Answer {
+    let sewn = second::sewn(&Supplied::PrintShop, job);
+    sew_answer(&sewn, ROOM).map_err(ended)
 }
 
 fn ended(refusal: second::Refusal) -> Ending {

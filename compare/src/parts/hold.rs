@@ -4,8 +4,10 @@ use super::answers::{self, Answer, Answers, Programs, SECOND};
 use super::kinds::Kind;
 use super::{loops, split};
 use crate::generate::tables::{FULL, LESSER};
+use crate::print_shop::{MANY_FANS, MANY_USES};
 use crate::second::{self, Stage};
 use crate::text;
+use reference::Ending;
 use std::fmt;
 use std::panic::{AssertUnwindSafe, catch_unwind};
 
@@ -83,6 +85,7 @@ pub fn hold(job: &[u8], programs: &Programs) -> Held {
     let asked = loads && programs.name != SECOND && !differences.is_empty();
     if let (Ok(ordinary), true) = (&tested, differences.is_empty()) {
         differences.extend(with_tables(job, programs, ordinary));
+        differences.extend(for_print(job, programs, ordinary));
     }
     Held {
         uses: tested.as_ref().ok().and_then(uses),
@@ -174,6 +177,9 @@ const TABLES: [&[u8]; 5] = [
 /// What the program's own answers are called that a table must not change.
 const WITHOUT: &str = "without a table";
 
+/// And those that a print shop must get too.
+const ORDINARILY: &str = "ordinarily";
+
 /// With the full table sewing and the walk stage end as without one; with others
 /// as in the second implementation, since the reference has none. The first
 /// difference.
@@ -199,22 +205,21 @@ fn with_table(
     let theirs = caught(|| answers(table, job));
     match (ours, theirs) {
         (Ok(ours), Ok(theirs)) => unlike_with_table(table, names, &ours, &theirs),
-        (ours, theirs) => stopped_with_table(table, names, [ours.err(), theirs.err()]),
+        (ours, theirs) => {
+            let with = format!("with table {}", shown(table));
+            stopped(&with, names, [ours.err(), theirs.err()])
+        }
     }
 }
 
 /// The first program that stopped, by what each said if it did.
-fn stopped_with_table(
-    table: &[u8],
-    names: [&str; 2],
-    given: [Option<String>; 2],
-) -> Option<Difference> {
+fn stopped(how: &str, names: [&str; 2], given: [Option<String>; 2]) -> Option<Difference> {
     let stopped = names.into_iter().zip(given);
     let mut said = stopped.filter_map(|(name, said)| Some((name, said?)));
     let (name, said) = said.next()?;
     Some(Difference {
         kind: Kind::Stop,
-        told: format!("{name} stopped with table {}: {said}", shown(table)),
+        told: format!("{name} stopped {how}: {said}"),
     })
 }
 
@@ -239,6 +244,40 @@ fn unlike_with_table(
     };
     Some(Difference {
         kind: Kind::Table,
+        told,
+    })
+}
+
+/// For a print shop sewing ends as in the second implementation, since the
+/// reference has no such rules, and if it is not refused for them, as it does
+/// ordinarily.
+fn for_print(job: &[u8], programs: &Programs, ordinary: &Answers) -> Option<Difference> {
+    let names = [programs.name, SECOND];
+    let ours = caught(|| (programs.for_print)(job));
+    let theirs = caught(|| answers::second_for_print(job));
+    let (ours, theirs) = match (ours, theirs) {
+        (Ok(ours), Ok(theirs)) => (ours, theirs),
+        (ours, theirs) => return stopped("for print", names, [ours.err(), theirs.err()]),
+    };
+    let only_there = |(number, _): &Ending| [MANY_USES, MANY_FANS].contains(number);
+    let fault = ours.as_ref().is_err_and(only_there);
+    unlike_for_print(names, &ours, &theirs).or_else(|| match fault {
+        true => None,
+        false => unlike_for_print([programs.name, ORDINARILY], &ours, &ordinary.body),
+    })
+}
+
+fn unlike_for_print(names: [&str; 2], ours: &Answer, theirs: &Answer) -> Option<Difference> {
+    if ours == theirs {
+        return None;
+    }
+    let what = "sewing for print";
+    let told = match (ours, theirs) {
+        (Ok(ours), Ok(theirs)) => format!("{what}: {}", outputs(Kind::Body, names, [ours, theirs])),
+        _ => sides(what, names, [end(ours), end(theirs)]),
+    };
+    Some(Difference {
+        kind: Kind::PrintShop,
         told,
     })
 }

@@ -16,6 +16,8 @@ pub enum Kind {
     Listing,
     /// Sewing or the walk stage with a joining table.
     Table,
+    /// Sewing for a print shop.
+    PrintShop,
 }
 
 /// What each stage's output is called, and the fields of its records.
@@ -46,6 +48,7 @@ impl Kind {
             Self::Body => "body records",
             Self::Listing => "listing",
             Self::Table => "with a table",
+            Self::PrintShop => "for print",
         }
     }
 

@@ -23,6 +23,7 @@ fn programs(tested: fn(&[u8]) -> Answers) -> Programs {
         name: "library",
         tested,
         with_table: answers::second_with_table,
+        for_print: answers::second_for_print,
         reference: answers::reference,
     }
 }
@@ -302,6 +303,75 @@ fn a_program_that_stops_with_a_table_is_a_difference() {
         ..programs(answers::second)
     };
     let wanted = "stopped: library stopped with table 1001: out of tables";
+    assert_eq!(told(&hold(&part(9), &programs)), [wanted]);
+}
+
+/// The part of request Two that touches itself at point 4.
+fn touching() -> Vec<u8> {
+    let text = include_bytes!("../../parts/requests/two-touching.txt");
+    job_text::assemble(text).expect("the part is readable")
+}
+
+/// A program that sews for print as it does ordinarily.
+fn prints_all(job: &[u8]) -> answers::Answer {
+    answers::second(job).body
+}
+
+/// A program that refuses every job for print.
+fn prints_none(_: &[u8]) -> answers::Answer {
+    Err((42, 0))
+}
+
+/// A program that counts fans within one boundary alone.
+fn tells_31(job: &[u8]) -> answers::Answer {
+    answers::second_for_print(job).map_err(|(number, place)| match number {
+        42 => (31, place),
+        number => (number, place),
+    })
+}
+
+#[test]
+fn wrong_endings_for_print_are_noticed() {
+    type ForPrint = fn(&[u8]) -> answers::Answer;
+    for (for_print, job, wanted) in [
+        (
+            prints_all as ForPrint,
+            touching(),
+            "library accepted, second refused 42 4",
+        ),
+        (
+            tells_31,
+            touching(),
+            "library refused 31 4, second refused 42 4",
+        ),
+        (
+            prints_none,
+            part(9),
+            "library refused 42 0, second accepted",
+        ),
+        (
+            |_| Ok(vec![9]),
+            part(9),
+            "record 0: library nothing, second `body 1 6 2 2 0 0 1`",
+        ),
+        (
+            prints_none,
+            Vec::new(),
+            "library refused 42 0, second refused 3 0",
+        ),
+    ] {
+        let programs = Programs {
+            for_print,
+            ..programs(answers::second)
+        };
+        let wanted = format!("for print: sewing for print: {wanted}");
+        assert_eq!(told(&hold(&job, &programs)), [wanted]);
+    }
+    let programs = Programs {
+        for_print: |_| panic!("out of resin"),
+        ..programs(answers::second)
+    };
+    let wanted = "stopped: library stopped for print: out of resin";
     assert_eq!(told(&hold(&part(9), &programs)), [wanted]);
 }
 

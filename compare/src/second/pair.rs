@@ -4,12 +4,18 @@ use super::job::Sense;
 use super::questions::Asker;
 use super::read::Use;
 use super::refusal::{Refusal, refusal};
+use super::rules::Profile;
 
 /// `lists` holds the uses of each edge. Edges go in ascending order.
-pub fn pair(uses: &[Use], lists: &[Vec<usize>], asker: &mut Asker) -> Result<Vec<usize>, Refusal> {
+pub fn pair(
+    profile: Profile,
+    uses: &[Use],
+    lists: &[Vec<usize>],
+    asker: &mut Asker,
+) -> Result<Vec<usize>, Refusal> {
     let mut twins: Vec<Option<usize>> = vec![None; uses.len()];
     for (edge, list) in lists.iter().enumerate() {
-        for (a, b) in pairs_of_edge(edge, list, uses, asker)? {
+        for (a, b) in pairs_of_edge(profile, edge, list, uses, asker)? {
             twins[a] = Some(b);
             twins[b] = Some(a);
         }
@@ -22,6 +28,7 @@ pub fn pair(uses: &[Use], lists: &[Vec<usize>], asker: &mut Asker) -> Result<Vec
 }
 
 fn pairs_of_edge(
+    profile: Profile,
     edge: usize,
     list: &[usize],
     uses: &[Use],
@@ -32,6 +39,8 @@ fn pairs_of_edge(
         [a, b] if uses[a].sense == uses[b].sense => Err(refusal(10, edge)),
         [a, b] => Ok(vec![(a, b)]),
         _ if list.len() % 2 == 1 => Err(refusal(11, edge)),
+        // A printer takes no third wall, so nobody is asked how they go round.
+        _ if profile == Profile::PrintShop => Err(refusal(41, edge)),
         _ => radial_pairs(edge, list, uses, asker),
     }
 }

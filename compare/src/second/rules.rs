@@ -8,6 +8,8 @@ pub enum Supplied {
     Nothing,
     /// The bytes of a joining table.
     Table(Vec<u8>),
+    /// The word that the body is for a print shop.
+    PrintShop,
 }
 
 impl Supplied {
@@ -17,7 +19,9 @@ impl Supplied {
             Self::Nothing => Ok(Rules::ORDINARY),
             Self::Table(bytes) => Ok(Rules {
                 table: Table::of_bytes(bytes)?,
+                ..Rules::ORDINARY
             }),
+            Self::PrintShop => Ok(Rules::PRINT_SHOP),
         }
     }
 }
@@ -26,10 +30,28 @@ impl Supplied {
 #[derive(Clone, Copy, PartialEq, Eq, Debug)]
 pub struct Rules {
     pub table: Table,
+    pub profile: Profile,
 }
 
 impl Rules {
-    pub const ORDINARY: Self = Self { table: Table::FULL };
+    pub const ORDINARY: Self = Self {
+        table: Table::FULL,
+        profile: Profile::AnyContact,
+    };
+
+    pub const PRINT_SHOP: Self = Self {
+        profile: Profile::PrintShop,
+        ..Self::ORDINARY
+    };
+}
+
+/// How boundaries may touch themselves and each other.
+#[derive(Clone, Copy, PartialEq, Eq, Debug)]
+pub enum Profile {
+    /// As the contact tests of document 01 have it.
+    AnyContact,
+    /// Each edge has two uses and each point one fan, else 41 and 42.
+    PrintShop,
 }
 
 /// Which surface answers join. Rows by answer, 1 then 2; columns by the stored

@@ -14,7 +14,7 @@ use super::pair;
 use super::questions::{Answers, Asker, Question};
 use super::read::{self, Reading};
 use super::refusal::Refusal;
-use super::rules::{Rules, Supplied};
+use super::rules::{Profile, Rules, Supplied};
 use super::shells::{self, Shells};
 use super::vertex_loops::{self, VertexLoop};
 use super::walk::{self, Step};
@@ -68,7 +68,9 @@ fn run(rules: Rules, job: &Job, asker: &mut Asker, trail: &mut Trail) -> Result<
     let reading = &*trail.reading.insert(read::read(job));
     let uses = &reading.uses;
     let lists = &read::uses_of_edges(job, uses);
-    let twins = &*trail.twins.insert(pair::pair(uses, lists, asker)?);
+    let twins = &*trail
+        .twins
+        .insert(pair::pair(rules.profile, uses, lists, asker)?);
     let merged = merge::merge(rules.table, reading, twins, asker)?;
     let merged = &*trail.merged.insert(merged);
     let kept_vertex_loops = vertex_loops::vertex_loops(job, merged, asker)?;
@@ -79,6 +81,9 @@ fn run(rules: Rules, job: &Job, asker: &mut Asker, trail: &mut Trail) -> Result<
     let boundary = |face: usize| merged.boundary[face];
     contact::pairs_of_edges(30, lists, uses, twins, boundary)?;
     let fans = &*trail.fans.insert(fans::fans(job, uses, twins, steps));
+    if rules.profile == Profile::PrintShop {
+        contact::one_fan_at_each_point(fans)?;
+    }
     contact::fans_at_points(31, fans, uses, boundary)?;
 
     let walked = edges::Walked {
