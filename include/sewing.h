@@ -103,6 +103,8 @@ enum zaxclover_number {
     ZAXCLOVER_PAIRS_IN_LUMP = 33,     /* the edge with two pairs in one lump */
     ZAXCLOVER_VOID_OUTSIDE = 34,      /* the lowest face of a void that lies in no outer shell */
     ZAXCLOVER_NO_ROOM = 40,           /* the bytes needed */
+    ZAXCLOVER_MANY_USES = 41,         /* the edge with more than two uses (print shop) */
+    ZAXCLOVER_MANY_FANS = 42,         /* the point with more than one fan (print shop) */
     ZAXCLOVER_SELECTED_TWICE = 45,    /* the record's first byte, of the later face */
     ZAXCLOVER_WRONG_TABLE = 48        /* 4 if the joining table is not of 4 bytes, else its first faulty byte */
 };
@@ -163,6 +165,23 @@ size_t zaxclover_walk_stage_with_table(const uint8_t *table, size_t table_length
                                        uint8_t *out, size_t out_length, size_t *value);
 
 /*
+ * SEWING FOR A PRINT SHOP
+ *
+ * Shops with resin printers accept only boundaries where each edge has two uses and each point has one fan. This function
+ * answers as zaxclover_sew does, but that two things are refused:
+ *
+ *  - an edge with four uses or any larger even number, with 41: right after 11 for that edge, so before any fault of a
+ *    higher edge;
+ *  - a point with more than one fan, whatever boundaries the fans lie in, with 42: the lowest such point, before the
+ *    questions of joining (kinds 10 and 11) and all that comes after them.
+ *
+ * A job with neither fault ends as it does with zaxclover_sew, refused or not, and for one that is accepted the body is the
+ * same. No radial list (kind 7) is asked for, so that 20 and 21 of kind 7, 12, 13 and 23 cannot arise; nor can 30 to 33,
+ * since no edge has two pairs and no point two fans. The full joining table is the one that faces join by.
+ */
+size_t zaxclover_sew_for_print(const uint8_t *job, size_t job_length, uint8_t *out, size_t out_length, size_t *value);
+
+/*
  * THE LOOP REQUEST
  *
  * Loop n of the job, counted among both sorts of loops. Returns 0: its payload is the *value bytes of the job from
@@ -185,10 +204,10 @@ size_t zaxclover_loop(const uint8_t *job, size_t job_length, size_t n, size_t *s
 size_t zaxclover_list(const uint8_t *job, size_t job_length, uint8_t *page, size_t page_length);
 
 /*
- * The listing of an answer of zaxclover_sew or zaxclover_sew_with_table, by the number that it returned, the value that it
- * left and the output: for bodies of any length, or where the body is wanted too. With an output of 65,536 bytes that of
- * zaxclover_sew is what zaxclover_list gives. A body's text takes at most three characters a byte. The output must be as
- * sewing left it: of other bytes the text may be billions of characters long, and take its time.
+ * The listing of an answer of zaxclover_sew, zaxclover_sew_with_table or zaxclover_sew_for_print, by the number that it
+ * returned, the value that it left and the output: for bodies of any length, or where the body is wanted too. With an output
+ * of 65,536 bytes that of zaxclover_sew is what zaxclover_list gives. A body's text takes at most three characters a byte.
+ * The output must be as sewing left it: of other bytes the text may be billions of characters long, and take its time.
  */
 size_t zaxclover_listing(size_t number, size_t value, const uint8_t *out, size_t out_length, uint8_t *page, size_t page_length);
 
@@ -218,6 +237,8 @@ static inline const char *zaxclover_words(size_t number)
     case ZAXCLOVER_PAIRS_IN_LUMP: return "two pairs of the edge lie in one lump";
     case ZAXCLOVER_VOID_OUTSIDE: return "the void lies in no outer shell";
     case ZAXCLOVER_NO_ROOM: return "the records do not fit the output";
+    case ZAXCLOVER_MANY_USES: return "more than two uses of the edge (print shop)";
+    case ZAXCLOVER_MANY_FANS: return "more than one fan at the point (print shop)";
     case ZAXCLOVER_SELECTED_TWICE: return "the face is selected twice: the same body and source face";
     case ZAXCLOVER_WRONG_TABLE: return "the joining table is not four bytes, or has an entry that is not permitted";
     default: return "refused for an unknown reason";

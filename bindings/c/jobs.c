@@ -68,7 +68,7 @@ static size_t skip_answers(const uint8_t *bytes, size_t at)
             at += 4 + word(bytes + at);
         int accepted = word(bytes + at) == 0;
         at += accepted ? 12 : 8;
-        if (accepted && (what == 0 || what == 13 || what == 14))
+        if (accepted && (what == 0 || what == 13 || what == 14 || what == 16))
             at += 4 + word(bytes + at);
     }
     return at;
@@ -383,6 +383,111 @@ static void from_nothing(uint64_t *state, struct job *job)
         put_some(state, job, 7 + (uint32_t)below(state, 7), there);
 }
 
+/* Closed edges and rings, and what they stand on: few points, a vertex for each edge, and its first face. */
+enum { MOST_CLOSED = 6 };
+
+struct closed {
+    uint32_t vertices, edges, faces, uses;
+    uint32_t point[MOST_CLOSED], vertex[MOST_CLOSED], first[MOST_CLOSED];
+};
+
+static void put_points(uint64_t *state, struct job *job, struct closed *c)
+{
+    c->vertices = 1 + (uint32_t)below(state, MOST_CLOSED);
+    for (uint32_t v = 0; v < c->vertices; v++) {
+        c->point[v] = (uint32_t)below(state, 5) + (below(state, 8) == 0 ? 65536 : 0);
+        put_record(job, 2, &c->point[v], 1);
+    }
+}
+
+static void put_closed_edges(uint64_t *state, struct job *job, struct closed *c)
+{
+    c->edges = 1 + (uint32_t)below(state, MOST_CLOSED);
+    for (uint32_t e = 0; e < c->edges; e++) {
+        c->vertex[e] = (uint32_t)below(state, c->vertices);
+        uint32_t end = below(state, 8) == 0 ? UINT32_MAX : c->vertex[e];
+        uint32_t edge[] = {e, 0, end, end};
+        put_record(job, 3, edge, 4);
+    }
+}
+
+/* Loops of one use of an edge, by turns Same and Reversed, in faces of which most are new. */
+static void put_uses(uint64_t *state, struct job *job, struct closed *c, uint32_t e, size_t uses)
+{
+    c->first[e] = c->faces;
+    for (uint32_t i = 0; i < uses; i++, c->uses++) {
+        if (c->faces == 0 || below(state, 8)) {
+            uint32_t face[] = {7 + i % 2, (uint32_t)below(state, 2), 0, 0, c->faces++};
+            put_record(job, 4, face, 5);
+        }
+        uint32_t item[] = {e, i % 2};
+        put_record(job, 5, item, 2);
+    }
+}
+
+/* Most of the answers about surfaces and joining. */
+static void put_closed_answers(uint64_t *state, struct job *job, const struct closed *c)
+{
+    for (uint32_t h = 0; h < c->uses; h++) {
+        uint32_t surface[] = {h, below(state, 12) ? 0 : (uint32_t)below(state, 5)};
+        if (below(state, 60))
+            put_record(job, 8, surface, 2);
+    }
+    for (uint32_t e = 0; e < c->edges; e++) {
+        uint32_t singular[] = {e, c->first[e], c->first[e] + 1, c->point[c->vertex[e]], below(state, 8) != 0};
+        if (c->first[e] + 1 < c->faces && below(state, 24))
+            put_record(job, 11, singular, 5);
+    }
+}
+
+/* Whether an edge has a first face, which is not that of an earlier edge. */
+static int has_own_face(const struct closed *c, uint32_t e)
+{
+    return c->first[e] < c->faces && (e == 0 || c->first[e] != c->first[e - 1]);
+}
+
+/* No or yes, seldom undecided. */
+static uint32_t some_verdict(uint64_t *state)
+{
+    return below(state, 24) ? (uint32_t)below(state, 2) : 2;
+}
+
+/* Which of the shells are outer, and which lie in which; some of it is left out. */
+static void put_nesting(uint64_t *state, struct job *job, const struct closed *c)
+{
+    for (uint32_t e = 0; e < c->edges * c->edges; e++) {
+        uint32_t probe = e / c->edges;
+        uint32_t container = e % c->edges;
+        uint32_t orientation[] = {c->first[probe], some_verdict(state)};
+        uint32_t inside[] = {c->first[probe], c->first[container], some_verdict(state)};
+        if (!has_own_face(c, probe) || !has_own_face(c, container) || below(state, 24) == 0)
+            continue;
+        if (probe == container)
+            put_record(job, 12, orientation, 2);
+        else
+            put_record(job, 13, inside, 3);
+    }
+}
+
+/*
+ * Closed edges, and rings, at few points, most of them between two faces of their own: points with more than one fan, and
+ * edges with more than two uses.
+ */
+static void closed_edges(uint64_t *state, struct job *job)
+{
+    struct closed c = {.faces = 0, .uses = 0};
+    uint32_t proven = below(state, 4) != 0;
+    job->length = 0;
+    put_record(job, 1, &proven, 1);
+    put_points(state, job, &c);
+    put_closed_edges(state, job, &c);
+    for (uint32_t e = 0; e < c.edges; e++)
+        put_uses(state, job, &c, e, below(state, 24) ? 2 : below(state, 8));
+    put_closed_answers(state, job, &c);
+    if (!proven)
+        put_nesting(state, job, &c);
+}
+
 /* Noise of any length. */
 static void noise(uint64_t *state, struct job *job)
 {
@@ -417,6 +522,7 @@ static const struct change changes[] = {
     {"from nothing", from_nothing},
     {"noise", noise},
     {"face selected twice", select_twice},
+    {"closed edges", closed_edges},
     {"several changes", several},
 };
 

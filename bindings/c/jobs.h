@@ -1,4 +1,4 @@
-/* Jobs made up from stored ones and a number: damaged, spliced, with hostile counts, or from nothing. */
+/* Jobs made up from stored ones and a number: damaged, spliced, with hostile counts, of closed edges, or from nothing. */
 #ifndef JOBS_H
 #define JOBS_H
 

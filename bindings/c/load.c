@@ -1,10 +1,11 @@
 /*
- * A load on the boundary: makes up jobs and runs sewing, a stage, a loop request and the listing on each, and sewing and the
- * walk stage with a joining table that is drawn for it, under the compiler's memory checker. Each operation runs twice: on
- * heap copies with guard bytes after table, job and output, and on copies that end where an inaccessible page begins. Both
- * must answer alike, write what the answer says and not a byte more. What sewing refuses while loading, stage and loop
- * request must refuse alike, and a face selected twice is found by a search of the load's own. With the full table all is
- * as without one; what another table makes of the job is worked out by the load (tables.c).
+ * A load on the boundary: makes up jobs and runs sewing, a stage, a loop request and the listing on each, sewing and the
+ * walk stage with a joining table that is drawn for it, and sewing for a print shop, under the compiler's memory checker.
+ * Each operation runs twice: on heap copies with guard bytes after table, job and output, and on copies that end where an
+ * inaccessible page begins. Both must answer alike, write what the answer says and not a byte more. What sewing refuses while
+ * loading, stage and loop request must refuse alike, and a face selected twice is found by a search of the load's own. With
+ * the full table all is as without one; what another table makes of the job is worked out by the load (tables.c). How sewing
+ * for a print shop ends is worked out from the job's uses and fans (printshop.c), and its body is the ordinary one.
  *
  * usage: load VECTORS JOBS SEED [FIRST]
  *
@@ -14,6 +15,7 @@
 #define _GNU_SOURCE
 #include "jobs.h"
 #include "operations.h"
+#include "printshop.h"
 #include "tables.h"
 
 #include <sanitizer/common_interface_defs.h>
@@ -105,11 +107,6 @@ static struct call table_call(const struct named_with_table *o, const uint8_t *t
 {
     return (struct call){o->name, NULL, o->run, table, length};
 }
-
-struct answer {
-    size_t number;
-    size_t value;
-};
 
 /* Runs a call on copies of its table and of the job. */
 static struct answer run_on(const struct call *c, const uint8_t *table, const uint8_t *copy, uint8_t *out, size_t room)
@@ -207,7 +204,7 @@ static void hold_listing(const uint8_t *out, size_t room, size_t value)
 
 static int is_sewing(const struct call *c)
 {
-    return c->plain == zaxclover_sew || c->with_table == zaxclover_sew_with_table;
+    return c->plain == zaxclover_sew || c->plain == zaxclover_sew_for_print || c->with_table == zaxclover_sew_with_table;
 }
 
 static struct answer run_operation(const struct call *c, uint64_t *state)
@@ -231,12 +228,6 @@ static struct answer run_operation(const struct call *c, uint64_t *state)
 }
 
 /* LOADING */
-
-/* Whether a number is one of loading's, with which all that takes a job refuses it. */
-static int of_loading(size_t number)
-{
-    return (number >= ZAXCLOVER_JOB_TOO_LONG && number <= ZAXCLOVER_ANSWERED_BEFORE) || number == ZAXCLOVER_SELECTED_TWICE;
-}
 
 /* What the face at a place, which has body and source face of an earlier one, is refused with if no earlier record is. */
 static size_t number_of_repeat(size_t place)
@@ -263,13 +254,23 @@ static void hold_repeat(struct answer a)
     hold(a.value < at || a.number == number_of_repeat(at), "a face selected twice has another number");
 }
 
-/* What sewing refuses while loading, a stage refuses alike; otherwise its refusal is none of loading's, and no table's. */
+/* Whether a number is one that only a print shop's rules give. */
+static int of_print_shop(size_t number)
+{
+    return number == ZAXCLOVER_MANY_USES || number == ZAXCLOVER_MANY_FANS;
+}
+
+/*
+ * What sewing refuses while loading, a stage refuses alike; otherwise its refusal is none of loading's, and neither is a
+ * table's or a print shop's.
+ */
 static void hold_alike(struct answer sewing, struct answer stage)
 {
     int alike = sewing.number == stage.number && sewing.value == stage.value;
     hold(of_loading(sewing.number) ? alike : !of_loading(stage.number), "another refusal of loading than sewing's");
     int of_tables = sewing.number == ZAXCLOVER_WRONG_TABLE || stage.number == ZAXCLOVER_WRONG_TABLE;
     hold(!of_tables, "a refusal of a table where there is none");
+    hold(!of_print_shop(sewing.number) && !of_print_shop(stage.number), "a refusal of a print shop where there is none");
 }
 
 /* THE LOOP REQUEST */
@@ -408,7 +409,7 @@ static void hold_full(const struct named_with_table *o, struct outcome *ordinary
 /* Whether the stage of the walks refuses a question that it puts after merging, of points. */
 static int of_points(struct answer a)
 {
-    return (a.number == ZAXCLOVER_UNANSWERED || a.number == ZAXCLOVER_UNDECIDED) && a.value == ZAXCLOVER_POINTS;
+    return of_question(a, ZAXCLOVER_POINTS);
 }
 
 /*
@@ -502,10 +503,56 @@ static void run_tables(uint64_t *state)
         struct answer a = run_operation(&c, state);
         hold((a.number == ZAXCLOVER_WRONG_TABLE) == refused, "a table that is refused, or passes, though it should not");
         hold(!refused || a.value == place, "a table is refused at another byte");
+        hold(!of_print_shop(a.number), "a refusal of a print shop with a table");
         count(tabled, a.number);
     }
     if (!refused)
         hold_permitted(table.bytes, ordinary);
+}
+
+/* A PRINT SHOP */
+
+static uint64_t printed[HIGHEST];
+static uint64_t only_ordinary, both;
+
+/* What is wrong where sewing for a print shop answers otherwise than it should. */
+static const char *wrong_for_print(struct answer due, struct answer a)
+{
+    if (of_loading(due.number))
+        return "another refusal of loading than sewing's";
+    if (due.number == ZAXCLOVER_MANY_USES)
+        return "an edge with more than two uses is passed over, or told otherwise";
+    if (due.number == ZAXCLOVER_MANY_FANS)
+        return "a point with more than one fan is passed over, or told otherwise";
+    if (of_print_shop(a.number))
+        return "a fault of an edge or a point that there is not";
+    return "another answer than that of ordinary sewing, or of the lowest edge at fault";
+}
+
+/* The number in an output without room for anything. */
+static size_t without_room(size_t number)
+{
+    return number == ZAXCLOVER_DONE ? ZAXCLOVER_NO_ROOM : number;
+}
+
+static void run_print(uint64_t *state)
+{
+    static struct outcome ordinary, made;
+    struct call sew = plain_call(&operations[0]);
+    struct call print = plain_call(&operations[FOR_PRINT]);
+    doing = print.name;
+    run_amply(&sew, &ordinary);
+    run_amply(&print, &made);
+    struct answer due = for_print(ordinary.answer, job.bytes, job.length);
+    hold(is_same(made.answer, due), wrong_for_print(due, made.answer));
+    hold(can_be_for_print(due), "a refusal that cannot arise for a print shop");
+    int accepted = due.number == ZAXCLOVER_DONE;
+    hold(!accepted || memcmp(made.out, ordinary.out, BODY) == 0, "another body than that of ordinary sewing");
+    struct answer a = run_operation(&print, state);
+    hold(without_room(a.number) == without_room(due.number) && a.value == due.value, "another answer in another room");
+    count(printed, a.number);
+    both += accepted;
+    only_ordinary += !accepted && ordinary.answer.number == ZAXCLOVER_DONE;
 }
 
 /* THE RUN */
@@ -519,7 +566,7 @@ static void run_job(const struct seeds *seeds)
     way = make_job(seeds, &state, &job);
     memcpy(job_end - job.length, job.bytes, job.length);
     struct call sew = plain_call(&operations[0]);
-    struct call some_stage = plain_call(&operations[1 + number_of_job % (OPERATIONS - 1)]);
+    struct call some_stage = plain_call(&operations[1 + number_of_job % (FOR_PRINT - 1)]);
     struct answer sewing = run_operation(&sew, &state);
     count(sewn, sewing.number);
     hold_repeat(sewing);
@@ -529,6 +576,7 @@ static void run_job(const struct seeds *seeds)
     count(requested, request_loop(&state, sewing));
     list_job(&state);
     run_tables(&state);
+    run_print(&state);
 }
 
 static void print_counts(const char *name, const uint64_t *counts)
@@ -540,15 +588,21 @@ static void print_counts(const char *name, const uint64_t *counts)
     printf("\n");
 }
 
+/* How often a number was met where it can be met. */
+static uint64_t met_of(size_t number)
+{
+    if (number == ZAXCLOVER_WRONG_TABLE)
+        return tabled[number];
+    return of_print_shop(number) ? printed[number] : sewn[number];
+}
+
 static void print_unmet(void)
 {
     printf("refusals of sewing that were not met:");
     int any = 0;
-    for (size_t n = 1; n < HIGHEST; n++) {
-        uint64_t met = n == ZAXCLOVER_WRONG_TABLE ? tabled[n] : sewn[n];
-        if (met == 0 && strcmp(zaxclover_words(n), zaxclover_words(SIZE_MAX)) != 0)
+    for (size_t n = 1; n < HIGHEST; n++)
+        if (met_of(n) == 0 && strcmp(zaxclover_words(n), zaxclover_words(SIZE_MAX)) != 0)
             any = printf(" %zu", n);
-    }
     printf(any ? "\n" : " none\n");
 }
 
@@ -597,6 +651,9 @@ int main(int count_of_words, char **words)
     print_counts("loop requests", requested);
     print_counts("with tables", tabled);
     printf("bodies with fewer face joins than without a table: %llu\n", (unsigned long long)lesser);
+    print_counts("for print", printed);
+    printf("bodies for print: %llu; not for print, but ordinarily: %llu\n", (unsigned long long)both,
+           (unsigned long long)only_ordinary);
     print_unmet();
     return 0;
 }

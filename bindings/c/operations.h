@@ -11,9 +11,9 @@ struct named {
     operation run;
 };
 
-enum { OPERATIONS = 12 };
+enum { OPERATIONS = 13, FOR_PRINT = 12 };
 
-/* Sewing first, then the stages in their order. */
+/* Sewing first, then the stages in their order, and last sewing for a print shop. */
 static const struct named operations[OPERATIONS] = {
     {"sew", zaxclover_sew},
     {"read", zaxclover_read_stage},
@@ -27,6 +27,7 @@ static const struct named operations[OPERATIONS] = {
     {"joining", zaxclover_joining_stage},
     {"shells", zaxclover_shell_stage},
     {"lumps", zaxclover_lump_stage},
+    {"sew for print", zaxclover_sew_for_print},
 };
 
 typedef size_t (*table_operation)(const uint8_t *table, size_t table_length, const uint8_t *job, size_t job_length,
@@ -45,6 +46,12 @@ enum { TABLE_OPERATIONS = 2 };
 static const struct named_with_table table_operations[TABLE_OPERATIONS] = {
     {"sew with a table", zaxclover_sew_with_table, zaxclover_sew},
     {"walk with a table", zaxclover_walk_stage_with_table, zaxclover_walk_stage},
+};
+
+/* What an operation answers: 0 and the bytes written, or a refusal's number and its place. */
+struct answer {
+    size_t number;
+    size_t value;
 };
 
 #endif

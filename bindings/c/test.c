@@ -1,12 +1,13 @@
 /*
  * Tests of the interface at its edges: null pointers with length 0, outputs exactly full and one byte short, guard
  * bytes after job, output and page; the listing and the members of every stored job; faces that are refused, faces
- * selected twice, and joining tables.
+ * selected twice, joining tables, and sewing for a print shop.
  *
  * usage: test FILE.job VECTORS      (part P9, and the file of packed vectors)
  */
 #include "jobs.h"
 #include "operations.h"
+#include "printshop.h"
 #include "tables.h"
 
 #include <stdio.h>
@@ -753,6 +754,344 @@ static size_t test_tables(const uint8_t *job, size_t length)
     return differing;
 }
 
+/* A PRINT SHOP */
+
+/* Sewing for a print shop refuses a job, whatever the room is, and leaves the output. */
+static void hold_not_printed(const char *name, const struct job *job, size_t due, size_t place)
+{
+    static const size_t rooms[] = {0, 1, 33, 4096};
+    for (size_t i = 0; i < sizeof rooms / sizeof rooms[0]; i++) {
+        uint8_t *out = marked(rooms[i]);
+        size_t value = 77;
+        size_t number = zaxclover_sew_for_print(job->bytes, job->length, out, rooms[i], &value);
+        expect(number == due, name, "the number of a job that is not for print");
+        expect(value == place, name, "the place of a job that is not for print");
+        expect(is_marked(out, 0, rooms[i] + GUARD), name, "a refusal leaves the output");
+        free(out);
+    }
+}
+
+/* A job that is sewn for a print shop: the body is the ordinary one, in each room. */
+static void hold_printed(const char *name, const struct job *job)
+{
+    static uint8_t due[65536], out[65536];
+    size_t needed = 77;
+    size_t value = 77;
+    size_t number = zaxclover_sew(job->bytes, job->length, due, sizeof due, &needed);
+    expect(number == ZAXCLOVER_DONE, name, "a job that is sewn ordinarily");
+    number = zaxclover_sew_for_print(job->bytes, job->length, out, sizeof out, &value);
+    expect(number == ZAXCLOVER_DONE, name, "a job that is sewn for a print shop");
+    if (number != ZAXCLOVER_DONE || value != needed)
+        return;
+    expect(memcmp(out, due, needed) == 0, name, "the ordinary body");
+    size_t rooms[] = {0, 1, needed - 1, needed, needed + 1};
+    for (size_t i = 0; i < sizeof rooms / sizeof rooms[0]; i++)
+        test_room(&operations[FOR_PRINT], job->bytes, job->length, needed, rooms[i]);
+}
+
+/* What sewing for a print shop makes of a job: 0, or a refusal. */
+static void hold_for_print(const char *name, const struct job *job, size_t due, size_t place)
+{
+    if (due == ZAXCLOVER_DONE)
+        hold_printed(name, job);
+    else
+        hold_not_printed(name, job, due, place);
+}
+
+/* So many loops of one use. */
+static void put_loops(struct job *job, uint32_t edge, uint32_t sense, size_t count)
+{
+    const uint32_t item[] = {edge, sense};
+    for (size_t i = 0; i < count; i++)
+        put_record(job, ZAXCLOVER_LOOP, item, 2);
+}
+
+enum { RINGS = 2 };
+
+/* A face with rings, each so many times Same and Reversed, as read; the face may be selected Reversed. */
+static void put_rings(struct job *job, size_t counts[RINGS][2], uint32_t selected)
+{
+    const uint32_t head[] = {1};
+    const uint32_t ring[] = {5, 0, ZAXCLOVER_NONE, ZAXCLOVER_NONE};
+    const uint32_t face[] = {7, 0, selected, 0, 0};
+    job->length = 0;
+    put_record(job, ZAXCLOVER_HEAD, head, 1);
+    for (size_t e = 0; e < RINGS; e++)
+        put_record(job, ZAXCLOVER_EDGE, ring, 4);
+    put_record(job, ZAXCLOVER_FACE, face, 5);
+    for (size_t e = 0; e < RINGS; e++) {
+        put_loops(job, (uint32_t)e, selected, counts[e][0]);
+        put_loops(job, (uint32_t)e, 1 - selected, counts[e][1]);
+    }
+}
+
+/* 41 by the uses of each edge: the number after 11 and 10 for the edge, the lowest edge at fault first. */
+static void test_many_uses(void)
+{
+    static struct job job;
+    static struct {
+        size_t counts[RINGS][2];
+        size_t number, place;
+    } rows[] = {
+        {{{0, 0}, {0, 0}}, 0, 0}, {{{1, 1}, {0, 0}}, 0, 0}, {{{1, 1}, {1, 1}}, 0, 0}, {{{1, 0}, {0, 0}}, 11, 0},
+        {{{2, 0}, {0, 0}}, 10, 0}, {{{0, 2}, {0, 0}}, 10, 0}, {{{2, 1}, {0, 0}}, 11, 0}, {{{3, 0}, {0, 0}}, 11, 0},
+        {{{2, 2}, {0, 0}}, 41, 0}, {{{4, 0}, {0, 0}}, 41, 0}, {{{0, 4}, {0, 0}}, 41, 0}, {{{1, 3}, {0, 0}}, 41, 0},
+        {{{3, 2}, {0, 0}}, 11, 0}, {{{3, 3}, {0, 0}}, 41, 0}, {{{6, 0}, {0, 0}}, 41, 0}, {{{4, 3}, {0, 0}}, 11, 0},
+        {{{4, 4}, {0, 0}}, 41, 0}, {{{512, 512}, {0, 0}}, 41, 0}, {{{512, 511}, {0, 0}}, 11, 0},
+        {{{0, 0}, {2, 2}}, 41, 1}, {{{1, 1}, {2, 2}}, 41, 1}, {{{1, 1}, {3, 3}}, 41, 1}, {{{1, 1}, {2, 1}}, 11, 1},
+        {{{1, 1}, {0, 2}}, 10, 1}, {{{1, 0}, {2, 2}}, 11, 0}, {{{2, 0}, {2, 2}}, 10, 0}, {{{2, 1}, {2, 2}}, 11, 0},
+        {{{2, 2}, {1, 0}}, 41, 0}, {{{2, 2}, {0, 2}}, 41, 0}, {{{2, 2}, {2, 2}}, 41, 0}, {{{3, 2}, {3, 3}}, 11, 0},
+        {{{3, 3}, {2, 1}}, 41, 0}, {{{4, 0}, {1, 0}}, 41, 0},
+    };
+    expect(ZAXCLOVER_MANY_USES == 41, "header", "the number of an edge with more than two uses");
+    for (size_t i = 0; i < sizeof rows / sizeof rows[0]; i++)
+        for (uint32_t selected = 0; selected < 2; selected++) {
+            put_rings(&job, rows[i].counts, selected);
+            struct answer due = edge_fault(job.bytes, job.length);
+            expect(due.number == rows[i].number && due.value == rows[i].place, "printshop.c", "the fault of an edge");
+            hold_for_print("rings in a face", &job, rows[i].number, rows[i].place);
+        }
+}
+
+/* Four faces round a ring: 41 whatever the radial list is, and whatever else ordinary sewing makes of the job. */
+static void test_round_an_edge(void)
+{
+    static struct job job;
+    static const struct line start[] = {
+        {ZAXCLOVER_HEAD, 1, {1}}, {ZAXCLOVER_EDGE, 4, {5, 0, ZAXCLOVER_NONE, ZAXCLOVER_NONE}},
+        {ZAXCLOVER_FACE, 5, {7, 0, 0, 0, 0}}, {ZAXCLOVER_LOOP, 2, {0, 0}},
+        {ZAXCLOVER_FACE, 5, {8, 0, 0, 0, 1}}, {ZAXCLOVER_LOOP, 2, {0, 1}},
+        {ZAXCLOVER_FACE, 5, {7, 0, 0, 0, 2}}, {ZAXCLOVER_LOOP, 2, {0, 0}},
+        {ZAXCLOVER_FACE, 5, {8, 0, 0, 0, 3}}, {ZAXCLOVER_LOOP, 2, {0, 1}},
+        {ZAXCLOVER_SURFACE, 2, {0, 0}}, {ZAXCLOVER_SURFACE, 2, {1, 0}},
+    };
+    static const struct {
+        struct line radial;
+        size_t number, place; /* in ordinary sewing; 0 if it is sewn */
+    } rows[] = {
+        {{ZAXCLOVER_RADIAL, 5, {0, 0, 1, 2, 3}}, 0, 0}, {{ZAXCLOVER_RADIAL, 1, {0}}, 21, 7},
+        {{ZAXCLOVER_RADIAL, 5, {0, 0, 2, 1, 3}}, 12, 0}, {{ZAXCLOVER_RADIAL, 5, {0, 0, 1, 2, 2}}, 23, 0},
+        {{ZAXCLOVER_RADIAL, 3, {0, 0, 1}}, 23, 0}, {{ZAXCLOVER_POINTS, 3, {3, 4, 0}}, 20, 7},
+    };
+    for (size_t i = 0; i < sizeof rows / sizeof rows[0]; i++) {
+        size_t place = 77;
+        put_lines(&job, LINES(start));
+        put_record(&job, rows[i].radial.kind, rows[i].radial.fields, rows[i].radial.count);
+        size_t number = zaxclover_sew(job.bytes, job.length, NULL, 0, &place);
+        int sewn = rows[i].number == 0 && number == ZAXCLOVER_NO_ROOM;
+        expect(sewn || (number == rows[i].number && place == rows[i].place), "sew", "faces round a ring");
+        hold_not_printed("faces round a ring", &job, ZAXCLOVER_MANY_USES, 0);
+    }
+    put_lines(&job, start, 8);
+    hold_not_printed("three faces round a ring", &job, ZAXCLOVER_ODD_USES, 0);
+    put_lines(&job, start, 10);
+    hold_not_printed("faces round a ring, no answer", &job, ZAXCLOVER_MANY_USES, 0);
+}
+
+enum { MOST_CLOSED = 8 };
+
+/* What stands behind the faces of closed edges. */
+enum answers { ALL_ANSWERS, NO_SINGULAR, NO_SURFACE };
+
+/*
+ * Closed edges at these points, each between two faces of its own, and so with a fan of its own at the point: at a vertex
+ * of its own, or one vertex for each point.
+ */
+static void put_closed(struct job *job, const uint32_t *points, size_t count, int shared, enum answers answers)
+{
+    const uint32_t one = 1;
+    uint32_t vertex[MOST_CLOSED];
+    uint32_t vertices = 0;
+    job->length = 0;
+    put_record(job, ZAXCLOVER_HEAD, &one, 1);
+    for (uint32_t i = 0; i < count; i++) {
+        uint32_t before = 0;
+        while (before < i && (!shared || points[before] != points[i]))
+            before++;
+        vertex[i] = before < i ? vertex[before] : vertices++;
+        if (before == i)
+            put_record(job, ZAXCLOVER_VERTEX, &points[i], 1);
+    }
+    for (uint32_t i = 0; i < count; i++)
+        put_record(job, ZAXCLOVER_EDGE, (const uint32_t[]){50 + i, 0, vertex[i], vertex[i]}, 4);
+    for (uint32_t i = 0; i < 2 * count; i++) {
+        put_record(job, ZAXCLOVER_FACE, (const uint32_t[]){70 + i % 2, 0, 0, 0, i}, 5);
+        put_loops(job, i / 2, i % 2, 1);
+    }
+    for (uint32_t i = 0; i < count && answers != NO_SURFACE; i++)
+        put_record(job, ZAXCLOVER_SURFACE, (const uint32_t[]){2 * i, 0}, 2);
+    for (uint32_t i = 0; i < count && answers != NO_SINGULAR; i++)
+        put_record(job, ZAXCLOVER_SINGULAR, (const uint32_t[]){50 + i, 2 * i, 2 * i + 1, points[i], 1}, 5);
+}
+
+/* 42 by the fans of each point: the lowest point with more than one, whatever vertices stand on it. */
+static void test_many_fans(void)
+{
+    static struct job job;
+    static const struct {
+        size_t count;
+        uint32_t points[MOST_CLOSED];
+        size_t number, place;
+    } rows[] = {
+        {1, {4}, 0, 0}, {2, {4, 5}, 0, 0}, {2, {4, 4}, 42, 4}, {2, {0, 0}, 42, 0}, {2, {0, 1}, 0, 0},
+        {3, {4, 4, 4}, 42, 4}, {3, {5, 4, 5}, 42, 5}, {4, {9, 4, 9, 4}, 42, 4}, {4, {4, 9, 9, 4}, 42, 4},
+        {4, {9, 9, 4, 4}, 42, 4}, {4, {9, 9, 4, 5}, 42, 9}, {4, {0, 9, 9, 0}, 42, 0}, {4, {9, 0, 9, 1}, 42, 9},
+        {2, {UINT32_MAX, UINT32_MAX}, 42, UINT32_MAX}, {2, {UINT32_MAX, 0}, 0, 0}, {2, {4, 65540}, 0, 0},
+        {2, {65540, 65540}, 42, 65540}, {3, {65540, 4, 65540}, 42, 65540}, {2, {1, 2147483649}, 0, 0},
+        {4, {65537, 1, 1, 65537}, 42, 1}, {8, {7, 6, 5, 4, 3, 2, 1, 0}, 0, 0}, {8, {7, 6, 5, 4, 3, 2, 1, 7}, 42, 7},
+    };
+    expect(ZAXCLOVER_MANY_FANS == 42, "header", "the number of a point with more than one fan");
+    for (size_t i = 0; i < sizeof rows / sizeof rows[0]; i++)
+        for (int shared = 0; shared < 2; shared++) {
+            put_closed(&job, rows[i].points, rows[i].count, shared, ALL_ANSWERS);
+            size_t value;
+            size_t number = zaxclover_sew(job.bytes, job.length, NULL, 0, &value);
+            expect(number == ZAXCLOVER_NO_ROOM, "sew", "closed edges are sewn ordinarily");
+            hold_for_print("closed edges", &job, rows[i].number, rows[i].place);
+        }
+}
+
+/* 42 comes after the questions of surfaces and points, and before those of joining. */
+static void test_order_of_fans(void)
+{
+    static struct job job;
+    static const uint32_t touching[] = {4, 4};
+    static const uint32_t apart[] = {4, 5};
+    size_t value;
+    put_closed(&job, touching, 2, 1, NO_SINGULAR);
+    size_t number = zaxclover_sew(job.bytes, job.length, NULL, 0, &value);
+    expect(number == ZAXCLOVER_UNANSWERED && value == ZAXCLOVER_SINGULAR, "sew", "a question of joining");
+    hold_not_printed("before joining", &job, ZAXCLOVER_MANY_FANS, 4);
+    put_closed(&job, apart, 2, 1, NO_SINGULAR);
+    hold_not_printed("joining", &job, ZAXCLOVER_UNANSWERED, ZAXCLOVER_SINGULAR);
+    put_closed(&job, touching, 2, 1, NO_SURFACE);
+    hold_not_printed("after surfaces", &job, ZAXCLOVER_UNANSWERED, ZAXCLOVER_SURFACE);
+    for (uint32_t answer = 3; answer <= 4; answer++) {
+        size_t due = answer == 3 ? ZAXCLOVER_NORMALS_VANISH : ZAXCLOVER_UNDECIDED;
+        put_closed(&job, touching, 2, 1, NO_SURFACE);
+        put_record(&job, ZAXCLOVER_SURFACE, (const uint32_t[]){0, answer}, 2);
+        hold_not_printed("after surfaces", &job, due, ZAXCLOVER_SURFACE);
+    }
+    static const struct line points[] = {
+        {ZAXCLOVER_HEAD, 1, {1}}, {ZAXCLOVER_VERTEX, 1, {4}}, {ZAXCLOVER_VERTEX, 1, {5}},
+        {ZAXCLOVER_EDGE, 4, {1, 0, 0, 0}}, {ZAXCLOVER_EDGE, 4, {2, 0, 0, 0}},
+        {ZAXCLOVER_FACE, 5, {7, 0, 0, 0, 0}}, {ZAXCLOVER_LOOP, 2, {0, 0}}, {ZAXCLOVER_LOOP, 2, {1, 0}},
+        {ZAXCLOVER_VERTEX_LOOP, 1, {0}}, {ZAXCLOVER_VERTEX_LOOP, 1, {1}},
+        {ZAXCLOVER_FACE, 5, {8, 0, 0, 0, 1}}, {ZAXCLOVER_LOOP, 2, {0, 1}}, {ZAXCLOVER_LOOP, 2, {1, 1}},
+        {ZAXCLOVER_SURFACE, 2, {0, 0}}, {ZAXCLOVER_SURFACE, 2, {1, 0}},
+    };
+    put_lines(&job, LINES(points));
+    hold_not_printed("after points", &job, ZAXCLOVER_UNANSWERED, ZAXCLOVER_POINTS);
+    put_record(&job, ZAXCLOVER_POINTS, (const uint32_t[]){4, 5, 2}, 3);
+    hold_not_printed("after points", &job, ZAXCLOVER_UNDECIDED, ZAXCLOVER_POINTS);
+    put_lines(&job, LINES(points));
+    put_record(&job, ZAXCLOVER_POINTS, (const uint32_t[]){4, 5, 0}, 3);
+    hold_not_printed("points answered", &job, ZAXCLOVER_MANY_FANS, 4);
+    put_closed(&job, touching, 2, 1, ALL_ANSWERS);
+    put_record(&job, ZAXCLOVER_HEAD, (const uint32_t[]){1}, 1);
+    hold_not_printed("after loading", &job, ZAXCLOVER_WRONG_RECORD, job.length - 10);
+}
+
+/* Two fans at a point that ordinary sewing refuses with 31, 32 or 34, and fans of removed uses, which do not count. */
+static void test_kept_fans(void)
+{
+    static struct job job;
+    static const struct line boundary[] = {
+        {ZAXCLOVER_HEAD, 1, {1}}, {ZAXCLOVER_VERTEX, 1, {4}}, {ZAXCLOVER_EDGE, 4, {1, 0, 0, 0}},
+        {ZAXCLOVER_EDGE, 4, {2, 0, 0, 0}}, {ZAXCLOVER_FACE, 5, {7, 0, 0, 0, 0}}, {ZAXCLOVER_LOOP, 2, {0, 0}},
+        {ZAXCLOVER_LOOP, 2, {1, 0}}, {ZAXCLOVER_FACE, 5, {8, 0, 0, 0, 1}}, {ZAXCLOVER_LOOP, 2, {0, 1}},
+        {ZAXCLOVER_FACE, 5, {9, 0, 0, 0, 2}}, {ZAXCLOVER_LOOP, 2, {1, 1}}, {ZAXCLOVER_SURFACE, 2, {0, 0}},
+        {ZAXCLOVER_SURFACE, 2, {1, 0}},
+    };
+    static const struct line seam[] = {
+        {ZAXCLOVER_HEAD, 1, {1}}, {ZAXCLOVER_VERTEX, 1, {4}}, {ZAXCLOVER_EDGE, 4, {1, 0, 0, 0}},
+        {ZAXCLOVER_EDGE, 4, {2, 0, 0, 0}}, {ZAXCLOVER_FACE, 5, {7, 0, 0, 0, 0}}, {ZAXCLOVER_LOOP, 2, {0, 0}},
+        {ZAXCLOVER_LOOP, 2, {1, 0}}, {ZAXCLOVER_LOOP, 2, {1, 1}}, {ZAXCLOVER_FACE, 5, {8, 0, 0, 0, 1}},
+        {ZAXCLOVER_LOOP, 2, {0, 1}}, {ZAXCLOVER_SURFACE, 2, {0, 0}}, {ZAXCLOVER_SINGULAR, 5, {1, 0, 1, 4, 1}},
+    };
+    static const size_t ordinary[] = {ZAXCLOVER_VOID_OUTSIDE, ZAXCLOVER_FANS_IN_LUMP};
+    size_t value;
+    put_lines(&job, LINES(boundary));
+    size_t number = zaxclover_sew(job.bytes, job.length, NULL, 0, &value);
+    expect(number == ZAXCLOVER_FANS_IN_BOUNDARY && value == 4, "sew", "two fans in one boundary");
+    hold_not_printed("two fans in one boundary", &job, ZAXCLOVER_MANY_FANS, 4);
+    put_lines(&job, LINES(seam));
+    hold_printed("a seam", &job);
+    for (uint32_t inside = 0; inside < 2; inside++) {
+        put_closed(&job, (const uint32_t[]){4, 4}, 2, 1, ALL_ANSWERS);
+        job.bytes[6] = 0; /* outer shells are not proven */
+        put_record(&job, ZAXCLOVER_ORIENTATION, (const uint32_t[]){0, 1}, 2);
+        put_record(&job, ZAXCLOVER_ORIENTATION, (const uint32_t[]){2, 0}, 2);
+        put_record(&job, ZAXCLOVER_INSIDE, (const uint32_t[]){2, 0, inside}, 3);
+        number = zaxclover_sew(job.bytes, job.length, NULL, 0, &value);
+        expect(number == ordinary[inside], "sew", "a void that touches an outer shell");
+        hold_not_printed("a void that touches an outer shell", &job, ZAXCLOVER_MANY_FANS, 4);
+    }
+}
+
+/* A lens, whose two edges become one and then a ring; and two that touch at a point. */
+static void test_lenses(void)
+{
+    static struct job job;
+    static uint8_t out[4096];
+    static const struct line lens[] = {
+        {ZAXCLOVER_HEAD, 1, {1}}, {ZAXCLOVER_VERTEX, 1, {4}}, {ZAXCLOVER_VERTEX, 1, {1}},
+        {ZAXCLOVER_EDGE, 4, {5, 0, 0, 1}}, {ZAXCLOVER_EDGE, 4, {5, 0, 1, 0}},
+        {ZAXCLOVER_FACE, 5, {7, 0, 0, 0, 0}}, {ZAXCLOVER_LOOP, 4, {0, 0, 1, 0}},
+        {ZAXCLOVER_FACE, 5, {8, 0, 0, 0, 1}}, {ZAXCLOVER_LOOP, 4, {1, 1, 0, 1}},
+        {ZAXCLOVER_SURFACE, 2, {0, 0}}, {ZAXCLOVER_SURFACE, 2, {1, 0}},
+        {ZAXCLOVER_SINGULAR, 5, {5, 0, 1, 4, 0}}, {ZAXCLOVER_SINGULAR, 5, {5, 0, 1, 1, 0}},
+    };
+    static const struct line two[] = {
+        {ZAXCLOVER_HEAD, 1, {1}}, {ZAXCLOVER_VERTEX, 1, {4}}, {ZAXCLOVER_VERTEX, 1, {1}}, {ZAXCLOVER_VERTEX, 1, {4}},
+        {ZAXCLOVER_VERTEX, 1, {3}}, {ZAXCLOVER_EDGE, 4, {5, 0, 0, 1}}, {ZAXCLOVER_EDGE, 4, {5, 0, 1, 0}},
+        {ZAXCLOVER_EDGE, 4, {6, 0, 2, 3}}, {ZAXCLOVER_EDGE, 4, {6, 0, 3, 2}},
+        {ZAXCLOVER_FACE, 5, {7, 0, 0, 0, 0}}, {ZAXCLOVER_LOOP, 4, {0, 0, 1, 0}},
+        {ZAXCLOVER_FACE, 5, {8, 0, 0, 0, 1}}, {ZAXCLOVER_LOOP, 4, {1, 1, 0, 1}},
+        {ZAXCLOVER_FACE, 5, {7, 0, 0, 0, 2}}, {ZAXCLOVER_LOOP, 4, {2, 0, 3, 0}},
+        {ZAXCLOVER_FACE, 5, {8, 0, 0, 0, 3}}, {ZAXCLOVER_LOOP, 4, {3, 1, 2, 1}},
+        {ZAXCLOVER_SURFACE, 2, {0, 0}}, {ZAXCLOVER_SURFACE, 2, {1, 0}}, {ZAXCLOVER_SURFACE, 2, {4, 0}},
+        {ZAXCLOVER_SURFACE, 2, {5, 0}}, {ZAXCLOVER_SINGULAR, 5, {5, 0, 1, 4, 0}},
+        {ZAXCLOVER_SINGULAR, 5, {5, 0, 1, 1, 0}}, {ZAXCLOVER_SINGULAR, 5, {6, 2, 3, 4, 0}},
+        {ZAXCLOVER_SINGULAR, 5, {6, 2, 3, 3, 0}},
+    };
+    size_t value;
+    put_lines(&job, LINES(lens));
+    hold_printed("a lens", &job);
+    zaxclover_sew_for_print(job.bytes, job.length, out, sizeof out, &value);
+    expect(word(out + 22) == 1 && word(out + 26) == 1, "a lens", "a join and a ring");
+    put_lines(&job, LINES(two));
+    size_t number = zaxclover_sew(job.bytes, job.length, NULL, 0, &value);
+    expect(number == ZAXCLOVER_NO_ROOM, "two lenses", "sewn ordinarily");
+    hold_not_printed("two lenses", &job, ZAXCLOVER_MANY_FANS, 4);
+}
+
+/* How many jobs sewing for a print shop refuses with 41, with 42, and writes. */
+struct printed {
+    size_t many_uses, many_fans, bodies;
+};
+
+/* Any job for a print shop: what printshop.c works out, and the ordinary body. */
+static void test_for_print(const uint8_t *job, size_t length, struct printed *printed)
+{
+    static uint8_t out[65536], ordinary[65536];
+    struct answer plain, made;
+    memset(out, MARK, sizeof out);
+    memset(ordinary, MARK, sizeof ordinary);
+    plain.number = zaxclover_sew(job, length, ordinary, sizeof ordinary, &plain.value);
+    made.number = zaxclover_sew_for_print(job, length, out, sizeof out, &made.value);
+    struct answer due = for_print(plain, job, length);
+    expect(made.number == due.number && made.value == due.value, "sew for print", "the answer for some job");
+    expect(can_be_for_print(made), "sew for print", "a refusal that cannot arise");
+    if (made.number == ZAXCLOVER_DONE)
+        expect(memcmp(out, ordinary, sizeof out) == 0, "sew for print", "the ordinary body of some job");
+    else
+        expect(is_marked(out, 0, sizeof out), "sew for print", "a refusal leaves the output");
+    printed->many_uses += made.number == ZAXCLOVER_MANY_USES;
+    printed->many_fans += made.number == ZAXCLOVER_MANY_FANS;
+    printed->bodies += made.number == ZAXCLOVER_DONE;
+}
+
 /* STORED AND MADE-UP JOBS */
 
 /* A face selected twice is refused with 45 or for what comes before; gives whether with 45. */
@@ -778,12 +1117,14 @@ static void test_stored(const struct seeds *seeds)
     size_t sewn = 0;
     size_t faces = 0;
     size_t lesser = 0;
+    struct printed printed = {0, 0, 0};
     expect(seeds->count >= 9, "list", "stored jobs");
     for (size_t i = 0; i < seeds->count; i++) {
         size_t value;
         test_list(seeds->at[i], seeds->length[i]);
         test_repeat(seeds->at[i], seeds->length[i]);
         lesser += test_tables(seeds->at[i], seeds->length[i]);
+        test_for_print(seeds->at[i], seeds->length[i], &printed);
         if (zaxclover_sew(seeds->at[i], seeds->length[i], out, sizeof out, &value) != ZAXCLOVER_DONE)
             continue;
         faces += test_members(seeds->at[i], seeds->length[i], out, value);
@@ -791,6 +1132,8 @@ static void test_stored(const struct seeds *seeds)
     }
     expect(sewn >= 300 && faces >= 2 * sewn, "sew", "stored jobs with faces");
     expect(lesser >= 100, "sew with a table", "stored jobs that a lesser table joins less");
+    expect(printed.many_uses >= 100 && printed.many_fans >= 5, "sew for print", "stored jobs with each of its faults");
+    expect(printed.bodies >= 400, "sew for print", "stored jobs that are sewn for a print shop");
 }
 
 static int has_face(const struct job *job)
@@ -801,12 +1144,16 @@ static int has_face(const struct job *job)
     return 0;
 }
 
-/* Jobs from nothing with faces load, and faces are selected twice: otherwise `bindings/load` would make them in vain. */
+/*
+ * Jobs from nothing with faces load, faces are selected twice, and edges and points are at fault for a print shop: otherwise
+ * `bindings/load` would make such jobs in vain.
+ */
 static void test_made(const struct seeds *seeds)
 {
     static struct job job;
     size_t loaded = 0;
     size_t repeats = 0;
+    struct printed printed = {0, 0, 0};
     for (uint64_t i = 0; i < 2000; i++) {
         size_t value;
         uint64_t state = job_state(1, i);
@@ -815,9 +1162,12 @@ static void test_made(const struct seeds *seeds)
         int loads = number == ZAXCLOVER_DONE || number == ZAXCLOVER_NO_ROOM;
         loaded += strcmp(way, "from nothing") == 0 && loads && has_face(&job);
         repeats += (size_t)test_repeat(job.bytes, job.length);
+        test_for_print(job.bytes, job.length, &printed);
     }
     expect(loaded >= 10, "made-up jobs", "faces from nothing");
     expect(repeats >= 40, "made-up jobs", "faces selected twice");
+    expect(printed.many_uses >= 40 && printed.many_fans >= 30, "made-up jobs", "edges and points at fault for a print shop");
+    expect(printed.bodies >= 100, "made-up jobs", "bodies for a print shop");
 }
 
 int main(int count, char **words)
@@ -848,6 +1198,12 @@ int main(int count, char **words)
     test_job_after_table();
     test_tables_of_p9(job, length);
     test_opposed();
+    test_many_uses();
+    test_round_an_edge();
+    test_many_fans();
+    test_order_of_fans();
+    test_kept_fans();
+    test_lenses();
     test_stored(&seeds);
     test_made(&seeds);
     expect(memcmp(job, bytes, length) == 0 && is_marked(job, length, length + GUARD), "job", "left as it was");

@@ -41,6 +41,9 @@
 //! the call of [`sew_with_table`], [`body_with_table`], [`listing_with_table`] and [`walk_stage_with_table`]. All else
 //! joins by the full table, [`FULL_TABLE`].
 //!
+//! A shop with a resin printer calls [`sew_for_print`], [`body_for_print`] or [`listing_for_print`]: an edge with more than
+//! two uses is refused with 41, a point with more than one fan with 42, and all else is as in ordinary sewing.
+//!
 //! The library may assume that the output shares no byte with job or table. Rust's borrows see to it:
 //!
 //! ```compile_fail,E0502
@@ -200,6 +203,44 @@ pub fn walk_stage_with_table(table: &[u8], job: &[u8], out: &mut [u8]) -> Result
     run_with_table(raw::zaxclover_walk_stage_with_table, table, job, out)
 }
 
+/// Sews a job as [`sew`] does, but for a shop whose printer accepts only boundaries where each edge has two uses and each
+/// point one fan. An edge with four uses or any larger even number is refused with 41, right after the edge was tested for
+/// an odd number; no radial list is asked for. The lowest point with more than one fan is refused with 42, before a
+/// question of joining is put. A job with neither fault ends as it does with [`sew`], and an accepted one has the same body.
+///
+/// ```
+/// use zaxclover::{sew, sew_for_print};
+///
+/// /// A ring that lies in the loops of so many faces, by turns Same and Reversed.
+/// fn ring_in_faces(faces: u32) -> Vec<u8> {
+///     let mut records = vec![(1u16, vec![1]), (3, vec![5, 0, u32::MAX, u32::MAX])];
+///     for face in 0..faces {
+///         records.push((4, vec![7 + face, 0, 0, 0, face]));
+///         records.push((5, vec![0, face % 2]));
+///     }
+///     records.push((8, vec![0, 0])); // the surfaces of the first pair differ
+///     let bytes = |(kind, fields): (u16, Vec<u32>)| {
+///         let length = (4 * fields.len() as u32).to_le_bytes();
+///         let fields = fields.into_iter().flat_map(u32::to_le_bytes);
+///         length.into_iter().chain(kind.to_le_bytes()).chain(fields)
+///     };
+///     records.into_iter().flat_map(bytes).collect()
+/// }
+/// let (mut out, mut ordinary) = ([0u8; 256], [0u8; 256]);
+/// let pair = ring_in_faces(2);
+/// assert_eq!(sew_for_print(&pair, &mut out), sew(&pair, &mut ordinary));
+/// assert_eq!(out, ordinary);
+///
+/// let why = sew_for_print(&ring_in_faces(4), &mut out).unwrap_err();
+/// assert_eq!((why.number, why.place), (41, 0));
+/// assert_eq!(why.words(), "more than two uses of the edge (print shop)");
+/// let why = sew(&ring_in_faces(4), &mut out).unwrap_err(); // no radial list is there
+/// assert_eq!((why.number, why.place), (20, 7));
+/// ```
+pub fn sew_for_print(job: &[u8], out: &mut [u8]) -> Result<usize, Refusal> {
+    run(raw::zaxclover_sew_for_print, job, out)
+}
+
 /// The payload of loop `n` of a job, of both sorts of loops, as it stands in the job.
 pub fn loop_payload(job: &[u8], n: usize) -> Result<&[u8], Refusal> {
     let (mut start, mut value) = (0, 0);
@@ -228,6 +269,20 @@ pub fn body(job: &[u8]) -> Result<Vec<u8>, Refusal> {
 /// ```
 pub fn body_with_table(table: &[u8], job: &[u8]) -> Result<Vec<u8>, Refusal> {
     whole(|out| sew_with_table(table, job, out))
+}
+
+/// The body of a job as [`body`] gives it, but for a print shop: refused as by [`sew_for_print`].
+///
+/// ```
+/// use zaxclover::{body, body_for_print};
+///
+/// let job = [4, 0, 0, 0, 1, 0, 0, 0, 0, 0]; // Head only
+/// assert_eq!(body_for_print(&job), body(&job));
+/// let why = body_for_print(&job[..9]).unwrap_err();
+/// assert_eq!((why.number, why.place), (2, 0));
+/// ```
+pub fn body_for_print(job: &[u8]) -> Result<Vec<u8>, Refusal> {
+    whole(|out| sew_for_print(job, out))
 }
 
 /// The listing of a job, as the program `listing` prints it: the body's lines, or the line `refused NUMBER PLACE`. The job
@@ -280,6 +335,45 @@ pub fn listing(job: &[u8]) -> Result<String, Refusal> {
 /// ```
 pub fn listing_with_table(table: &[u8], job: &[u8]) -> Result<String, Refusal> {
     Ok(lines(&body_with_table(table, job)?))
+}
+
+/// The listing of a job's body as [`listing`] gives it, but for a print shop: refused as by [`sew_for_print`].
+///
+/// ```
+/// use zaxclover::{listing, listing_for_print};
+///
+/// let mut job = Vec::new(); // two closed edges at one vertex, each between two faces: two fans at point 4
+/// for (kind, fields) in [
+///     (1u16, vec![1u32]),
+///     (2, vec![4]),
+///     (3, vec![5, 0, 0, 0]),
+///     (3, vec![6, 0, 0, 0]),
+///     (4, vec![7, 0, 0, 0, 0]),
+///     (5, vec![0, 0]),
+///     (4, vec![8, 0, 0, 0, 1]),
+///     (5, vec![0, 1]),
+///     (4, vec![7, 0, 0, 0, 2]),
+///     (5, vec![1, 0]),
+///     (4, vec![8, 0, 0, 0, 3]),
+///     (5, vec![1, 1]),
+///     (8, vec![0, 0]),
+///     (8, vec![2, 0]),
+///     (11, vec![5, 0, 1, 4, 1]),
+///     (11, vec![6, 2, 3, 4, 1]),
+/// ] {
+///     job.extend((4 * fields.len() as u32).to_le_bytes());
+///     job.extend(kind.to_le_bytes());
+///     job.extend(fields.iter().flat_map(|field| field.to_le_bytes()));
+/// }
+/// let text = listing(&job)?; // in two lumps
+/// assert!(text.ends_with("lump\nshell 0 1\nlump\nshell 2 3\n"));
+/// let why = listing_for_print(&job).unwrap_err();
+/// assert_eq!((why.number, why.place), (42, 4));
+/// assert_eq!(why.words(), "more than one fan at the point (print shop)");
+/// # Ok::<(), zaxclover::Refusal>(())
+/// ```
+pub fn listing_for_print(job: &[u8]) -> Result<String, Refusal> {
+    Ok(lines(&body_for_print(job)?))
 }
 
 /// What sewing writes, in as many bytes as it needs.

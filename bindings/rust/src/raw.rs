@@ -1,6 +1,6 @@
 //! The functions of `include/sewing.h`.
 
-/// Sewing and the single stages: job and its length, output and its length, value.
+/// Sewing, sewing for a print shop and the single stages: job and its length, output and its length, value.
 pub type Operation = unsafe extern "C" fn(*const u8, usize, *mut u8, usize, *mut usize) -> usize;
 
 /// Sewing and the walk stage with a joining table: table and its length, then as [`Operation`].
@@ -104,6 +104,13 @@ unsafe extern "C" {
     pub fn zaxclover_walk_stage_with_table(
         table: *const u8,
         table_length: usize,
+        job: *const u8,
+        job_length: usize,
+        out: *mut u8,
+        out_length: usize,
+        value: *mut usize,
+    ) -> usize;
+    pub fn zaxclover_sew_for_print(
         job: *const u8,
         job_length: usize,
         out: *mut u8,

@@ -10,7 +10,7 @@ pub struct Refusal {
 }
 
 /// Every number that a refusal can have, what is wrong, and what its place is.
-const TABLE: [(usize, &str, &str); 23] = [
+const TABLE: [(usize, &str, &str); 25] = [
     (1, "the job is longer than 65,536 bytes", "byte"),
     (2, "a record is cut short", "record at byte"),
     (
@@ -56,6 +56,8 @@ const TABLE: [(usize, &str, &str); 23] = [
     (33, "two pairs of the edge lie in one lump", "edge"),
     (34, "the void lies in no outer shell", "lowest merged face"),
     (40, "the records do not fit the output", "bytes needed"),
+    (41, "more than two uses of the edge (print shop)", "edge"),
+    (42, "more than one fan at the point (print shop)", "point"),
     (
         45,
         "the face is selected twice: the same body and source face",

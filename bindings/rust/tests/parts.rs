@@ -2,8 +2,9 @@
 use std::fs;
 use std::path::Path;
 use zaxclover::{
-    FULL_TABLE, Refusal, Stage, VERSION, body, body_with_table, list, listing, listing_with_table,
-    loop_payload, sew, sew_with_table, stage, walk_stage_with_table,
+    FULL_TABLE, Refusal, Stage, VERSION, body, body_for_print, body_with_table, list, listing,
+    listing_for_print, listing_with_table, loop_payload, sew, sew_for_print, sew_with_table, stage,
+    walk_stage_with_table,
 };
 
 /// Kinds of records that are looked for below, as the header numbers them.
@@ -287,6 +288,7 @@ fn hold_refused(name: &str, job: &[u8], why: Refusal) {
         let text = listing_with_table(&table, job);
         assert_eq!(text, Err(why), "{name} {table:?}");
     }
+    hold_not_printed(name, job, why);
     for n in [0, 1, 1024, usize::MAX] {
         assert_eq!(loop_payload(job, n), Err(why), "{name} loop {n}");
     }
@@ -911,6 +913,366 @@ fn a_lesser_table_joins_no_more() {
     assert!(fewer >= 12, "{fewer}");
 }
 
+/// Sewing for a print shop refuses a job, whatever the room is, and leaves the output.
+fn hold_not_printed(name: &str, job: &[u8], why: Refusal) {
+    for room in [0, 1, 33, 1024] {
+        let mut out = vec![0xA5; room];
+        let answer = sew_for_print(job, &mut out);
+        assert_eq!(answer, Err(why), "{name} in {room}");
+        assert!(out.iter().all(|byte| *byte == 0xA5), "{name} in {room}");
+    }
+    assert_eq!(body_for_print(job), Err(why), "{name}");
+    assert_eq!(listing_for_print(job), Err(why), "{name}");
+}
+
+/// Sewing for a print shop accepts a job, and writes the ordinary body.
+fn hold_printed(name: &str, job: &[u8]) {
+    let ordinary = sewn(job);
+    assert!(ordinary.is_ok(), "{name} {ordinary:?}");
+    assert_eq!(body_for_print(job), ordinary, "{name}");
+    assert_eq!(listing_for_print(job), listing(job), "{name}");
+    hold_room(name, &|out| sew_for_print(job, out));
+}
+
+/// What sewing for a print shop makes of a job.
+fn hold_for_print(name: &str, job: &[u8], due: Option<Refusal>) {
+    match due {
+        Some(why) => hold_not_printed(name, job, why),
+        None => hold_printed(name, job),
+    }
+}
+
+/// Two faces that a ring parts, and more loops of one use of the ring, each in a face of its own.
+fn ring_in_faces(senses: &[u32], answers: &str) -> Vec<u8> {
+    let mut text = "head 1\nedge 5 0 - -\n".to_string();
+    for (i, sense) in senses.iter().enumerate() {
+        text += &format!("face {} 0 0 0 {i}\nloop 0 {sense}\n", 7 + i % 2);
+    }
+    assembled(&(text + answers))
+}
+
+/// Request Two's first fault: 41 after 11 for the edge, however many uses there are, and whatever their senses are.
+#[test]
+fn an_edge_with_more_than_two_uses_is_not_for_print() {
+    let answers = "surface 0 0\nsurface 1 0\n";
+    for uses in 0..12 {
+        for turn in 0..3 {
+            // by turns, all Same, all Same but the last
+            let sense = |i: usize| match turn {
+                0 => i % 2,
+                1 => 0,
+                _ => usize::from(i + 1 == uses),
+            };
+            let senses: Vec<u32> = (0..uses).map(|i| sense(i) as u32).collect();
+            // an answer for a use that is not there does not load
+            let job = ring_in_faces(&senses, if uses < 2 { "" } else { answers });
+            let due = match uses {
+                0 => None,
+                2 if senses[0] != senses[1] => None,
+                2 => Some(refused(10, 0)),
+                _ if uses % 2 == 1 => Some(refused(11, 0)),
+                _ => Some(refused(41, 0)),
+            };
+            hold_for_print(&format!("{senses:?}"), &job, due);
+        }
+    }
+}
+
+/// The lowest edge at fault is told, be it with 10, 11 or 41.
+#[test]
+fn edges_are_tested_for_print_in_their_order() {
+    // uses Same and Reversed, and the number that the edge alone is refused with
+    let edges: [(usize, usize, Option<usize>); 9] = [
+        (0, 0, None),
+        (1, 1, None),
+        (1, 0, Some(11)),
+        (2, 0, Some(10)),
+        (2, 1, Some(11)),
+        (2, 2, Some(41)),
+        (4, 0, Some(41)),
+        (3, 2, Some(11)),
+        (3, 3, Some(41)),
+    ];
+    let mut met = Vec::new();
+    for lists in edges.iter().flat_map(|a| edges.iter().map(move |b| [a, b])) {
+        for selected in 0..2 {
+            let mut text = format!("head 1\nedge 5 0 - -\nedge 6 0 - -\nface 7 0 {selected} 0 0\n");
+            for (e, (same, reversed, _)) in lists.iter().enumerate() {
+                // a face that is selected Reversed turns its uses
+                text += &format!("loop {e} {selected}\n").repeat(*same);
+                text += &format!("loop {e} {}\n", 1 - selected).repeat(*reversed);
+            }
+            let numbers = lists.iter().map(|edge| edge.2).enumerate();
+            let mut faults = numbers.filter_map(|(e, number)| Some(refused(number?, e)));
+            let due = faults.next();
+            hold_for_print(&text, &assembled(&text), due);
+            met.push(due);
+        }
+    }
+    for why in [(10, 0), (10, 1), (11, 0), (11, 1), (41, 0), (41, 1)] {
+        assert!(met.contains(&Some(refused(why.0, why.1))), "{why:?}");
+    }
+    assert!(met.contains(&None));
+}
+
+/// 41 whatever ordinary sewing says of the edge: accepted, refused for its radial list, or for its pairs.
+#[test]
+fn no_radial_list_is_asked_for_by_a_print_shop() {
+    let surfaces = "surface 0 0\nsurface 1 0\n";
+    for (radial, ordinary) in [
+        ("radial 0 0 1 2 3\n", None),
+        ("radial 0 1 2 3 0\n", None),
+        ("radial 0 0 3 2 1\nsurface 2 0\n", None),
+        ("", Some(refused(20, 7))),
+        ("radial 0\n", Some(refused(21, 7))),
+        ("radial 0 0 2 1 3\n", Some(refused(12, 0))),
+        ("radial 0 0 1 2 2\n", Some(refused(23, 0))),
+        ("radial 0 0 1 2\n", Some(refused(23, 0))),
+    ] {
+        let job = ring_in_faces(&[0, 1, 0, 1], &format!("{radial}{surfaces}"));
+        assert_eq!(sewn(&job).err(), ordinary, "{radial}");
+        hold_not_printed(radial, &job, refused(41, 0));
+    }
+    let unequal = ring_in_faces(&[0, 0, 0, 1], "radial 0 0 3 1 2\n");
+    assert_eq!(sewn(&unequal), Err(refused(12, 0)));
+    hold_not_printed("unequal", &unequal, refused(41, 0));
+    let one_face = "head 1\nedge 5 0 - -\nface 7 0 0 0 0\nloop 0 0\nloop 0 1\nloop 0 0\nloop 0 1\nradial 0 0 1 2 3\n";
+    assert_eq!(sewn(&assembled(one_face)), Err(refused(30, 0)));
+    hold_not_printed("one face", &assembled(one_face), refused(41, 0));
+}
+
+/// Closed edges at vertices of these points, each between two faces of its own, so that each has a fan at its point.
+fn closed_edges(points: &[u32]) -> String {
+    let mut text = "head 1\n".to_string();
+    for point in points {
+        text += &format!("vertex {point}\n");
+    }
+    for i in 0..points.len() {
+        text += &format!("edge {} 0 {i} {i}\n", 50 + i);
+    }
+    for i in 0..2 * points.len() {
+        text += &format!("face {} 0 0 0 {i}\nloop {} {}\n", 70 + i % 2, i / 2, i % 2);
+    }
+    for i in 0..points.len() {
+        text += &format!("surface {} 0\n", 2 * i);
+    }
+    for (i, point) in points.iter().enumerate() {
+        let (edge, face) = (50 + i, 2 * i);
+        text += &format!("singular {edge} {face} {} {point} 1\n", face + 1);
+    }
+    text
+}
+
+/// Request Two's second fault: 42 with the lowest point that has more than one fan.
+#[test]
+fn a_point_with_more_than_one_fan_is_not_for_print() {
+    for (points, due) in [
+        (vec![4], None),
+        (vec![4, 5], None),
+        (vec![4, 4], Some(4)),
+        (vec![0, 0], Some(0)),
+        (vec![4, 4, 4], Some(4)),
+        (vec![5, 4, 5], Some(5)),
+        (vec![9, 4, 9, 4], Some(4)),
+        (vec![4, 9, 9, 4], Some(4)),
+        (vec![9, 9, 4, 4], Some(4)),
+        (vec![9, 0, 9, 1], Some(9)),
+        (vec![0, 9, 9, 0], Some(0)),
+        (vec![u32::MAX, u32::MAX], Some(u32::MAX)),
+        (vec![u32::MAX, 0], None),
+        (vec![4, 65_540], None),
+        (vec![65_540, 4, 65_540], Some(65_540)),
+        (vec![65_537, 1, 1, 65_537], Some(1)),
+        ((0..100).collect(), None),
+        ((0..100).chain([57]).collect(), Some(57)),
+        ((0..100).rev().chain([57, 31]).collect(), Some(31)),
+    ] {
+        let text = closed_edges(&points);
+        let due = due.map(|point| refused(42, point as usize));
+        let job = assembled(&text);
+        assert!(sewn(&job).is_ok(), "{points:?}");
+        hold_for_print(&format!("{points:?}"), &job, due);
+    }
+    // one vertex for both edges
+    let text = closed_edges(&[4, 4]).replacen("vertex 4\n", "", 1);
+    let job = assembled(&text.replace("edge 51 0 1 1", "edge 51 0 0 0"));
+    assert!(sewn(&job).is_ok());
+    hold_not_printed("one vertex", &job, refused(42, 4));
+}
+
+/// 42 comes after the questions of surfaces and of points, and before all that comes after joining's.
+#[test]
+fn points_are_tested_for_print_after_the_fans_and_before_joining() {
+    let text = closed_edges(&[4, 4]);
+    let without = |kind: &str| {
+        let lines = text.lines().filter(|line| !line.starts_with(kind));
+        lines.map(|line| format!("{line}\n")).collect::<String>()
+    };
+    let no_joining = assembled(&without("singular"));
+    assert_eq!(sewn(&no_joining), Err(refused(20, 11)));
+    hold_not_printed("joining", &no_joining, refused(42, 4));
+    let undecided = assembled(&text.replace(" 4 1\n", " 4 2\n"));
+    assert_eq!(sewn(&undecided), Err(refused(21, 11)));
+    hold_not_printed("joining", &undecided, refused(42, 4));
+    for (answer, number) in [("", 20), ("surface 0 4\n", 21), ("surface 0 3\n", 22)] {
+        let job = assembled(&(without("surface") + answer));
+        hold_not_printed("surfaces", &job, refused(number, 8));
+    }
+    let vertex_loops = text.replace("loop 0 0\n", "loop 0 0\nvertex-loop 0\nvertex-loop 2\n");
+    let vertex_loops = vertex_loops.replacen("edge", "vertex 6\nedge", 1);
+    for (answer, due) in [
+        ("", refused(20, 9)),
+        ("points 4 6 2\n", refused(21, 9)),
+        ("points 4 6 0\n", refused(42, 4)),
+        ("points 4 6 1\n", refused(42, 4)),
+    ] {
+        let job = assembled(&format!("{vertex_loops}{answer}"));
+        hold_not_printed("vertex loops", &job, due);
+    }
+    let open = text.replace("head 1", "head 0");
+    let lump = "orientation 0 1\norientation 2 0\n";
+    for (answers, ordinary) in [
+        (String::new(), refused(20, 12)),
+        ("orientation 0 2\n".to_string(), refused(21, 12)),
+        (lump.to_string(), refused(20, 13)),
+        (format!("{lump}inside 2 0 0\n"), refused(34, 2)),
+        (format!("{lump}inside 2 0 1\n"), refused(32, 4)),
+    ] {
+        let job = assembled(&format!("{open}{answers}"));
+        assert_eq!(sewn(&job), Err(ordinary), "{answers}");
+        hold_not_printed(&answers, &job, refused(42, 4));
+    }
+}
+
+/// Where ordinary sewing refuses with 31; and an edge with four uses beside it, whose fault comes first.
+#[test]
+fn two_fans_in_one_boundary_are_two_fans_at_a_point() {
+    let text = "head 1\nvertex 4\nedge 1 0 0 0\nedge 2 0 0 0\nface 7 0 0 0 0\nloop 0 0\nloop 1 0\n\
+        face 8 0 0 0 1\nloop 0 1\nface 9 0 0 0 2\nloop 1 1\nsurface 0 0\nsurface 1 0\n";
+    assert_eq!(sewn(&assembled(text)), Err(refused(31, 4)));
+    hold_not_printed("31", &assembled(text), refused(42, 4));
+    let ring = text.replacen("face 7", "edge 3 0 - -\nface 7", 1);
+    let four = "loop 1 1\nloop 2 0\nloop 2 1\nloop 2 0\nloop 2 1\n";
+    let four = assembled(&ring.replacen("loop 1 1\n", four, 1));
+    hold_not_printed("41 first", &four, refused(41, 2));
+}
+
+/// Uses that merging removes have no fan, and neither have rings and vertex loops.
+#[test]
+fn only_fans_of_kept_uses_count() {
+    let seam = "head 1\nvertex 4\nedge 1 0 0 0\nedge 2 0 0 0\nface 7 0 0 0 0\nloop 0 0\nloop 1 0\nloop 1 1\n\
+        face 8 0 0 0 1\nloop 0 1\nsurface 0 0\nsingular 1 0 1 4 1\n";
+    let joined = "head 1\nvertex 4\nedge 1 0 0 0\nedge 2 0 0 0\nface 7 0 0 0 0\nloop 0 0\n\
+        face 8 0 0 0 1\nloop 0 1\nface 7 0 0 0 2\nloop 1 0\nface 7 0 0 0 3\nloop 1 1\n\
+        surface 0 0\nsurface 2 1\nsingular 1 0 1 4 1\n";
+    let apart = joined.replace("surface 2 1\n", "surface 2 0\n") + "singular 2 2 3 4 1\n";
+    let rings = "head 1\nvertex 4\nedge 5 0 - -\nedge 6 0 - -\nedge 1 0 0 0\nface 7 0 0 0 0\nloop 0 0\nloop 1 0\n\
+        loop 2 0\nvertex-loop 0\nface 8 0 0 0 1\nloop 0 1\nloop 1 1\nloop 2 1\nvertex-loop 0\n\
+        surface 0 0\nsurface 1 0\nsurface 2 0\nsingular 1 0 1 4 1\n";
+    hold_printed("a seam", &assembled(seam));
+    hold_printed("joined faces", &assembled(joined));
+    hold_printed("rings and vertex loops", &assembled(rings));
+    assert!(sewn(&assembled(&apart)).is_ok());
+    hold_not_printed("faces apart", &assembled(&apart), refused(42, 4));
+}
+
+/// Two edges of a lens become one, and that a ring: joins and rings as in ordinary sewing.
+#[test]
+fn joins_and_rings_are_made_for_print_too() {
+    let lens = "head 1\nvertex 4\nvertex 1\nedge 5 0 0 1\nedge 5 0 1 0\nface 7 0 0 0 0\nloop 0 0 1 0\n\
+        face 8 0 0 0 1\nloop 1 1 0 1\nsurface 0 0\nsurface 1 0\nsingular 5 0 1 4 0\nsingular 5 0 1 1 0\n";
+    let job = assembled(lens);
+    hold_printed("a lens", &job);
+    let text = listing_for_print(&job).expect("a lens");
+    assert!(text.starts_with("body 1 4 0 0 1 1 0\nedge 5 "), "{text}");
+    let refusal = assembled(&lens.replace("singular 5 0 1 1 0\n", ""));
+    assert_eq!(sewn(&refusal), Err(refused(20, 11)));
+    hold_not_printed("a question of joining", &refusal, refused(20, 11));
+    let rings = "head 1\nedge 5 0 - -\nedge 6 0 - -\nface 7 0 0 0 0\nloop 0 0\nloop 1 0\n\
+        face 8 0 0 0 1\nloop 0 1\nloop 1 1\nsurface 0 0\nsurface 1 0\n";
+    hold_printed("rings", &assembled(rings));
+    hold_printed("no faces", &assembled("head 1\nvertex 4\nedge 5 0 - -\n"));
+}
+
+/// Of each edge its uses, by sense, after the faces are selected.
+fn uses_of_edges(job: &[u8]) -> Vec<[usize; 2]> {
+    let (edge, the_loop) = (3, 5);
+    let mut counts = vec![[0, 0]; of_kind(job, edge).len()];
+    let mut selected = 0;
+    for (kind, fields) in records(job) {
+        if kind == FACE {
+            selected = fields[2];
+        }
+        for item in fields.chunks(2).filter(|_| kind == the_loop) {
+            counts[item[0] as usize][(item[1] ^ selected) as usize] += 1;
+        }
+    }
+    counts
+}
+
+/// The refusal of the lowest edge at fault.
+fn fault_of_edges(job: &[u8]) -> Option<Refusal> {
+    let number = |[same, reversed]: [usize; 2]| match same + reversed {
+        0 => None,
+        n if n % 2 == 1 => Some(11),
+        2 => (same != 1).then_some(10),
+        _ => Some(41),
+    };
+    let counts = uses_of_edges(job).into_iter().enumerate();
+    counts
+        .filter_map(|(edge, uses)| Some(refused(number(uses)?, edge)))
+        .next()
+}
+
+/// The lowest point with more than one fan, by what the stage of the fans writes.
+fn fault_of_points(job: &[u8]) -> Result<Option<Refusal>, Refusal> {
+    let mut out = vec![0; 24_576];
+    let length = stage(Stage::Fans, job, &mut out)?;
+    let mut points = Vec::new();
+    for fan in fields(&out[..length]).chunks(3) {
+        if fan[0] == fan[1] {
+            points.push(fan[2] as usize);
+        }
+    }
+    points.sort();
+    let again = points.windows(2).find(|pair| pair[0] == pair[1]);
+    Ok(again.map(|pair| refused(42, pair[0])))
+}
+
+/// What sewing for a print shop answers to a job that loads, by its uses, its fans and ordinary sewing.
+fn due_for_print(job: &[u8]) -> Result<Vec<u8>, Refusal> {
+    match fault_of_edges(job) {
+        Some(why) => Err(why),
+        None => match fault_of_points(job)? {
+            Some(why) => Err(why),
+            None => sewn(job),
+        },
+    }
+}
+
+/// Every part: what its uses and fans say, and else what ordinary sewing does.
+#[test]
+fn parts_are_for_print_if_edges_have_two_uses_and_points_one_fan() {
+    let parts = (1..=9).map(|n| format!("P{n}.txt"));
+    let (mut accepted, mut refusals) = (0, 0);
+    for name in parts.chain(parts_of_the_requests()) {
+        let (job, _) = part(&name);
+        let read = stage(Stage::Read, &job, &mut vec![0; 65_536]);
+        let due = match read {
+            Ok(_) => due_for_print(&job),
+            Err(why) => Err(why),
+        };
+        assert_eq!(body_for_print(&job), due, "{name}");
+        match due {
+            Ok(_) => hold_printed(&name, &job),
+            Err(why) => hold_not_printed(&name, &job, why),
+        }
+        accepted += usize::from(due.is_ok());
+        refusals += usize::from(due.is_err());
+    }
+    assert!(accepted >= 20 && refusals >= 20, "{accepted}, {refusals}");
+}
+
 #[test]
 fn a_part_lists_as_the_program_prints_it() {
     for n in 1..=9 {
@@ -1017,7 +1379,7 @@ fn stages_answer_by_themselves() {
 fn every_refusal_has_words() {
     let numbers: Vec<usize> = Refusal::numbers().collect();
     let expected = [
-        1, 2, 3, 4, 5, 6, 7, 10, 11, 12, 13, 20, 21, 22, 23, 30, 31, 32, 33, 34, 40, 45, 48,
+        1, 2, 3, 4, 5, 6, 7, 10, 11, 12, 13, 20, 21, 22, 23, 30, 31, 32, 33, 34, 40, 41, 42, 45, 48,
     ];
     assert_eq!(numbers, expected);
     let mut seen = Vec::new();
