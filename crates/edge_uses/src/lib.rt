@@ -69,12 +69,15 @@ impl<'a> EdgeUses<'a> {
         Chain::new(self.nexts, get(self.firsts, e))
     }
 
-    // How many uses an edge has.
+    // How many uses an edge has; none past the edges.
     #[tactic(auto, using(crate::specs::LinkLaws::counts))]
     pub fn count(&self, e: usize) -> usize
-        requires { e < self.now.edges }
-        ensures { result ≡ length (uses_of_edge self.now.uses e) }
+        ensures edge { e < self.now.edges → result ≡ length (uses_of_edge self.now.uses e) }
+        ensures past { self.now.edges ≤ e → result ≡ 0 }
     {
+        if self.edges() <= e {
+            return 0;
+        }
         self.of(e).count()
     }
 }

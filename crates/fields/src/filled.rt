@@ -5,7 +5,7 @@ ghost use Rattle.std.specs.Prelude.{◌≡◌, ◌<◌, ◌≤◌, [], ◌∷◌
 use std::marker::Model;
 
 // A table of `N` places with how many entries it has. Contracts see the list of them.
-#[derive(Drop)]
+#[derive(Clone, Drop)]
 pub struct Filled<T: Copy, const N: usize> {
     table: [T; N],
     count: usize,

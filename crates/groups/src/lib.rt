@@ -70,7 +70,7 @@ pub fn settle(parents: &mut [u32])
 // GROUPS LENT WITH THEIR PARENTS INSIDE
 
 // Groups of at most 256 numbers. No parent lies above its number.
-#[derive(Drop)]
+#[derive(Clone, Copy)]
 pub struct Groups {
     parents: [u32; MOST_FACES],
 }
@@ -84,6 +84,8 @@ impl Model for Groups {
     ghost view = { λ g. g.parents };
 
     ghost invariant = { λ g. Ordered g.parents };
+
+    ghost inverse = { λ parents. record { parents = parents } };
 }
 
 // Each of n numbers alone; past them every number is in the group of 0.

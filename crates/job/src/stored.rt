@@ -9,7 +9,7 @@ use rules::{Item, Sense};
 use std::marker::Model;
 
 // So many fields from a byte on. What reads one is inlined: a call would cost more than the reading.
-#[derive(Drop)]
+#[derive(Clone, Drop)]
 pub struct Fields<'a> {
     bytes: &'a [u8],
     from: usize,

@@ -26,7 +26,6 @@ use job::{FACES, Fields, INDEX, LOOPS, OWNERS, RawJob};
 use loaded::Loaded;
 use rules::{Counts, Fault, Kind, MOST_BYTES, Refusal};
 use selected::Sources;
-use std::ops::Range;
 
 // The record that is being read: its first byte, its kind and its payload's length.
 #[derive(Clone, Copy)]
@@ -166,7 +165,7 @@ fn step(
 }
 
 // The records in order, up to the first refusal. The index is all 0 at first.
-pub fn load(job: &[u8], index: &mut [u32; INDEX]) -> Result<Counts, Refusal>
+fn load_in(job: &[u8], index: &mut [u32; INDEX]) -> Result<Counts, Refusal>
     requires { index.old ≡ replicate 7424 0 }
     ensures loads { (result and_then λ c. Ok (state_in job.now index.new c)) ≡ loading job.now }
     ensures indexed { IfOk result (λ c. Indexed job.now index.new c) }
@@ -187,25 +186,44 @@ pub fn load(job: &[u8], index: &mut [u32; INDEX]) -> Result<Counts, Refusal>
     Ok(c)
 }
 
+// The same for an index that is lent as a slice.
+pub fn load(job: &[u8], index: &mut [u32]) -> Result<Counts, Refusal>
+    requires { index.old ≡ replicate 7424 0 }
+    ensures loads { (result and_then λ c. Ok (state_in job.now index.new c)) ≡ loading job.now }
+    ensures indexed { IfOk result (λ c. Indexed job.now index.new c) }
+{
+    match index.as_mut_array::<INDEX>() {
+        Some(room) => load_in(job, room),
+        // there are as many as are asked for
+        None => Err(Fault::TooLong.at(0)),
+    }
+}
+
 // The loaded job over an index that is all 0 at first, or the refusal of load.
 pub fn open<'a>(job: &'a [u8], index: &'a mut [u32; INDEX]) -> Result<Loaded<'a>, Refusal>
     requires { index.old ≡ replicate 7424 0 }
     ensures { result ≡ loaded job.now }
 {
-    let counts = load(job, index)?;
+    let counts = load_in(job, index)?;
     Ok(Loaded::new(job, index, counts))
 }
 
 // THE LOOP REQUEST
 
-// The payload of loop n among both sorts, from its first byte to the byte after it; after the refusals of load a number
-// too high is refused.
-pub fn loop_stretch(job: &[u8], n: usize) -> Result<Range<usize>, Refusal>
+// A loop's payload, from its first byte to the byte after it.
+#[derive(Clone, Copy)]
+pub struct Stretched {
+    pub start: usize,
+    pub end: usize,
+}
+
+// The payload of loop n among both sorts; after the refusals of load a number too high is refused.
+pub fn loop_stretch(job: &[u8], n: usize) -> Result<Stretched, Refusal>
     ensures finds { (result and_then λ r. Ok (record { start = r.start; size = r.end - r.start })) ≡ requested job.now n }
     ensures within { IfOk result (λ r. (r.start < r.end) × (r.end ≤ length job.now)) }
 {
     let mut index = [0u32; INDEX];
-    let c = load(job, &mut index)?;
+    let c = load_in(job, &mut index)?;
     if c.loops <= n {
         return Err(Fault::FieldNotPermitted.at(n));
     }
@@ -215,7 +233,10 @@ pub fn loop_stretch(job: &[u8], n: usize) -> Result<Range<usize>, Refusal>
         counts: c,
     };
     let start = raw.loop_start(n);
-    Ok(start..start + raw.loop_size(n))
+    Ok(Stretched {
+        start,
+        end: start + raw.loop_size(n),
+    })
 }
 
 // The bytes of the job that hold the payload of loop n, where they stand in the job; none where the request is refused.
@@ -223,7 +244,7 @@ pub fn loop_payload(job: &[u8], n: usize) -> &[u8]
     ensures { (result.now ≡ shown job.now (requested job.now n)) × Placed job.entry.ref_ptr (requested job.now n) result.ref_ptr }
 {
     match loop_stretch(job, n) {
-        Ok(bytes) => &job[bytes],
+        Ok(bytes) => &job[bytes.start..bytes.end],
         Err(_) => &job[0..0],
     }
 }

@@ -3,7 +3,7 @@
 
 #![tactic(auto)]
 
-ghost use Rattle.std.specs.Prelude.{◌≡◌, ◌≢◌, ◌<◌, ◌≤◌, length, eqb};
+ghost use Rattle.std.specs.Prelude.{◌≡◌, ◌≢◌, ◌<◌, ◌≤◌, length, eqb, IfOk};
 ghost use Rattle.rules.specs.Job.{edge_at, face_at, ring, point_at};
 ghost use Rattle.rules.specs.Read.{content_items, uses_of, edge_of_use, use_start};
 ghost use Rattle.rules.specs.Kinds.{number_of};
@@ -179,10 +179,11 @@ impl<'a> Loaded<'a> {
     }
 
     // The uses of an edge in order round it, where none means undecided.
-    #[tactic(auto, using(crate::proofs::FoundLaws::radial), unfolding(rules::specs::Kinds::number_of))]
+    #[tactic(auto, using(crate::proofs::FoundLaws::radial, rules::proofs::FieldLaws::length_fields), unfolding(rules::specs::Kinds::number_of))]
     pub fn radial(&self, e: usize) -> Result<Order<'a>, Refusal>
         requires { e < 4294967296 }
-        ensures { result ≡ ask_radial self.now.answers e }
+        ensures asks { result ≡ ask_radial self.now.answers e }
+        ensures few { IfOk result (λ order. length order < 1073741824) }
     {
         let kind = Kind::Radial;
         let Some(p) = answers::find(&self.raw, answers::about_one(kind, e)) else {

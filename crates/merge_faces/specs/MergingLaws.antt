@@ -3,7 +3,6 @@ use Rattle.std.specs.Prelude.{ℕ, zero, suc, ◌+◌, ◌-◌, ◌≤◌, ◌<�
 use native.Mathlib.Omega.{arith}
 use Rattle.std.proofs.Math.Path.{refl, sym, ap}
 use Rattle.std.proofs.Common.{◌∙◌, subst, ext_get_or, ⊎_elim, eq-or-lt_of_le}
-use Rattle.std.proofs.lemmas.List.{get_or_default}
 use mathlib.Core.List.{List, [], ◌∷◌, map, foldl}
 use Rattle.lists.specs.Lists.{from, below}
 use Rattle.lists.specs.Runs.{left_at, left_none, length_table, get_or_table}
@@ -12,7 +11,7 @@ use Rattle.rules.specs.declared.Refusal.{Refusal}
 use Rattle.rules.specs.declared.Use.{Use}
 use Rattle.rules.specs.Outcome.{Outcome, Ok, Err, throughout}
 use Rattle.rules.proofs.OutcomeLaws.{bind_on, bind_stop}
-use Rattle.rules.specs.Read.{no_use, face_of_use}
+use Rattle.rules.specs.Read.{face_of_use}
 use Rattle.rules.specs.Pair.{twin_of}
 use Rattle.rules.specs.Groups.{alone, label_of, joined, Grouping, Lowest}
 use Rattle.rules.specs.Merge.{other_face, ungrouped, boundary_step, boundaries}
@@ -91,11 +90,11 @@ unfolding from
 pairs_none us ts parents g s = s
 
 -- one pair more: the faces of use h and of its twin t
-pub pairs_more : (us : List Use) (ts before parents after : List ℕ) (h t b : ℕ) (past : Use) → JoinedPairs us ts h before parents
-    → h < length us → t ≡ twin_of ts h → b ≡ face_of_use us t → JoinedIn parents after (get_or us h past).face b → JoinedPairs us ts (h + 1) before after
-pairs_more us ts before parents after h t b past s lt et eb j g k =
+pub pairs_more : (us : List Use) (ts before parents after : List ℕ) (h t a b : ℕ) → JoinedPairs us ts h before parents
+    → t ≡ twin_of ts h → a ≡ face_of_use us h → b ≡ face_of_use us t → JoinedIn parents after a b → JoinedPairs us ts (h + 1) before after
+pairs_more us ts before parents after h t a b s et ea eb j g k =
     let l = foldl (boundary_step us ts) g (below h) in
-    subst (Stands after) ((λ i. joined l (get_or_default us h past no_use lt i).face ((eb ∙ ap (face_of_use us) et) i)) ∙ sym (foldl_below (boundary_step us ts) g h)) (j.stands l (s g k))
+    subst (Stands after) ((λ i. joined l (ea i) ((eb ∙ ap (face_of_use us) et) i)) ∙ sym (foldl_below (boundary_step us ts) g h)) (j.stands l (s g k))
 
 -- the same pairs in a longer table
 fold_padded : (us : List Use) (ts : List ℕ) (k : ℕ) (l g : List ℕ) → foldl (boundary_step us ts) (padded k g) l ≡ padded k (foldl (boundary_step us ts) g l)

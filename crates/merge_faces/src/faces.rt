@@ -11,7 +11,7 @@ use rules::{MOST_FACES, Refusal, Table, Use};
 use std::marker::Model;
 
 // The first `count` entries of three tables are those of the selected faces; `members` has those of the merged faces.
-#[derive(Drop)]
+#[derive(Clone, Drop)]
 pub struct Faces {
     count: usize,
     joins: usize,

@@ -24,15 +24,16 @@ use uses::use_face;
 
 // BOUNDARIES
 
-// The faces of every twin pair join.
-fn join_pairs(g: Groups, uses: &[Use], twins: &[u32]) -> Groups
-    ensures { JoinedPairs uses.now twins.now (length uses.now) g result }
+// The faces of the first n twin pairs join.
+pub fn join_pairs(g: Groups, uses: &[Use], twins: &[u32], n: usize) -> Groups
+    ensures { JoinedPairs uses.now twins.now n g result }
 {
     let mut groups = g;
-    for (h, u) in uses.iter().enumerate() {
+    // by number: n may be any, as a use past the last reads as none
+    for h in 0..n {
         let t = get(twins, h);
         // boundaries count no joins
-        let _separate = join(&mut groups, u.face as usize, use_face(uses, t));
+        let _separate = join(&mut groups, use_face(uses, h), use_face(uses, t));
     }
     groups
 }
@@ -43,7 +44,7 @@ pub fn boundaries(uses: &[Use], twins: &[u32], labels: &mut [u32])
     ensures { labels.new ≡ boundaries_of uses.now twins.now (length labels.old) }
 {
     let alone = groups::new(labels.len());
-    let joined = join_pairs(alone, uses, twins);
+    let joined = join_pairs(alone, uses, twins, uses.len());
     groups::labels_of(joined, labels);
 }
 

@@ -4,12 +4,13 @@
 
 #![tactic(auto)]
 
-ghost use Rattle.std.specs.Prelude.{◌≡◌, ◌+◌, ◌<◌, ◌≤◌, ◌^◌, length};
+ghost use Rattle.std.specs.Prelude.{◌≡◌, ◌+◌, ◌*◌, ◌<◌, ◌≤◌, ◌^◌, length, IfOk, IfSome};
 ghost use Rattle.replay.specs.Operation.{packed_number};
 
 use fields::{put_fields, word};
 use programs::Program;
 use rules::{Refusal, Stage};
+use std::marker::Model;
 
 // One byte more than a packed file may have: a longer file is told by its length.
 const FILE: usize = 3000001;
@@ -41,11 +42,11 @@ enum Operation {
 
 impl From<usize> for Operation {
     ghost use Rattle.std.specs.Prelude.{◌≡◌};
-    ghost use Rattle.replay.specs.Operation.{packed_number};
+    ghost use Rattle.replay.specs.Operation.{packed_number, packed_operation};
 
-    ghost from_gives = { λ n operation. packed_number operation ≡ n };
+    ghost from_gives = { λ n operation. (operation ≡ packed_operation n) × (packed_number operation ≡ n) };
 
-    #[tactic(auto, using(crate::proofs::StageNumbers::numbered_is), unfolding(rules::specs::Operation::stage_of))]
+    #[tactic(auto, unfolding(crate::specs::Operation::packed_operation))]
     fn from(n: usize) -> Self {
         match n {
             0 => Operation::Sewing,
@@ -146,22 +147,39 @@ struct Reader<'a> {
     rest: &'a [u8],
 }
 
+impl<'a> Model for Reader<'a> {
+    ghost use Rattle.std.specs.Prelude.{ℕ, List};
+
+    ghost Value = { List ℕ };
+
+    ghost view = { λ reader. reader.rest.now };
+}
+
 impl<'a> Reader<'a> {
     // So many bytes, if they are there.
-    fn part(&mut self, count: usize) -> Option<&'a [u8]> {
+    fn part(&mut self, count: usize) -> Option<&'a [u8]>
+        ensures taken { IfSome result (λ part. (length part.now ≡ count) × (length self.new + count ≡ length self.old)) }
+        ensures left { length self.new ≤ length self.old }
+    {
         let (part, rest) = self.rest.split_at_checked(count)?;
         self.rest = rest;
         Some(part)
     }
 
     // A four-byte field, if it is there.
-    fn field(&mut self) -> Option<u32> {
+    fn field(&mut self) -> Option<u32>
+        ensures taken { IfSome result (λ field. length self.new + 4 ≡ length self.old) }
+        ensures left { length self.new ≤ length self.old }
+    {
         let bytes = self.part(4)?;
         Some(word(bytes, 0) as u32)
     }
 
     // A vector's job, and how many answers come after it.
-    fn vector(&mut self) -> Option<(&'a [u8], u32)> {
+    fn vector(&mut self) -> Option<(&'a [u8], u32)>
+        ensures taken { IfSome result (λ vector. length self.new + 8 ≤ length self.old) }
+        ensures left { length self.new ≤ length self.old }
+    {
         let size = self.field()?;
         let job = self.part(size as usize)?;
         let count = self.field()?;
@@ -169,7 +187,9 @@ impl<'a> Reader<'a> {
     }
 
     // The joining table of an operation, by its length; no bytes for one that takes none.
-    fn table(&mut self, operation: Operation) -> Option<&'a [u8]> {
+    fn table(&mut self, operation: Operation) -> Option<&'a [u8]>
+        ensures { length self.new ≤ length self.old }
+    {
         if !operation.takes_table() {
             return Some(&[]);
         }
@@ -178,7 +198,10 @@ impl<'a> Reader<'a> {
     }
 
     // An answer: 0, length and hash of an output, or number and place of a refusal.
-    fn answer(&mut self) -> Option<Packed<'a>> {
+    fn answer(&mut self) -> Option<Packed<'a>>
+        ensures taken { IfSome result (λ packed. length self.new + 8 ≤ length self.old) }
+        ensures left { length self.new ≤ length self.old }
+    {
         let operation = Operation::from(self.field()? as usize);
         let table = self.table(operation)?;
         let room = match operation {
@@ -253,7 +276,7 @@ fn requests(job: &[u8], out: &mut [u8]) -> usize {
         match load::loop_stretch(job, n) {
             Err(refusal) => return put_fields(out, p, &[refusal.fault.number(), refusal.place]),
             Ok(bytes) => {
-                let q = put_fields(out, p, &[0, bytes.len()]);
+                let q = put_fields(out, p, &[0, bytes.end - bytes.start]);
                 p = put_payload(job, n, out, q);
             }
         }
@@ -332,16 +355,17 @@ fn close(rt: &(impl Print + Eprint), ending: Result<Tally, &str>) {
                 answers,
                 jobs,
             },
-        ) => print!(rt; "no difference in {answers} answers of {jobs} jobs"),
+        ) => print!(rt; "no difference in {answers} answers of {jobs}"),
         Ok(
             Tally {
                 differences,
                 answers,
                 jobs,
             },
-        ) => print!(rt; "{differences} differences in {answers} answers of {jobs} jobs"),
+        ) => print!(rt; "{differences} differences in {answers} answers of {jobs}"),
     };
-    PROGRAM.print(rt, b"\n");
+    let end: &[u8] = if ending.is_ok() { b" jobs\n" } else { b"\n" };
+    PROGRAM.print(rt, end);
 }
 
 // THE VECTORS
@@ -356,7 +380,7 @@ fn agrees(rt: &impl Print, vector: u32, job: &[u8], p: Packed<'_>, out: &mut [u8
     same
 }
 
-// How many of the next answers, so many of a job, differ; none where fewer are left.
+// How many of the next answers, so many of a job, differ; none where fewer are left. Each answer takes a byte at least.
 fn run_answers(
     rt: &impl Print,
     reader: &mut Reader<'_>,
@@ -364,7 +388,10 @@ fn run_answers(
     job: &[u8],
     count: u32,
     out: &mut [u8; OUT],
-) -> Option<u32> {
+) -> Option<u32>
+    ensures counted { IfSome result (λ differences. (differences ≤ count) × (count + length reader.new ≤ length reader.old)) }
+    ensures left { length reader.new ≤ length reader.old }
+{
     let mut differences: u32 = 0;
     // by number: the file says how many there are, and each begins where the one before ends
     for _ in 0..count {
@@ -376,13 +403,15 @@ fn run_answers(
     Some(differences)
 }
 
-// So many vectors, each a job with its answers.
+// So many vectors, each a job with its answers. Each answer, and each job, takes a byte at least.
 fn run_vectors(
     rt: &impl Print,
     reader: &mut Reader<'_>,
     jobs: u32,
     out: &mut [u8; OUT],
-) -> Result<Tally, &'static str> {
+) -> Result<Tally, &'static str>
+    ensures { IfOk result (λ t. (t.jobs ≡ jobs) × (t.differences ≤ t.answers) × (t.answers + t.jobs + length reader.new ≤ length reader.old)) }
+{
     let mut answers: usize = 0;
     let mut differences: usize = 0;
     // by number, as above

@@ -208,7 +208,7 @@ pub extern "C" fn zaxclover_loop(
     match load::loop_stretch(job, n) {
         Ok(bytes) => {
             *start = bytes.start;
-            *value = bytes.len();
+            *value = bytes.end - bytes.start;
             0
         }
         Err(refusal) => {

@@ -13,12 +13,19 @@ use Rattle.fields.specs.declared.Span.{Span}
 use Rattle.fields.specs.Spans.{no_span, span_at}
 use Rattle.lists.specs.Stretches.{length_stretch}
 use Rattle.rules.specs.Fields.{field_bytes}
-use Rattle.rules.specs.Read.{face_of_use}
+use Rattle.rules.specs.Read.{no_use, face_of_use}
 use Rattle.rules.specs.Merge.{merged_face_of}
+use Rattle.rules.specs.Stage.{use_fields}
 use Rattle.fields.specs.Wrote.{Wrote}
 use Rattle.walk.specs.Walks.{loop_in, loops_in, Following}
-use Rattle.stages_out.specs.Rows.{pair_row, pair_rows, round_row, round_rows}
+use Rattle.stages_out.specs.Rows.{use_row, pair_row, pair_rows, round_row, round_rows}
 use Rattle.stages_out.specs.Writing.{wrote_both, wrote_same}
+
+-- READ
+
+-- the rows of the first n uses are the fields of all, where there are n
+pub use_rows : (us : List Use) (n : ℕ) → n ≡ length us → flat_map (use_row us) (below n) ≡ flat_map use_fields us
+use_rows us n e = ap (λ k. flat_map (use_row us) (below k)) e ∙ sym (flat_map_places use_fields us no_use)
 
 -- MERGE
 

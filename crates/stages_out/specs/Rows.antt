@@ -11,7 +11,8 @@ use Rattle.rules.specs.Groups.{label_of}
 use Rattle.rules.specs.Merge.{Merged, merged_faces, merged_face_of}
 use Rattle.rules.specs.Walk.{successor}
 use Rattle.rules.specs.Sew.{Walked, Ends}
-use Rattle.rules.specs.Stage.{group_fields, kept_uses, walk_fields, loop_fields, stage_bytes}
+use Rattle.rules.specs.Read.{use_at}
+use Rattle.rules.specs.Stage.{use_fields, group_fields, kept_uses, walk_fields, loop_fields, stage_bytes}
 
 -- a writer writes these bytes from the output's start on, and again when it is called after that
 abbrev pub WritesTwice : {F : Type 0} → (F → MutBor (List ℕ) → ℕ → MutBor (List ℕ) → F → Type 0) → F → List ℕ → Type 0
@@ -23,6 +24,10 @@ WritesTwice {F} step put bytes =
 -- a stage with these fields: its ending, and what the output holds after it
 abbrev pub Staged : List ℕ → List ℕ → List ℕ → Outcome ℕ → Type 0
 Staged fields before after r = Ends (stage_bytes (length before) fields) before after r
+
+-- read: edge, selected face, sense and old successor of use h
+abbrev pub use_row : List Use → ℕ → List ℕ
+use_row us h = use_fields (use_at us h)
 
 -- walk: use, successor and passed count of each kept use
 abbrev pub walk_row : List ℕ → List ℕ → ℕ → List ℕ

@@ -6,7 +6,7 @@ use Rattle.load.proofs.loop_stretch.Goals as goal
 
 pub returns-in_err-c-clause-finds : goal.returns-in_err-c-clause-finds
 returns-in_err-c-clause-finds c =
-    let stops = request_refused c.args.job.now c.args.n _ (sym c.load.ensures.loads ∙ bind_stop _ c.in_err-c.was) in
+    let stops = request_refused c.args.job.now c.args.n _ (sym c.load_in.ensures.loads ∙ bind_stop _ c.in_err-c.was) in
     rw (hands_on _ c.from_residual.ensures.1) (sym stops)
 
 pub returns-then-c-n-clause-finds : goal.returns-then-c-n-clause-finds

@@ -3,7 +3,7 @@ use Rattle.rules.specs.Outcome.{Err}
 use Rattle.rules.specs.Load.{no_counts}
 use Rattle.rules.proofs.OutcomeLaws.{bind_stop, hands_on}
 use Rattle.load.specs.Follows.{load_long, load_empty, going_start, follows_start, follows_on, follows_refused, follows_done}
-use Rattle.load.proofs.load.Goals as goal
+use Rattle.load.proofs.load_in.Goals as goal
 
 pub returns-then-job-gt-MOST_BYTES-clause-loads : goal.returns-then-job-gt-MOST_BYTES-clause-loads
 returns-then-job-gt-MOST_BYTES-clause-loads c = ap Err c.at.ensures ∙ sym (load_long c.args.job.now c.if-job-gt-MOST_BYTES.true)
