@@ -9,12 +9,12 @@ ghost use Rattle.rules.specs.Questions.{ask, ask_yes, ask_same, surface_answer};
 ghost use Rattle.answers.specs.Question.{key_of, Shaped};
 
 use answers::Question;
-use loaded::Loaded;
+use loaded::IndexedJob;
 use rules::{Fault, Kind, Refusal, SurfaceAnswer, Verdict};
 
 // The number on record for a question. A missing answer ends the stage there, by the form that document 01 names.
 #[tactic(auto, unfolding(rules::specs::Questions::on_record))]
-fn ask(job: &Loaded<'_>, q: Question) -> Result<usize, Refusal>
+fn ask(job: &IndexedJob<'_>, q: Question) -> Result<usize, Refusal>
     requires { Shaped q × (q.kind ≢ Kind.Radial) }
     ensures { result ≡ ask job.now.answers (number_of q.kind) (key_of q) }
 {
@@ -26,7 +26,7 @@ fn ask(job: &Loaded<'_>, q: Question) -> Result<usize, Refusal>
 
 // A question that is answered yes or no.
 #[tactic(auto, unfolding(rules::specs::Questions::decided))]
-pub fn ask_yes(job: &Loaded<'_>, q: Question) -> Result<bool, Refusal>
+pub fn ask_yes(job: &IndexedJob<'_>, q: Question) -> Result<bool, Refusal>
     requires { Shaped q × (q.kind ≢ Kind.Radial) }
     ensures { result ≡ ask_yes job.now.answers (number_of q.kind) (key_of q) }
 {
@@ -39,7 +39,7 @@ pub fn ask_yes(job: &Loaded<'_>, q: Question) -> Result<bool, Refusal>
 
 // Points and Curves: equal numbers are the same without a record.
 #[tactic(auto, using(answers::specs::QuestionLaws::shaped_either, answers::specs::QuestionLaws::either_key, answers::specs::QuestionLaws::either_kind), unfolding(rules::specs::Questions::ask_same))]
-pub fn ask_same(job: &Loaded<'_>, kind: Kind, a: u32, b: u32) -> Result<bool, Refusal>
+pub fn ask_same(job: &IndexedJob<'_>, kind: Kind, a: u32, b: u32) -> Result<bool, Refusal>
     requires { kind ≢ Kind.Radial }
     ensures { result ≡ ask_same job.now.answers (number_of kind) a b }
 {
@@ -51,7 +51,7 @@ pub fn ask_same(job: &Loaded<'_>, kind: Kind, a: u32, b: u32) -> Result<bool, Re
 
 // Surface, for the lower use of a pair.
 #[tactic(auto, using(answers::specs::QuestionLaws::shaped_one), unfolding(rules::specs::Kinds::number_of))]
-pub fn ask_surface(job: &Loaded<'_>, h: u32) -> Result<SurfaceAnswer, Refusal>
+pub fn ask_surface(job: &IndexedJob<'_>, h: u32) -> Result<SurfaceAnswer, Refusal>
     ensures { result ≡ (ask job.now.answers 8 (h ∷ []) and_then λ v. Ok (surface_answer v)) }
 {
     let v = ask(job, answers::about_one(Kind::Surface, h as usize))?;
@@ -61,7 +61,7 @@ pub fn ask_surface(job: &Loaded<'_>, h: u32) -> Result<SurfaceAnswer, Refusal>
 // Singular.
 #[tactic(auto, unfolding(rules::specs::Kinds::number_of))]
 pub fn ask_singular(
-    job: &Loaded<'_>,
+    job: &IndexedJob<'_>,
     curve: u32,
     low: u32,
     high: u32,
@@ -81,7 +81,7 @@ pub fn ask_singular(
 
 // Orientation.
 #[tactic(auto, using(answers::specs::QuestionLaws::shaped_one), unfolding(rules::specs::Kinds::number_of))]
-pub fn ask_outer(job: &Loaded<'_>, low: u32) -> Result<bool, Refusal>
+pub fn ask_outer(job: &IndexedJob<'_>, low: u32) -> Result<bool, Refusal>
     ensures { result ≡ ask_yes job.now.answers 12 (low ∷ []) }
 {
     ask_yes(job, answers::about_one(Kind::Orientation, low as usize))
@@ -89,7 +89,7 @@ pub fn ask_outer(job: &Loaded<'_>, low: u32) -> Result<bool, Refusal>
 
 // Inside.
 #[tactic(auto, using(answers::specs::QuestionLaws::shaped_two), unfolding(rules::specs::Kinds::number_of))]
-pub fn ask_inside(job: &Loaded<'_>, probe: u32, container: u32) -> Result<bool, Refusal>
+pub fn ask_inside(job: &IndexedJob<'_>, probe: u32, container: u32) -> Result<bool, Refusal>
     ensures { result ≡ ask_yes job.now.answers 13 (probe ∷ container ∷ []) }
 {
     ask_yes(

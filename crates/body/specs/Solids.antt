@@ -7,6 +7,7 @@ use Rattle.rules.specs.Read.{stored_sense}
 use Rattle.rules.specs.Join.{active_edges}
 use Rattle.rules.specs.Shells.{lumps}
 use Rattle.rules.specs.Body.{Totals as RulesTotals, BodyFace, Body, rec, body_faces, solid_body, empty_body}
+use Rattle.job.specs.Lists.{faces_in}
 use Rattle.shells.specs.Table.{nested_of}
 use Rattle.body.specs.declared.BodyRecord.{BodyRecord}
 use Rattle.body.specs.declared.BodyRecord.TheVariants.{Body as BodyKind, Vertex, Edge, Face as FaceKind, Loop, VertexLoop, Lump, Shell, Members}
@@ -34,12 +35,16 @@ totals_in (Some t) = record { solid = true; uses = t.uses; removed = t.removed; 
 abbrev pub head_record : Face → Record
 head_record face = rec 24 (face.surface ∷ sense_number (stored_sense face) ∷ [])
 
+-- the selected faces
+abbrev pub faces_of : Solid → List Face
+faces_of s = faces_in s.bytes.now s.index.now s.counts
+
 -- the merged faces
 abbrev pub merged_faces : Solid → List BodyFace
-merged_faces s = body_faces s.job.now.faces s.faces.now.groups (active_edges s.joining.now.edges) s.joining.now.loops s.kept.now 0 s.faces.now.members
+merged_faces s = body_faces (faces_of s) s.groups.now (active_edges s.joining.now.edges) s.joining.now.loops s.kept.now 0 s.members.now
 
 -- the body
 abbrev pub body_in : Solid → Body
 body_in s =
-    solid_body (totals_in (Some s.totals)) s.job.now.faces s.faces.now.groups s.starts.now s.joining.now.edges s.joining.now.loops s.faces.now.members s.kept.now
+    solid_body (totals_in (Some s.totals)) (faces_of s) s.groups.now s.starts.now s.joining.now.edges s.joining.now.loops s.members.now s.kept.now
     (lumps (nested_of s.shells.now))

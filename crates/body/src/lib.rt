@@ -19,16 +19,15 @@ ghost use Rattle.members.specs.Group.{Leading};
 ghost use Rattle.shells.specs.Table.{nested_row, nested_of};
 ghost use Rattle.body.specs.Numbers.{Numbering, number_in, vertex_in, placed, items_by, loops_by};
 ghost use Rattle.body.specs.Vertices.{EndOk, EdgeOk, EndsOk, Meeting};
-ghost use Rattle.body.specs.Solids.{record_number, totals_in, head_record, merged_faces, body_in};
+ghost use Rattle.body.specs.Solids.{record_number, totals_in, head_record, faces_of, merged_faces, body_in};
 
 mod numbers;
 mod solid;
 
 use edges::{Joining, item_in};
 use fields::{get, put, put_entry, put_fields, put_word};
-use loaded::Loaded;
+use job::face;
 use members::Members;
-use merge_faces::Faces;
 use numbers::Numbers;
 use rules::{EdgeData, KeptVertexLoop, MOST_FACES, Refusal, UNSET};
 use shells::{ShellRow, Shells};
@@ -275,39 +274,33 @@ fn put_vertex_loops(kept: &[KeptVertexLoop], f: usize, out: &mut [u8], at: usize
 }
 
 // Surface and stored sense of selected face r.
-fn put_face(job: &Loaded<'_>, r: usize, out: &mut [u8], at: usize) -> usize
+fn put_face(s: &Solid<'_>, r: usize, out: &mut [u8], at: usize) -> usize
     requires { at < 2 ^ 56 }
-    ensures { Wrote out.old at (framed (head_record (face_at job.now.faces r))) out.new result × (result ≡ at + 14) }
+    ensures { Wrote out.old at (framed (head_record (face_at (faces_of s.now) r))) out.new result × (result ≡ at + 14) }
 {
-    let face = job.face(r);
+    let face = face(s.bytes, s.index, s.counts, r);
     let sense = usize::from(face.stored_sense());
     put_record(out, at, BodyRecord::Face, &[face.surface as usize, sense])
 }
 
 // Body and source face of selected face i.
-fn put_member(job: &Loaded<'_>, i: usize, out: &mut [u8], at: usize) -> usize
+fn put_member(s: &Solid<'_>, i: usize, out: &mut [u8], at: usize) -> usize
     requires { at < 2 ^ 58 }
-    ensures { Wrote out.old at (field_bytes (member_fields (member_at job.now.faces i))) out.new result × (result ≤ at + 8) }
+    ensures { Wrote out.old at (field_bytes (member_fields (member_at (faces_of s.now) i))) out.new result × (result ≤ at + 8) }
 {
-    let face = job.face(i);
+    let face = face(s.bytes, s.index, s.counts, i);
     put_fields(out, at, &[face.body as usize, face.source as usize])
 }
 
 // Body and source face of each member of the merged group with label m, ascending.
-fn put_members(
-    job: &Loaded<'_>,
-    members: &Members<'_>,
-    m: usize,
-    out: &mut [u8],
-    at: usize,
-) -> usize
+fn put_members(s: &Solid<'_>, members: &Members<'_>, m: usize, out: &mut [u8], at: usize) -> usize
     requires { (at < 2 ^ 56) × Leading members.now m }
-    ensures { Wrote out.old at (framed (members_record (map (member_at job.now.faces) (members_of members.now m)))) out.new result × (result ≤ at + 2054) }
+    ensures { Wrote out.old at (framed (members_record (map (member_at (faces_of s.now)) (members_of members.now m)))) out.new result × (result ≤ at + 2054) }
 {
     let size = members.count(m);
     let mut p = put_head(out, at, BodyRecord::Members, 2 * size);
     for i in members.of(m) {
-        p = put_member(job, i, out, p);
+        p = put_member(s, i, out, p);
     }
     p
 }
@@ -323,15 +316,14 @@ fn put_faces(s: &Solid<'_>, numbers: &mut [u32], out: &mut [u8], at: usize) -> u
         table: numbers,
         count,
     };
-    let groups = s.faces.groups();
+    let groups = s.groups;
     let mut room = [0u32; MOST_FACES];
     let members = Members::new(groups, &mut room[..groups.len()]);
-    let lowest = s.faces.members();
     let mut p = at;
-    for (f, m) in lowest.iter().enumerate() {
+    for (f, m) in s.members.iter().enumerate() {
         let m = *m as usize;
-        let q = put_face(s.job, m, out, p);
-        let r = put_members(s.job, &members, m, out, q);
+        let q = put_face(s, m, out, p);
+        let r = put_members(s, &members, m, out, q);
         let t = put_loops(j, &numbers, f, out, r);
         p = put_vertex_loops(s.kept, f, out, t);
     }
@@ -341,13 +333,13 @@ fn put_faces(s: &Solid<'_>, numbers: &mut [u32], out: &mut [u8], at: usize) -> u
 // SHELLS
 
 // The boundary with label b.
-fn put_shell(faces: &Faces, b: usize, out: &mut [u8], at: usize) -> usize
+fn put_shell(shells: &Shells<'_>, b: usize, out: &mut [u8], at: usize) -> usize
     requires { at < 2 ^ 56 }
-    ensures { Wrote out.old at (framed (rec 28 (shell_faces faces.now.boundaries faces.now.members b))) out.new result × (result ≤ at + 1030) }
+    ensures { Wrote out.old at (framed (rec 28 (shell_faces shells.now.boundaries.now shells.now.members.now b))) out.new result × (result ≤ at + 1030) }
 {
-    let size = count_shell_faces(faces, b);
+    let size = count_shell_faces(shells.boundaries, shells.members, b);
     let p = put_head(out, at, BodyRecord::Shell, size);
-    put_shell_faces(faces, b, out, p)
+    put_shell_faces(shells.boundaries, shells.members, b, out, p)
 }
 
 // The voids of the lump whose outer shell has the lowest merged face `home`.
@@ -358,7 +350,7 @@ fn put_voids(shells: &Shells<'_>, home: u32, out: &mut [u8], at: usize) -> usize
     let mut p = at;
     for s in shells.rows {
         if s.is_void_of(home) {
-            p = put_shell(shells.faces, s.boundary as usize, out, p);
+            p = put_shell(shells, s.boundary as usize, out, p);
         }
     }
     p
@@ -370,7 +362,7 @@ fn put_lump(shells: &Shells<'_>, outer: ShellRow, out: &mut [u8], at: usize) -> 
     ensures { Wrote out.old at (framed_all (lump_records (lump_of (nested_of shells.now) (nested_row shells.now outer)))) out.new result × (result ≤ at + 264716) }
 {
     let p = put_record(out, at, BodyRecord::Lump, &[]);
-    let q = put_shell(shells.faces, outer.boundary as usize, out, p);
+    let q = put_shell(shells, outer.boundary as usize, out, p);
     put_voids(shells, outer.home, out, q)
 }
 

@@ -5,6 +5,7 @@
 
 ghost use Rattle.std.specs.Prelude.{◌≡◌, ◌<◌, ◌≤◌, length, replicate, reverse as backwards};
 ghost use Rattle.rules.specs.Pair.{uses_of_edge};
+ghost use Rattle.edge_uses.specs.Links.{Linked};
 
 use fields::{Chain, get, put};
 use rules::Use;
@@ -40,14 +41,22 @@ pub fn link<'a>(uses: &'a [Use], firsts: &'a mut [u32], nexts: &'a mut [u32]) ->
         *next = get(firsts, e) as u32;
         put(firsts, e, h + 1);
     }
-    EdgeUses {
-        uses,
-        firsts,
-        nexts,
-    }
+    EdgeUses::new(uses, firsts, nexts)
 }
 
 impl<'a> EdgeUses<'a> {
+    // The uses on chains that stand in two tables.
+    pub fn new(uses: &'a [Use], firsts: &'a [u32], nexts: &'a [u32]) -> EdgeUses<'a>
+        requires { Linked uses.now firsts.now nexts.now × (length uses.now ≤ 2048) }
+        ensures { (result.uses ≡ uses.now) × (result.edges ≡ length firsts.now) }
+    {
+        EdgeUses {
+            uses,
+            firsts,
+            nexts,
+        }
+    }
+
     pub fn uses(&self) -> &'a [Use]
         ensures { result.now ≡ self.now.uses }
     {

@@ -58,7 +58,7 @@ fn names_fan(kept: &KeptUses<'_>, fans: &[u32], h: usize) -> bool
 // The fans by name, ascending.
 pub fn fan_names<const USES: usize>(kept: &KeptUses<'_>, fans: &[u32]) -> Filled<u32, USES>
     requires { length kept.now.uses.now ≤ USES }
-    ensures { result ≡ fan_names kept.now.job.now.edges kept.now.uses.now kept.now.removed.now fans.now }
+    ensures { result.entries ≡ fan_names kept.now.job.now.edges kept.now.uses.now kept.now.removed.now fans.now }
 {
     // a copy of its own, as above
     let own = *kept;

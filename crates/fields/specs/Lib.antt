@@ -1,3 +1,4 @@
+pub mod FilledTable
 pub mod Wrote
 pub mod Tabled
 pub mod Chains

@@ -5,15 +5,16 @@
 
 ghost use Rattle.std.specs.Prelude.{◌≡◌, ◌+◌, ◌*◌, ◌<◌, ◌≤◌, ◌^◌, get_or};
 ghost use Rattle.rules.specs.Job.{edge_at, face_at};
+ghost use Rattle.rules.specs.Read.{use_start};
 ghost use Rattle.rules.specs.Fields.{le16, le32};
 ghost use Rattle.rules.specs.Kinds.{kind_of};
-ghost use Rattle.job.specs.Lists.{edge_in, face_in, loop_byte, item_count};
+ghost use Rattle.job.specs.Lists.{points_in, edge_in, edges_in, face_in, faces_in, loop_byte, item_count};
 ghost use Rattle.job.specs.Raw.{points, edges, faces};
 
 mod stored;
 
 use fields::{get, half, word};
-use rules::{Counts, Edge, Face, Kind, Sense, UNSET};
+use rules::{Counts, Edge, Face, Kind, Sense, UNSET, Use};
 pub use stored::Fields;
 
 // The index: heads of the chains of answers, the chains, places of answers, of faces and of loops, the loops' faces. One
@@ -71,6 +72,68 @@ pub fn face_in(job: &[u8], at: usize) -> Face
     }
 }
 
+// READERS BY BYTES AND COUNTS. No index is needed for vertices and edges, and for faces one of any length will do.
+
+// The point of a vertex.
+#[tactic(auto, using(crate::specs::ListLaws::points_at, crate::specs::ListLaws::points_past))]
+#[inline(always)]
+pub fn point(bytes: &[u8], counts: Counts, v: usize) -> u32
+    requires { counts.vertices ≤ 1024 }
+    ensures { result ≡ get_or (points_in bytes.now counts) v 0 }
+{
+    if v < counts.vertices {
+        return word(bytes, 16 + 10 * v) as u32;
+    }
+    0
+}
+
+// An edge; past the last there is none, with no ends.
+#[tactic(auto, using(crate::specs::ListLaws::edges_at, crate::specs::ListLaws::edges_past))]
+#[inline(always)]
+pub fn edge(bytes: &[u8], counts: Counts, e: usize) -> Edge
+    requires { (counts.vertices ≤ 1024) × (counts.edges ≤ 1024) }
+    ensures { result ≡ edge_at (edges_in bytes.now counts) e }
+{
+    if e < counts.edges {
+        return edge_in(bytes, 16 + 10 * counts.vertices + 22 * e);
+    }
+    Edge {
+        curve: 0,
+        sense: Sense::Same,
+        start: UNSET,
+        end: UNSET,
+    }
+}
+
+// The point of the vertex where a use starts.
+#[inline(always)]
+pub fn start_point(bytes: &[u8], counts: Counts, u: Use) -> u32
+    requires { (counts.vertices ≤ 1024) × (counts.edges ≤ 1024) }
+    ensures { result ≡ get_or (points_in bytes.now counts) (use_start (edges_in bytes.now counts) u) 0 }
+{
+    let v = edge(bytes, counts, u.edge as usize).start_by(u.sense);
+    point(bytes, counts, v as usize)
+}
+
+// A selected face; past the last there is none.
+#[tactic(auto, using(crate::specs::ListLaws::faces_at, crate::specs::ListLaws::faces_past))]
+#[inline(always)]
+pub fn face(bytes: &[u8], index: &[u32], counts: Counts, f: usize) -> Face
+    requires { counts.faces ≤ 256 }
+    ensures { result ≡ face_at (faces_in bytes.now index.now counts) f }
+{
+    if f < counts.faces {
+        return face_in(bytes, get(index, FACES + f));
+    }
+    Face {
+        surface: 0,
+        own: Sense::Same,
+        selected: Sense::Same,
+        body: 0,
+        source: 0,
+    }
+}
+
 impl RawJob<'_> {
     // The number that the index has at a place.
     #[inline(always)]
@@ -89,47 +152,35 @@ impl RawJob<'_> {
         requires { self.now.counts.vertices ≤ 1024 }
         ensures { result ≡ get_or (points self.now) v 0 }
     {
-        if v < self.counts.vertices {
-            return word(self.bytes, 16 + 10 * v) as u32;
-        }
-        0
+        point(self.bytes, self.counts, v)
     }
 
     // An edge; past the last there is none, with no ends.
-    #[tactic(auto, using(crate::specs::ListLaws::edges_at, crate::specs::ListLaws::edges_past))]
     #[inline(always)]
     pub fn edge(&self, e: usize) -> Edge
         requires { (self.now.counts.vertices ≤ 1024) × (self.now.counts.edges ≤ 1024) }
         ensures { result ≡ edge_at (edges self.now) e }
     {
-        if e < self.counts.edges {
-            return edge_in(self.bytes, 16 + 10 * self.counts.vertices + 22 * e);
-        }
-        Edge {
-            curve: 0,
-            sense: Sense::Same,
-            start: UNSET,
-            end: UNSET,
-        }
+        edge(self.bytes, self.counts, e)
+    }
+
+    // The point of the vertex where a use starts.
+    #[inline(always)]
+    pub fn start_point(&self, u: Use) -> u32
+        requires { (self.now.counts.vertices ≤ 1024) × (self.now.counts.edges ≤ 1024) }
+        ensures { result ≡ get_or (points self.now) (use_start (edges self.now) u) 0 }
+    {
+        start_point(self.bytes, self.counts, u)
     }
 
     // A selected face; past the last there is none.
-    #[tactic(auto, using(crate::specs::ListLaws::faces_at, crate::specs::ListLaws::faces_past))]
     #[inline(always)]
     pub fn face(&self, f: usize) -> Face
         requires { self.now.counts.faces ≤ 256 }
         ensures { result ≡ face_at (faces self.now) f }
     {
-        if f < self.counts.faces {
-            return face_in(self.bytes, self.entry(FACES + f));
-        }
-        Face {
-            surface: 0,
-            own: Sense::Same,
-            selected: Sense::Same,
-            body: 0,
-            source: 0,
-        }
+        let index = self.index;
+        face(self.bytes, index, self.counts, f)
     }
 
     // LOOPS

@@ -7,9 +7,9 @@
 ghost use Rattle.std.specs.Prelude.{◌≡◌, ◌+◌, ◌-◌, ◌≤◌, ◌<◌, ◌++◌, [], drop, length, get_or};
 ghost use Rattle.edges.specs.Table.{Laid};
 ghost use Rattle.fields.specs.Spans.{span_at};
-ghost use Rattle.links.specs.Tables.{IsLoop, own_end, follow, codes_at, Turned, fused_at, Fusable};
+ghost use Rattle.links.specs.Tables.{links_of, IsLoop, own_end, follow, codes_at, Turned, fused_at, Fusable};
 ghost use Rattle.links.specs.JoinLinks.{in_code, Joinable, Joined};
-ghost use Rattle.links.specs.Lay.{laid_by};
+ghost use Rattle.links.specs.Lay.{laid_out, laid_by};
 ghost use Rattle.links.specs.Link.{Linkable, Linking, LinkedLoops};
 
 use edges::{edge_at, item_number};
@@ -58,6 +58,8 @@ fn copy_front(own: &mut [Span], stretches: &[Span])
     own[..stretches.len()].copy_from_slice(stretches);
 }
 
+// A JOIN
+
 // Where loop k's own stretch of a list of that size ends: where the next loop starts, or at the list's end.
 #[tactic(auto, unfolding(crate::specs::Tables::own_end))]
 fn own_end(stretches: &[Span], size: usize, k: usize) -> usize
@@ -103,6 +105,74 @@ fn in_code(rows: &[EdgeData], v: usize, a: usize) -> usize
     item_number(a, sense)
 }
 
+// The slot of the item y takes the item x for its own and the next slot's: only its loop's own stretch is rewritten.
+fn fuse(
+    list: &mut [u32],
+    nexts: &mut [u32],
+    heads: &mut [u32],
+    owners: &[u32],
+    spots: &mut [u32],
+    stretches: &mut [Span],
+    y: usize,
+    x: usize,
+)
+    requires { Fusable (links_of list.old nexts.old heads.old owners.now spots.old stretches.old) y × (x < 4294967296) }
+    ensures { links_of list.new nexts.new heads.new owners.now spots.new stretches.new ≡ fused_at (links_of list.old nexts.old heads.old owners.now spots.old stretches.old) y x }
+{
+    let p = get(spots, y);
+    let k = get(owners, p);
+    let stretch = span_at(stretches, k);
+    let start = stretch.start as usize;
+    let bound = own_end(stretches, list.len(), k);
+    turn_and_replace(
+        &mut list[start..bound],
+        &mut nexts[start..bound],
+        &mut heads[k],
+        start,
+        p,
+        x,
+    );
+    put(spots, x, p);
+    put_entry(
+        stretches,
+        k,
+        Span {
+            end: stretch.end - 1,
+            ..stretch
+        },
+    );
+}
+
+// The join of edges a and b at corner v: where an item of either ends there, it and the next become the new edge's. The
+// tables are lent, of any length that fits the others. Always inlined: joins follow one another, and so many tables cost
+// time to hand on at each.
+#[inline(always)]
+pub fn join_places(
+    rows: &[EdgeData],
+    list: &mut [u32],
+    nexts: &mut [u32],
+    heads: &mut [u32],
+    owners: &[u32],
+    spots: &mut [u32],
+    stretches: &mut [Span],
+    v: usize,
+    a: usize,
+    b: usize,
+    new: usize,
+)
+    requires { Joinable rows.now v a b new (links_of list.old nexts.old heads.old owners.now spots.old stretches.old) }
+    ensures { Joined rows.now v a b (links_of list.old nexts.old heads.old owners.now spots.old stretches.old) (links_of list.new nexts.new heads.new owners.now spots.new stretches.new) }
+{
+    let x = in_code(rows, v, a);
+    let y = in_code(rows, v, b);
+    let same = item_number(new, Sense::Same);
+    let reversed = item_number(new, Sense::Reversed);
+    fuse(list, nexts, heads, owners, spots, stretches, x, same);
+    fuse(list, nexts, heads, owners, spots, stretches, y, reversed);
+}
+
+// LAYING OUT
+
 // A loop's own stretch of the item list is rewritten: its items from the head on.
 fn lay_loop(list: &[u32], nexts: &[u32], head: usize, part: &mut [u32])
     ensures { part.new ≡ codes_at list.now (follow nexts.now head (length part.old)) }
@@ -111,6 +181,17 @@ fn lay_loop(list: &[u32], nexts: &[u32], head: usize, part: &mut [u32])
     for x in part.iter_mut() {
         *x = get(list, p) as u32;
         p = get(nexts, p);
+    }
+}
+
+// Every loop is laid out in its stretch, turned so that its head comes first. The tables are lent, of any length.
+pub fn lay_loops(list: &[u32], nexts: &[u32], heads: &[u32], stretches: &[Span], items: &mut [u32])
+    requires { Laid stretches.now items.old }
+    ensures { items.new ≡ laid_out list.now nexts.now heads.now stretches.now items.old }
+{
+    for (k, stretch) in stretches.iter().enumerate() {
+        let part = &mut items[stretch.range()];
+        lay_loop(list, nexts, get(heads, k), part);
     }
 }
 
@@ -172,47 +253,24 @@ impl<const SLOTS: usize, const CODES: usize> Links<SLOTS, CODES> {
 
     // A JOIN
 
-    // The slot of the item y takes the item x for its own and the next slot's: only its loop's own stretch is rewritten.
-    fn fuse(&mut self, y: usize, x: usize)
-        requires { Fusable self.old y × (x < 4294967296) }
-        ensures { self.new ≡ fused_at self.old y x }
-    {
-        let p = get(&self.spots, y);
-        let k = get(&self.owners, p);
-        let stretch = span_at(&self.stretches[..self.loops], k);
-        let start = stretch.start as usize;
-        let bound = own_end(&self.stretches[..self.loops], self.list.len(), k);
-        let list = &mut self.list[..];
-        let nexts = &mut self.nexts[..];
-        let heads = &mut self.heads[..];
-        turn_and_replace(
-            &mut list[start..bound],
-            &mut nexts[start..bound],
-            &mut heads[k],
-            start,
-            p,
-            x,
-        );
-        put(&mut self.spots, x, p);
-        put_entry(
-            &mut self.stretches,
-            k,
-            Span {
-                end: stretch.end - 1,
-                ..stretch
-            },
-        );
-    }
-
     // The join of edges a and b at corner v: where an item of either ends there, it and the next become the new edge's.
     pub fn join_places(&mut self, rows: &[EdgeData], v: usize, a: usize, b: usize, new: usize)
         requires { Joinable rows.now v a b new self.old }
         ensures { Joined rows.now v a b self.old self.new }
     {
-        let x = in_code(rows, v, a);
-        let y = in_code(rows, v, b);
-        self.fuse(x, item_number(new, Sense::Same));
-        self.fuse(y, item_number(new, Sense::Reversed));
+        join_places(
+            rows,
+            &mut self.list,
+            &mut self.nexts,
+            &mut self.heads,
+            &self.owners,
+            &mut self.spots,
+            &mut self.stretches[..self.loops],
+            v,
+            a,
+            b,
+            new,
+        );
     }
 
     // LAYING OUT
@@ -222,10 +280,12 @@ impl<const SLOTS: usize, const CODES: usize> Links<SLOTS, CODES> {
         requires { Laid self.now.stretches items.old }
         ensures { items.new ≡ laid_by self.now items.old }
     {
-        let own = &self.stretches[..self.loops];
-        for (k, stretch) in own.iter().enumerate() {
-            let part = &mut items[stretch.range()];
-            lay_loop(&self.list, &self.nexts, get(&self.heads, k), part);
-        }
+        lay_loops(
+            &self.list,
+            &self.nexts,
+            &self.heads,
+            &self.stretches[..self.loops],
+            items,
+        );
     }
 }

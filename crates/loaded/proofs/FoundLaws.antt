@@ -15,7 +15,7 @@ use Rattle.answers.specs.RecordLaws.{question_words, question_kind, value_fits}
 use Rattle.answers.specs.Index.{place_for, value_at, Indexed}
 use Rattle.answers.specs.QuestionLaws.{shaped_one}
 use Rattle.answers.specs.ChainLaws.{chained, placed_right}
-use Rattle.loaded.proofs.OpenedLaws.{answers_are}
+use Rattle.loaded.proofs.IndexedLaws.{answers_are}
 use Rattle.loaded.specs.Told.{value_of}
 use Rattle.rules.specs.declared.Fault.TheVariants.{Unanswered, AnswerUndecided}
 

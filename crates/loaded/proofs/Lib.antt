@@ -1,2 +1,3 @@
+pub mod IndexedLaws
 pub mod OpenedLaws
 pub mod FoundLaws

@@ -10,7 +10,7 @@ use Rattle.rules.specs.Fields.{le16, le32, fields_in}
 use Rattle.rules.specs.Job.{of_items, at_vertex, Job, items_of, items_from}
 use Rattle.rules.proofs.FieldLaws.{items_half}
 use Rattle.rules.specs.Read.{content_items}
-use Rattle.job.specs.Lists.{points_in, edges_in, faces_in, loop_byte, fields_at, loop_in, item_count, loops_in, answers_in, job_in}
+use Rattle.job.specs.Lists.{points_in, edges_in, faces_in, loop_byte, fields_at, loop_in, item_count, loops_in, job_in}
 use Rattle.loaded.specs.Opened.{Opened}
 use Rattle.loaded.specs.Told.{no_loop, loop_at, vertex_of}
 
@@ -28,10 +28,6 @@ module _ {bytes ix : List ℕ} {c : Counts} (o : Opened bytes ix c) where
     pub faces_are : faces_in bytes ix c ≡ j.faces
     unfolding job_in
     faces_are = ap (λ (x : Job). x.faces) is
-
-    pub answers_are : answers_in bytes ix c ≡ j.answers
-    unfolding job_in
-    answers_are = ap (λ (x : Job). x.answers) is
 
     -- loop l, by its record
     pub loop_is : (l : ℕ) → l < length j.loops → loop_in bytes ix l ≡ loop_at j.loops l

@@ -13,12 +13,14 @@ ghost use Rattle.job.specs.Lists.{job_in};
 ghost use Rattle.loaded.specs.Opened.{Opened, Loads};
 ghost use Rattle.loaded.specs.Told.{value_of, loop_at, vertex_of};
 
+mod indexed;
 mod traversal;
 
 use answers::Question;
 use fields::word;
+pub use indexed::{IndexedJob, OrderAt, radial_at};
 use job::{Fields, INDEX, RawJob};
-use rules::{Counts, Edge, Face, Fault, Kind, Refusal, Use};
+use rules::{Counts, Edge, Face, Kind, Refusal, Use};
 use std::marker::Model;
 pub use traversal::Items;
 
@@ -54,6 +56,21 @@ impl<'a> Loaded<'a> {
             counts,
         };
         Loaded { raw }
+    }
+
+    // As it was read: for what asks a limit or two and no more.
+    pub fn raw(&self) -> &RawJob<'a>
+        ensures { (job_in result.now.bytes.now result.now.index.now result.now.counts ≡ self.now) × Opened result.now.bytes.now result.now.index.now result.now.counts }
+    {
+        &self.raw
+    }
+
+    // For what asks no more than that the index finds the answers.
+    #[inline(always)]
+    pub fn indexed(&self) -> IndexedJob<'a>
+        ensures { (result ≡ self.now) × (length self.now.edges ≤ 1024) × (length self.now.faces ≤ 256) }
+    {
+        IndexedJob::new(self.raw)
     }
 
     // HOW MANY THERE ARE
@@ -126,12 +143,12 @@ impl<'a> Loaded<'a> {
     }
 
     // The point of the vertex where a use starts.
+    #[tactic(auto, using(crate::proofs::OpenedLaws::points_are, crate::proofs::OpenedLaws::edges_are))]
     #[inline(always)]
     pub fn start_point(&self, u: Use) -> u32
         ensures { result ≡ point_at self.now.points (use_start self.now.edges u) }
     {
-        let v = self.edge(u.edge as usize).start_by(u.sense);
-        self.point(v as usize)
+        self.raw.start_point(u)
     }
 
     // LOOPS
@@ -169,31 +186,19 @@ impl<'a> Loaded<'a> {
     // ANSWERS
 
     // The number on record for a question of any kind but Radial.
-    #[tactic(auto, using(crate::proofs::FoundLaws::value))]
     pub fn answer_to(&self, q: Question) -> Option<usize>
         requires { Shaped q × (q.kind ≢ Kind.Radial) }
         ensures { result ≡ value_of (find self.now.answers (number_of q.kind) (key_of q)) }
     {
-        let p = answers::find(&self.raw, q)? as usize;
-        Some(word(self.raw.bytes, p + 6 + 4 * q.words))
+        self.indexed().answer_to(q)
     }
 
     // The uses of an edge in order round it, where none means undecided.
-    #[tactic(auto, using(crate::proofs::FoundLaws::radial, rules::proofs::FieldLaws::length_fields), unfolding(rules::specs::Kinds::number_of))]
     pub fn radial(&self, e: usize) -> Result<Order<'a>, Refusal>
         requires { e < 4294967296 }
         ensures asks { result ≡ ask_radial self.now.answers e }
         ensures few { IfOk result (λ order. length order < 1073741824) }
     {
-        let kind = Kind::Radial;
-        let Some(p) = answers::find(&self.raw, answers::about_one(kind, e)) else {
-            return Err(Fault::Unanswered.at(kind.number()));
-        };
-        let p = p as usize;
-        let n = word(self.raw.bytes, p) / 4;
-        if n <= 1 {
-            return Err(Fault::AnswerUndecided.at(kind.number()));
-        }
-        Ok(Fields::new(self.raw.bytes, p + 10, n - 1))
+        self.indexed().radial(e)
     }
 }

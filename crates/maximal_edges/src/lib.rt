@@ -19,7 +19,7 @@ ghost use Rattle.maximal_edges.specs.Hung.{SoundIn, Hung};
 use edges::edge_at;
 use fields::{Span, entry, get, put, put_entry};
 use links::Links;
-use loaded::Loaded;
+use loaded::IndexedJob;
 use rules::{EdgeData, FEW, Kind, MOST_USES, Refusal, Sense, UNSET};
 
 // A change at a corner: an edge becomes a ring, or two edges become one.
@@ -48,7 +48,7 @@ pub struct Joins {
 // its place in the tables of the run.
 #[derive(Clone, Copy)]
 struct Run<'a, const SLOTS: usize> {
-    job: &'a Loaded<'a>,
+    job: &'a IndexedJob<'a>,
     points: &'a [u32],
     names: &'a [u32],
     ghost nodup: { Nodup names.now } by { nodup_prop names.now },
@@ -131,14 +131,14 @@ fn count_ends(rows: &[EdgeData], corners: &mut [Corner])
 // QUESTIONS AT A CORNER
 
 // Kind 11 for an edge, at a point.
-fn singular(job: &Loaded<'_>, e: EdgeData, point: u32) -> Result<bool, Refusal>
+fn singular(job: &IndexedJob<'_>, e: EdgeData, point: u32) -> Result<bool, Refusal>
     ensures { result ≡ singular job.now.answers e point }
 {
     ask::ask_singular(job, e.curve, e.faces[0], e.faces[1], point)
 }
 
 // An edge is not singular at a point.
-fn not_singular(job: &Loaded<'_>, e: EdgeData, point: u32) -> Result<bool, Refusal>
+fn not_singular(job: &IndexedJob<'_>, e: EdgeData, point: u32) -> Result<bool, Refusal>
     ensures { result ≡ not_singular job.now.answers e point }
 {
     let yes = singular(job, e, point)?;
@@ -147,7 +147,7 @@ fn not_singular(job: &Loaded<'_>, e: EdgeData, point: u32) -> Result<bool, Refus
 
 // Two edges need equal face pairs, then same curve, then not singular for the first.
 #[tactic(auto, using(lists::specs::SameLists::pointwise_same), unfolding(rules::specs::Join::may_join, rules::specs::Kinds::number_of))]
-fn may_join(job: &Loaded<'_>, a: EdgeData, b: EdgeData, point: u32) -> Result<bool, Refusal>
+fn may_join(job: &IndexedJob<'_>, a: EdgeData, b: EdgeData, point: u32) -> Result<bool, Refusal>
     ensures { result ≡ may_join job.now.answers a b point }
 {
     if a.faces != b.faces {
@@ -176,7 +176,7 @@ fn change_at(v: usize, a: usize, b: usize) -> Change
 
 // One edge with both ends at a corner, or two edges.
 fn may_change(
-    job: &Loaded<'_>,
+    job: &IndexedJob<'_>,
     rows: &[EdgeData],
     a: usize,
     b: usize,
@@ -499,7 +499,7 @@ fn is_small(names: &[u32], count: usize, items: usize, stretches: usize) -> bool
 // The tables are lent one by one: of a struct that lends them (tried: some 66 lines more) each contract must say that each
 // table is the same and as long as before, which slices do by themselves.
 pub fn maximal_edges(
-    job: &Loaded<'_>,
+    job: &IndexedJob<'_>,
     starts: &[u32],
     names: &[u32],
     rows: &mut [EdgeData],

@@ -4,7 +4,7 @@
 
 ghost use Rattle.std.specs.Prelude.{◌≡◌, ◌≤◌, length};
 ghost use Rattle.rules.specs.Groups.{Lowest, members_of};
-ghost use Rattle.members.specs.Group.{Leading};
+ghost use Rattle.members.specs.Group.{Chained, Leading};
 
 use fields::{get, put};
 use rules::MOST_FACES;
@@ -62,6 +62,14 @@ impl<'a> Members<'a> {
             put(next, i, later);
             put(&mut first, label, i);
         }
+        Members::chained(groups, next)
+    }
+
+    // The groups, and a table in which they are chained.
+    pub fn chained(groups: &'a [u32], next: &'a [u32]) -> Members<'a>
+        requires { Chained groups.now next.now }
+        ensures { result ≡ groups.now }
+    {
         Members { groups, next }
     }
 

@@ -6,12 +6,12 @@ ghost use Rattle.rules.specs.Merge.{merged_groups};
 ghost use Rattle.merge_faces.specs.FaceTables.{TablesOf};
 
 use fields::Filled;
-use loaded::Loaded;
+use loaded::IndexedJob;
 use rules::{MOST_FACES, Refusal, Table, Use};
 use std::marker::Model;
 
 // The first `count` entries of three tables are those of the selected faces; `members` has those of the merged faces.
-#[derive(Clone, Drop)]
+#[derive(Clone, Copy)]
 pub struct Faces {
     count: usize,
     joins: usize,
@@ -22,7 +22,8 @@ pub struct Faces {
 }
 
 impl Model for Faces {
-    ghost use Rattle.std.specs.Prelude.{◌≤◌, take};
+    ghost use Rattle.std.specs.Prelude.{◌≡◌, ◌≤◌, ◌++◌, length, take, drop};
+    ghost use Rattle.std.proofs.Common.{arith, take-append-drop, length-take-le};
     ghost use Rattle.merge_faces.specs.FaceTables.{FaceTables};
 
     ghost Value = { FaceTables };
@@ -31,11 +32,35 @@ impl Model for Faces {
       boundaries = take f.count f.boundaries;
       groups = take f.count f.groups;
       numbers = take f.count f.numbers;
-      members = f.members;
+      members = f.members.entries;
       joins = f.joins;
+      rest = record {
+        boundaries = drop f.count f.boundaries;
+        groups = drop f.count f.groups;
+        numbers = drop f.count f.numbers;
+        members = f.members.rest;
+      };
     } };
 
-    ghost invariant = { λ f. f.count ≤ 256 };
+    ghost invariant = { λ f. (f.count ≤ 256) × (length f.boundaries ≡ 256) };
+
+    ghost inverse = { λ v. record {
+      count = length v.boundaries;
+      joins = v.joins;
+      boundaries = v.boundaries ++ v.rest.boundaries;
+      groups = v.groups ++ v.rest.groups;
+      numbers = v.numbers ++ v.rest.numbers;
+      members = record { entries = v.members; rest = v.rest.members };
+    } };
+
+    ghost inverse_ok = { λ f h i. record {
+      count = length-take-le f.count f.boundaries (omega (arith, h.0, h.1)) i;
+      joins = f.joins;
+      boundaries = take-append-drop f.count f.boundaries i;
+      groups = take-append-drop f.count f.groups i;
+      numbers = take-append-drop f.count f.numbers i;
+      members = f.members;
+    } };
 }
 
 impl Faces {
@@ -78,12 +103,12 @@ impl Faces {
 // The faces merged by the answers to the surface questions, as the table has it, with the boundaries, numbers and lowest
 // members that belong to their groups.
 pub fn merge_faces(
-    job: &Loaded<'_>,
+    job: &IndexedJob<'_>,
     uses: &[Use],
     twins: &[u32],
     table: Table,
 ) -> Result<Faces, Refusal>
-    requires { length uses.now ≤ 2048 }
+    requires { (length job.now.faces ≤ 256) × (length uses.now ≤ 2048) }
     ensures merges { (result and_then λ m. Ok (record { groups = m.groups; joins = m.joins }))
         ≡ merged_groups table job.now.answers job.now.faces uses.now twins.now }
     ensures tables { IfOk result (TablesOf uses.now twins.now (length job.now.faces)) }

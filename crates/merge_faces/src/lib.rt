@@ -18,7 +18,7 @@ mod faces;
 pub use faces::{Faces, merge_faces};
 use fields::{Filled, get, put};
 use groups::{Groups, join, join_in};
-use loaded::Loaded;
+use loaded::IndexedJob;
 use rules::{Fault, Kind, MOST_FACES, Refusal, SurfaceAnswer, Table, Use};
 use uses::use_face;
 
@@ -68,7 +68,8 @@ fn joins_faces(v: SurfaceAnswer, equal: bool, table: Table) -> Result<bool, Refu
 
 // The stored senses of faces a and b are equal.
 #[tactic(auto, using(rules::proofs::SenseLaws::same_tested))]
-fn equal_senses(job: &Loaded<'_>, a: usize, b: usize) -> bool
+fn equal_senses(job: &IndexedJob<'_>, a: usize, b: usize) -> bool
+    requires { length job.now.faces ≤ 256 }
     ensures { result ≡ same_sense (stored_sense (face_at job.now.faces a)) (stored_sense (face_at job.now.faces b)) }
 {
     let sense = job.face(a).stored_sense();
@@ -79,14 +80,14 @@ fn equal_senses(job: &Loaded<'_>, a: usize, b: usize) -> bool
 // The groups after the surface answer v about faces a and b. Gives whether it joined separate groups.
 #[tactic(auto, unfolding(rules::specs::Groups::join_groups))]
 fn join_by(
-    job: &Loaded<'_>,
+    job: &IndexedJob<'_>,
     labels: &mut [u32],
     a: usize,
     b: usize,
     v: SurfaceAnswer,
     table: Table,
 ) -> Result<bool, Refusal>
-    requires { Ordered labels.old }
+    requires { (length job.now.faces ≤ 256) × Ordered labels.old }
     ensures { (g : Grouping) → Stands labels.old g.groups → MergedTo result labels.new g.joins (answered_step table job.now.faces a b v g) }
 {
     let joins = joins_faces(v, equal_senses(job, a, b), table)?;
@@ -97,14 +98,14 @@ fn join_by(
 // answer joined separate groups.
 #[tactic(auto, unfolding(rules::specs::Merge::merge_step, rules::specs::Merge::surface_step, rules::specs::Questions::on_record))]
 fn merge_use(
-    job: &Loaded<'_>,
+    job: &IndexedJob<'_>,
     uses: &[Use],
     twins: &[u32],
     labels: &mut [u32],
     h: usize,
     table: Table,
 ) -> Result<bool, Refusal>
-    requires { (h < 4294967296) × Ordered labels.old }
+    requires { (length job.now.faces ≤ 256) × (h < 4294967296) × Ordered labels.old }
     ensures { (g : Grouping) → Stands labels.old g.groups
         → MergedTo result labels.new g.joins (merge_step table job.now.answers job.now.faces uses.now twins.now h g) }
 {
@@ -122,9 +123,10 @@ fn merge_use(
 }
 
 // The surface questions of the uses in order. Each face's label in the end, and how many joins of separate groups there were.
+// A caller that has labels of its own uses this, and `merge_faces` all others.
 #[tactic(auto, using(crate::specs::MergingLaws::merging_start, crate::specs::MergingLaws::stands_lowest))]
-fn merge_groups(
-    job: &Loaded<'_>,
+pub fn merge_groups(
+    job: &IndexedJob<'_>,
     uses: &[Use],
     twins: &[u32],
     labels: &mut [u32],
@@ -174,8 +176,8 @@ pub fn remove(uses: &[Use], twins: &[u32], groups: &[u32], removed: &mut [bool])
 // The lowest member of each merged face, and each selected face's merged face.
 #[tactic(auto, using(crate::specs::Numbering::own_more, crate::specs::Numbering::other_more, crate::specs::Numbering::all_numbered), unfolding(lists::specs::Lists::from, lists::specs::Lists::keep))]
 pub fn number(groups: &[u32], members: &mut Filled<u32, MOST_FACES>, numbers: &mut [u32])
-    requires { Lowest groups.now × (members.old ≡ []) × (length numbers.old ≡ length groups.now) × (length groups.now ≤ 256) }
-    ensures { (members.new ≡ lowest_members groups.now) × (numbers.new ≡ group_numbers groups.now) }
+    requires { Lowest groups.now × (members.old.entries ≡ []) × (length numbers.old ≡ length groups.now) × (length groups.now ≤ 256) }
+    ensures { (members.new.entries ≡ lowest_members groups.now) × (numbers.new ≡ group_numbers groups.now) }
 {
     for (f, group) in groups.iter().enumerate() {
         let g = *group as usize;

@@ -11,8 +11,8 @@ ghost use Rattle.rules.specs.Pair.{uses_of_edge, twinned, pair_two, take_predece
 
 use edge_uses::EdgeUses;
 use fields::put_entry;
-use loaded::{Loaded, Order};
-use rules::{Fault, MOST_EDGES, Profile, Refusal, Sense, UNSET, Use};
+use loaded::{IndexedJob, Order};
+use rules::{Fault, Profile, Refusal, Sense, UNSET, Use};
 use uses::use_at;
 
 // a and b become twins.
@@ -91,13 +91,14 @@ fn take_predecessors(
 }
 
 // What is paired: the uses on the chains of their edges, one for each edge of the job, and the job, which has the orders
-// round its edges; and whether an edge may have more than two uses.
+// round its edges, each asked for by a number of 32 bits; and whether an edge may have more than two uses.
 #[derive(Drop)]
 struct Pairing<'a> {
-    job: &'a Loaded<'a>,
+    job: &'a IndexedJob<'a>,
     linked: &'a EdgeUses<'a>,
     profile: Profile,
     ghost chained: { linked.now.edges ≡ length job.now.edges },
+    ghost few: { length job.now.edges ≤ 1024 },
 }
 
 // Four or more uses, `n`, in the order round the edge, which must have each of them once.
@@ -109,8 +110,6 @@ fn pair_round(pairing: &Pairing<'_>, twins: &mut [u32], e: usize, n: usize) -> R
     ensures { let us = pairing.now.linked.now.uses in
         (result and_then λ _. Ok twins.new) ≡ pair_round pairing.now.job.now.answers us e (uses_of_edge us e) twins.old }
 {
-    // So an edge's number is one of 32 bits, in which its order is asked for.
-    prove!(pairing.job.edges() <= MOST_EDGES);
     let order = pairing.job.radial(e)?;
     if order.len() != n || !has_all(&order, pairing.linked, e) {
         return Err(Fault::NotRound.at(e));
@@ -176,11 +175,11 @@ fn pair_edges(pairing: &Pairing<'_>, twins: &mut [u32]) -> Result<(), Refusal>
 // The twins of a job's uses, at the start of a table of N entries, all unset at first. A part of few uses takes a small
 // table, which is cleared and handed on sooner.
 pub fn pair<const N: usize>(
-    job: &Loaded<'_>,
+    job: &IndexedJob<'_>,
     linked: &EdgeUses<'_>,
     profile: Profile,
 ) -> Result<[u32; N], Refusal>
-    requires { (length linked.now.uses ≤ N) × (linked.now.edges ≡ length job.now.edges) }
+    requires { (length linked.now.uses ≤ N) × (linked.now.edges ≡ length job.now.edges) × (length job.now.edges ≤ 1024) }
     ensures { ((result and_then λ twins. Ok (take (length linked.now.uses) twins)) ≡ pair_all profile job.now.answers linked.now.uses (length job.now.edges))
         × IfOk result (λ twins. length twins ≡ N) }
 {

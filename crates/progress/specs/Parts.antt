@@ -1,6 +1,6 @@
 -- Tables of one entry of which the first part is lent, and what comes back of a part that is lent.
 use Rattle.std.specs.Prelude.{ℕ, ◌≤◌, ◌≡◌, List, ◌++◌, length, take, drop, replicate}
-use Rattle.std.proofs.Common.{arith, ◌∙◌, length-append, length-drop, length-take, length-take-le, take_at}
+use Rattle.std.proofs.Common.{arith, ◌∙◌, length-append, length-drop, length-take-le, take_at}
 use Rattle.std.proofs.lemmas.List.{length-replicate}
 
 -- the first part of a table of one entry

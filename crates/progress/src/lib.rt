@@ -6,4 +6,4 @@ mod merged;
 mod settled;
 
 pub use merged::{Kept, Merged};
-pub use settled::Walks;
+pub use settled::{Figures, Walks};

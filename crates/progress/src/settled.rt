@@ -10,9 +10,16 @@ use rules::{KeptVertexLoop, Rules, Use};
 use std::marker::Model;
 use walk::Steps;
 
+// How many uses are removed, and how many were passed over in total.
+#[derive(Clone, Copy)]
+pub struct Figures {
+    pub removed: usize,
+    pub passed: usize,
+}
+
 // A job through its walks, by these rules: the uses on the chains of their edges and the twin of each, the merged faces, the
-// vertex loops kept, which uses are removed and how many, the successor of each use, and how many uses were passed over in
-// total. Contracts see the walks of the definitions.
+// vertex loops kept, which uses are removed, the successor of each use, and the figures. Contracts see the walks of the
+// definitions.
 #[derive(Drop)]
 pub struct Walks<'a> {
     pub rules: Rules,
@@ -23,8 +30,7 @@ pub struct Walks<'a> {
     pub kept: &'a [KeptVertexLoop],
     pub removed: &'a [bool],
     pub succ: &'a [u32],
-    pub gone: usize,
-    pub passed: usize,
+    pub figures: Figures,
     ghost chained: { linked.now.edges ≡ length job.now.edges },
 }
 
@@ -35,7 +41,7 @@ impl<'a> Model for Walks<'a> {
 
     ghost view = { λ w. record { rules = w.rules; job = w.job.now; walked = walked_in w.linked.now.uses w.twins.now w.faces.now w.removed.now w.kept.now } };
 
-    ghost invariant = { λ w. Settled w.rules w.job.now w.linked.now.uses w.twins.now w.faces.now w.kept.now w.removed.now w.succ.now w.gone w.passed };
+    ghost invariant = { λ w. Settled w.rules w.job.now w.linked.now.uses w.twins.now w.faces.now w.kept.now w.removed.now w.succ.now w.figures.removed w.figures.passed };
 }
 
 impl<'a> Walks<'a> {

@@ -78,16 +78,20 @@ fn on_shelled<const USES: usize>(
     ensures { Ends (after_shells stage d.now.job d.now.joined (length out.old) (shells_in (boundaries_of d.now) (members_of d.now) table.old)) out.old out.new result }
 {
     let w = d.walks();
+    let boundaries = w.faces.boundaries();
+    let members = w.faces.members();
     if Stage::Shells.is_asked(stage) {
         let shells = Shells {
-            faces: w.faces,
+            boundaries,
+            members,
             rows: table,
         };
         return write_shells(&shells, out);
     }
     nest(w.job, table)?;
     let shells = Shells {
-        faces: w.faces,
+        boundaries,
+        members,
         rows: table,
     };
     on_nested::<USES>(stage, d, &shells, out)
@@ -126,9 +130,9 @@ fn on_nested<const USES: usize>(
 }
 
 // The body, with tables of numbers for so many uses.
-fn write_body<const USES: usize>(
-    d: &Drawn<'_>,
-    shells: &Shells<'_>,
+fn write_body<'a, const USES: usize>(
+    d: &'a Drawn<'a>,
+    shells: &'a Shells<'a>,
     out: &mut [u8],
 ) -> Result<usize, Refusal>
     requires { Sized USES d.now }
@@ -136,20 +140,25 @@ fn write_body<const USES: usize>(
 {
     let f = d.fans;
     let w = f.walks;
+    let raw = w.job.raw();
+    let index = raw.index;
     let j = d.joining;
     let n = w.uses().len();
     let totals = Totals {
         uses: n,
-        removed: w.gone,
-        passed: w.passed,
+        removed: w.figures.removed,
+        passed: w.figures.passed,
         joins: j.joins,
         rings: j.rings,
         merges: w.faces.joins(),
     };
     let solid = Solid {
         totals,
-        job: w.job,
-        faces: w.faces,
+        bytes: raw.bytes,
+        index,
+        counts: raw.counts,
+        groups: w.faces.groups(),
+        members: w.faces.members(),
         starts: f.starts,
         joining: j,
         kept: w.kept,

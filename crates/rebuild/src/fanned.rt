@@ -195,7 +195,15 @@ fn on_edged<'a, const USES: usize>(
         return write_joining(&unjoined, out);
     }
     let w = f.walks;
-    let k = maximal_edges(w.job, f.starts, f.names, rows, count, items, stretches)?;
+    let k = maximal_edges(
+        &w.job.indexed(),
+        f.starts,
+        f.names,
+        rows,
+        count,
+        items,
+        stretches,
+    )?;
     let joining = Joining {
         edges: &rows[..k.edges],
         items,

@@ -18,7 +18,6 @@ ghost use Rattle.result_out.specs.Rows.{fan_rows};
 use edges::{Joining, item_in};
 use fans::{KeptUses, kept_with_ends};
 use fields::{get, put_fields};
-use merge_faces::Faces;
 use rules::{EdgeData, Refusal};
 use shells::{ShellRow, Shells};
 use stages_out::{count_shell_faces, put_shell_faces, write_fitting};
@@ -133,13 +132,13 @@ pub fn write_joining(j: &Joining<'_>, out: &mut [u8]) -> Result<usize, Refusal>
 // SHELLS
 
 // A number, then the number of merged faces of the boundary with label b and these, at a place.
-fn put_shell(faces: &Faces, b: usize, number: usize, out: &mut [u8], at: usize) -> usize
+fn put_shell(shells: &Shells<'_>, b: usize, number: usize, out: &mut [u8], at: usize) -> usize
     requires { at < 2 ^ 57 }
-    ensures { Wrote out.old at (field_bytes (lump_shell_fields number (shell_faces faces.now.boundaries faces.now.members b))) out.new result × (result ≤ at + 1032) }
+    ensures { Wrote out.old at (field_bytes (lump_shell_fields number (shell_faces shells.now.boundaries.now shells.now.members.now b))) out.new result × (result ≤ at + 1032) }
 {
-    let n = count_shell_faces(faces, b);
+    let n = count_shell_faces(shells.boundaries, shells.members, b);
     let p = put_fields(out, at, &[number, n]);
-    put_shell_faces(faces, b, out, p)
+    put_shell_faces(shells.boundaries, shells.members, b, out, p)
 }
 
 // The fields of each shell.
@@ -149,7 +148,7 @@ fn put_shells(shells: &Shells<'_>, out: &mut [u8]) -> usize
     let mut p = 0;
     for s in shells.rows {
         let outer = usize::from(s.outer);
-        p = put_shell(shells.faces, s.boundary as usize, outer, out, p);
+        p = put_shell(shells, s.boundary as usize, outer, out, p);
     }
     p
 }
@@ -171,7 +170,7 @@ fn put_voids(shells: &Shells<'_>, home: u32, number: usize, out: &mut [u8], at: 
     let mut p = at;
     for s in shells.rows {
         if s.is_void_of(home) {
-            p = put_shell(shells.faces, s.boundary as usize, number, out, p);
+            p = put_shell(shells, s.boundary as usize, number, out, p);
         }
     }
     p
@@ -183,7 +182,7 @@ fn put_lump(shells: &Shells<'_>, outer: ShellRow, number: usize, out: &mut [u8],
     ensures { let lump = lump_of (nested_of shells.now) (nested_row shells.now outer) in
         Wrote out.old at (field_bytes (flat_map (lump_shell_fields number) lump)) out.new result × (result ≤ at + 265224) }
 {
-    let p = put_shell(shells.faces, outer.boundary as usize, number, out, at);
+    let p = put_shell(shells, outer.boundary as usize, number, out, at);
     put_voids(shells, outer.home, number, out, p)
 }
 

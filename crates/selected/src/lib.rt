@@ -8,12 +8,13 @@
 ghost use Rattle.std.specs.Prelude.{◌≡◌, ◌<◌};
 ghost use Rattle.lists.specs.Lists.{some};
 ghost use Rattle.rules.specs.Load.{same_source};
-ghost use Rattle.job.specs.Lists.{face_in};
+ghost use Rattle.job.specs.Lists.{face_in, faces_in};
 ghost use Rattle.job.specs.Raw.{faces};
+ghost use Rattle.selected.specs.Sources.{face_entered, Sourced};
 
-use fields::{entry, put_entry, word};
+use fields::{entry, get, put_entry, word};
 use job::{FACES, RawJob, face_in};
-use rules::{Face, MOST_FACES};
+use rules::{Counts, Face, MOST_FACES};
 
 const BUCKETS: usize = 256;
 
@@ -32,8 +33,48 @@ fn same_source(face: Face, other: Face) -> bool
     face.body == other.body && face.source == other.source
 }
 
+// The face of the record at a byte is one of those selected before, by an index of any length and by chains that are lent:
+// their heads, and the entry after each face.
+pub fn selected_before(
+    bytes: &[u8],
+    index: &[u32],
+    counts: Counts,
+    heads: &[u8],
+    nexts: &[u8],
+    at: usize,
+) -> bool
+    requires sourced { Sourced bytes.now index.now (record { heads = heads.now; nexts = nexts.now }) counts }
+    requires room { counts.faces < 256 }
+    requires low { at < 4294967296 }
+    ensures { result ≡ some (same_source (face_in bytes.now at)) (faces_in bytes.now index.now counts) }
+{
+    let face = face_in(bytes, at);
+    // a `while`: `Chain` goes along a table of `u32`, these entries are bytes, and no other loop goes along such
+    let mut i = entry(heads, face.source as usize % BUCKETS, 0) as usize;
+    while 0 < i {
+        let k = i - 1;
+        if same_source(face, face_in(bytes, get(index, FACES + k))) {
+            return true;
+        }
+        i = entry(nexts, k, 0) as usize;
+    }
+    false
+}
+
+// Face k, whose record stands at a byte, is entered in front of its chain. The heads of the chains and the entries after
+// each face are lent, of any length.
+#[tactic(auto, unfolding(crate::specs::Sources::face_entered, crate::specs::Sources::bucket_of))]
+pub fn enter(job: &[u8], heads: &mut [u8], nexts: &mut [u8], k: usize, at: usize)
+    requires { (k < 256) × (at < 4294967296) }
+    ensures { record { heads = heads.new; nexts = nexts.new } ≡ face_entered job.now (record { heads = heads.old; nexts = nexts.old }) k at }
+{
+    let b = word(job, at + 22) % BUCKETS;
+    put_entry(nexts, k, entry(heads, b, 0));
+    put_entry(heads, b, ((k + 1) % 256) as u8);
+}
+
 impl Sources {
-    ghost use Rattle.selected.specs.Sources.{no_sources, face_entered, Sourced};
+    ghost use Rattle.selected.specs.Sources.{no_sources};
 
     // Empty chains.
     #[inline(always)]
@@ -53,27 +94,15 @@ impl Sources {
         requires low { at < 4294967296 }
         ensures { result ≡ some (same_source (face_in raw.now.bytes.now at)) (faces raw.now) }
     {
-        let face = face_in(raw.bytes, at);
-        // a `while`: `Chain` goes along a table of `u32`, these entries are bytes, and no other loop goes along such
-        let mut i = entry(&self.heads, face.source as usize % BUCKETS, 0) as usize;
-        while 0 < i {
-            let k = i - 1;
-            if same_source(face, face_in(raw.bytes, raw.entry(FACES + k))) {
-                return true;
-            }
-            i = entry(&self.nexts, k, 0) as usize;
-        }
-        false
+        let index = raw.index;
+        selected_before(raw.bytes, index, raw.counts, &self.heads, &self.nexts, at)
     }
 
     // Face k, whose record stands at a byte, is entered in front of its chain.
-    #[tactic(auto, unfolding(crate::specs::Sources::face_entered, crate::specs::Sources::bucket_of))]
     pub fn enter(&mut self, job: &[u8], k: usize, at: usize)
         requires { (k < 256) × (at < 4294967296) }
         ensures { self.new ≡ face_entered job.now self.old k at }
     {
-        let b = word(job, at + 22) % BUCKETS;
-        put_entry(&mut self.nexts, k, entry(&self.heads, b, 0));
-        put_entry(&mut self.heads, b, ((k + 1) % 256) as u8);
+        enter(job, &mut self.heads, &mut self.nexts, k, at);
     }
 }

@@ -30,7 +30,7 @@ use load::open;
 use loaded::Loaded;
 use merge_faces::{merge_faces, remove};
 use pair::pair;
-use progress::{Kept, Merged, Walks};
+use progress::{Figures, Kept, Merged, Walks};
 use read::read;
 use rebuild::rebuild;
 use rules::{FEW, MOST_EDGES, MOST_LOOPS, MOST_USES, Refusal, Rules, Stage, Use};
@@ -106,8 +106,10 @@ fn walk_in_tables<const USES: usize>(
         kept: k.vertex_loops,
         removed,
         succ,
-        gone,
-        passed: total,
+        figures: Figures {
+            removed: gone,
+            passed: total,
+        },
     };
     on_walks(stage, &walks, out)
 }
@@ -179,7 +181,7 @@ fn on_paired(
     if Stage::Pair.is_asked(stage) {
         return write_twins(twins, out);
     }
-    let faces = merge_faces(job, linked.uses(), twins, rules.table)?;
+    let faces = merge_faces(&job.indexed(), linked.uses(), twins, rules.table)?;
     let merged = Merged {
         rules,
         job,
@@ -211,7 +213,7 @@ fn read_in_tables<const USES: usize, const EDGES: usize>(
     let uses = &mut table[..n];
     read(job, uses);
     let linked = link(uses, &mut heads[..job.edges()], &mut links[..n]);
-    let twins: [u32; USES] = pair(job, &linked, rules.profile)?;
+    let twins: [u32; USES] = pair(&job.indexed(), &linked, rules.profile)?;
     on_paired(rules, stage, job, &linked, &twins[..n], out)
 }
 
@@ -229,6 +231,10 @@ fn on_loaded(
     let edges = job.edges();
     if uses <= FEW && edges <= FEW {
         return read_in_tables::<FEW, FEW>(rules, stage, job, out);
+    }
+    // few uses of many edges: there are as many chains as edges, and all else goes by the uses
+    if uses <= FEW {
+        return read_in_tables::<FEW, MOST_EDGES>(rules, stage, job, out);
     }
     read_in_tables::<MOST_USES, MOST_EDGES>(rules, stage, job, out)
 }

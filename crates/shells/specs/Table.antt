@@ -33,14 +33,14 @@ is_void home row = not row.outer && eqb row.home home
 
 -- the shells of a table
 abbrev pub shells_of : Shells → List Shell
-shells_of s = shells_in s.faces.now.boundaries s.faces.now.members s.rows.now
+shells_of s = shells_in s.boundaries.now s.members.now s.rows.now
 
 -- one with the outer shell of its lump, and all
 abbrev pub nested_row : Shells → ShellRow → Nested
-nested_row s row = nested_one s.faces.now.boundaries s.faces.now.members row
+nested_row s row = nested_one s.boundaries.now s.members.now row
 
 abbrev pub nested_of : Shells → List Nested
-nested_of s = nested_in s.faces.now.boundaries s.faces.now.members s.rows.now
+nested_of s = nested_in s.boundaries.now s.members.now s.rows.now
 
 -- the shell of a row is named by its lowest merged face
 abbrev pub LowestIn : List ℕ → List ℕ → ShellRow → Type 0

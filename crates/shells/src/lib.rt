@@ -76,7 +76,7 @@ fn is_outer(job: &Loaded<'_>, low: u32) -> Result<bool, Refusal>
     if job.is_proven() {
         return Ok(true);
     }
-    ask::ask_outer(job, low)
+    ask::ask_outer(&job.indexed(), low)
 }
 
 // The shell of the boundary with label b, with no outer shell of its lump yet.
@@ -121,7 +121,7 @@ fn nearer(job: &Loaded<'_>, taken: Option<u32>, later: u32) -> Result<u32, Refus
     let Some(now) = taken else {
         return Ok(later);
     };
-    let inside = ask::ask_inside(job, later, now)?;
+    let inside = ask::ask_inside(&job.indexed(), later, now)?;
     Ok(if inside { later } else { now })
 }
 
@@ -135,7 +135,7 @@ fn taken_after(
 ) -> Result<Option<u32>, Refusal>
     ensures { (result and_then λ t. Ok (taken_of t)) ≡ taken_after job.now.answers void o (taken_of taken) }
 {
-    if ask::ask_inside(job, void, o)? {
+    if ask::ask_inside(&job.indexed(), void, o)? {
         return Ok(Some(nearer(job, taken, o)?));
     }
     Ok(taken)

@@ -3,12 +3,14 @@
 ghost use Rattle.std.specs.Prelude.{◌≤◌, length};
 
 use crate::ShellRow;
-use merge_faces::Faces;
 
-// Merged faces, and the table of their shells: no more than a job can have selected faces.
+// The boundary of each selected face, the lowest selected face of each merged face, and the table of the shells: no more
+// merged faces and shells than a job can have selected faces.
 #[derive(Clone, Copy)]
 pub struct Shells<'a> {
-    pub faces: &'a Faces,
+    pub boundaries: &'a [u32],
+    pub members: &'a [u32],
     pub rows: &'a [ShellRow],
     ghost few: { length rows.now ≤ 256 },
+    ghost few_members: { length members.now ≤ 256 },
 }

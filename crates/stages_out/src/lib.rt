@@ -177,13 +177,18 @@ pub fn write_loops(
 
 // MERGED FACES OF A BOUNDARY, for the shells
 
-// Those of the boundary with label b at a place; gives the place after them.
-pub fn put_shell_faces(faces: &Faces, b: usize, out: &mut [u8], at: usize) -> usize
-    requires { at < 2 ^ 58 }
-    ensures { Wrote out.old at (field_bytes (shell_faces faces.now.boundaries faces.now.members b)) out.new result × (result ≤ at + 1024) }
+// Those of the boundary with label b at a place; gives the place after them. `members` has the lowest selected face of each
+// merged face, of as many as a job can have.
+pub fn put_shell_faces(
+    boundaries: &[u32],
+    members: &[u32],
+    b: usize,
+    out: &mut [u8],
+    at: usize,
+) -> usize
+    requires { (length members.now ≤ 256) × (at < 2 ^ 58) }
+    ensures { Wrote out.old at (field_bytes (shell_faces boundaries.now members.now b)) out.new result × (result ≤ at + 1024) }
 {
-    let boundaries = faces.boundaries();
-    let members = faces.members();
     let mut p = at;
     for (f, m) in members.iter().enumerate() {
         if get(boundaries, *m as usize) == b {
@@ -194,11 +199,10 @@ pub fn put_shell_faces(faces: &Faces, b: usize, out: &mut [u8], at: usize) -> us
 }
 
 // How many they are.
-pub fn count_shell_faces(faces: &Faces, b: usize) -> usize
-    ensures { (result ≡ length (shell_faces faces.now.boundaries faces.now.members b)) × (result ≤ 256) }
+pub fn count_shell_faces(boundaries: &[u32], members: &[u32], b: usize) -> usize
+    requires { length members.now ≤ 256 }
+    ensures { (result ≡ length (shell_faces boundaries.now members.now b)) × (result ≤ 256) }
 {
-    let boundaries = faces.boundaries();
-    let members = faces.members();
     members
         .iter()
         .filter(|m| get(boundaries, **m as usize) == b)

@@ -30,7 +30,7 @@ fn held_against(
     if kept.face != face {
         return Ok(false);
     }
-    ask::ask_same(job, Kind::Points, point, kept.point)
+    ask::ask_same(&job.indexed(), Kind::Points, point, kept.point)
 }
 
 // The point is already in the merged face: held against those kept there, in order, up to the first that is the same.
@@ -60,9 +60,9 @@ fn keep_unless_there<const LOOPS: usize>(
     face: u32,
     point: u32,
 ) -> Result<(), Refusal>
-    requires { length kept.old < LOOPS }
-    ensures keeps { (result and_then λ _. Ok kept.new) ≡ keep_unless_there job.now.answers face point kept.old }
-    ensures one { length kept.new ≤ length kept.old + 1 }
+    requires { length kept.old.entries < LOOPS }
+    ensures keeps { (result and_then λ _. Ok kept.new.entries) ≡ keep_unless_there job.now.answers face point kept.old.entries }
+    ensures one { length kept.new.entries ≤ length kept.old.entries + 1 }
 {
     if already_there(job, kept.as_slice(), face, point)? {
         return Ok(());
@@ -78,9 +78,9 @@ fn keep_loop<const LOOPS: usize>(
     kept: &mut Filled<KeptVertexLoop, LOOPS>,
     l: usize,
 ) -> Result<(), Refusal>
-    requires { (l < length job.now.loops) × (length kept.old < LOOPS) }
-    ensures keeps { (result and_then λ _. Ok kept.new) ≡ vertex_loop_step job.now.answers job.now.points numbers.now (loop_at job.now.loops l) kept.old }
-    ensures one { length kept.new ≤ length kept.old + 1 }
+    requires { (l < length job.now.loops) × (length kept.old.entries < LOOPS) }
+    ensures keeps { (result and_then λ _. Ok kept.new.entries) ≡ vertex_loop_step job.now.answers job.now.points numbers.now (loop_at job.now.loops l) kept.old.entries }
+    ensures one { length kept.new.entries ≤ length kept.old.entries + 1 }
 {
     let Some(v) = job.loop_vertex(l) else {
         return Ok(());
@@ -96,8 +96,8 @@ pub fn vertex_loops<const LOOPS: usize>(
     numbers: &[u32],
 ) -> Result<Filled<KeptVertexLoop, LOOPS>, Refusal>
     requires { length job.now.loops ≤ LOOPS }
-    ensures keeps { result ≡ vertex_loops job.now.answers job.now.points numbers.now job.now.loops }
-    ensures few { IfOk result (λ kept. length kept ≤ length job.now.loops) }
+    ensures keeps { (result and_then λ kept. Ok kept.entries) ≡ vertex_loops job.now.answers job.now.points numbers.now job.now.loops }
+    ensures few { IfOk result (λ kept. length kept.entries ≤ length job.now.loops) }
 {
     let mut kept = Filled::new(NO_VERTEX_LOOP);
     // by number: a loop's parts are read where they stand in the job

@@ -11,8 +11,7 @@ loop-f-init c = rowed_start
 pub put_members-r-requires : goal.put_members-r-requires
 put_members-r-requires c = (
   omega arith,
-  rw (c.new-members.ensures, c.groups-groups.ensures.0)
-      (leading_at _ _ _ (get_or c.members-lowest.result.now c.loop-f.f 0) (rw c.members-lowest.ensures.0 c.args.s.now.sized.own) c.loop-f-test.true refl),
+  rw c.new-members.ensures (leading_at _ _ _ (get_or c.args.s.now.members.now c.loop-f.f 0) c.args.s.now.sized.own c.loop-f-test.true refl),
 )
 
 pub loop-f-preserved : goal.loop-f-preserved
@@ -24,6 +23,6 @@ loop-f-preserved c =
 
 pub returns : goal.returns
 returns c = (
-  rw (← c.members-lowest.ensures.0, ← c.groups-groups.ensures.0, ← c.new-members.ensures) (rowed_as c.loop-f.invariant (face_rows _ _ _ _ _ _ _ (omega arith))),
-  omega (arith, c.loop-f.invariant.small, c.members-lowest.ensures.1),
+  rw (← c.new-members.ensures) (rowed_as c.loop-f.invariant (face_rows _ _ _ _ _ _ _ (omega arith))),
+  omega (arith, c.loop-f.invariant.small, c.args.s.now.sized.few_members),
 )

@@ -3,7 +3,7 @@ use Rattle.body.specs.Writing.{length_head, wrote_record}
 use Rattle.body.proofs.put_shell.Goals as goal
 
 pub put_shell_faces-requires : goal.put_shell_faces-requires
-put_shell_faces-requires c = omega (arith, length_head)
+put_shell_faces-requires c = (c.args.shells.now.few_members, omega (arith, length_head))
 
 pub returns : goal.returns
 returns c = (

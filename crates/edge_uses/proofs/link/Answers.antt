@@ -12,5 +12,5 @@ loop-h-preserved c = (
   linked_step _ _ _ _ _ _ _ _ c.loop-h.invariant.2 (omega arith) (omega arith) c.use_edge-e.ensures.0 c.get.ensures.0 refl c.put.ensures,
 )
 
-pub invariant_of-result : goal.invariant_of-result
-invariant_of-result c = (linked_all _ _ _ _ c.loop-h.invariant.2 (omega arith) (omega arith), omega arith)
+pub new-requires : goal.new-requires
+new-requires c = (linked_all _ _ _ _ c.loop-h.invariant.2 (omega arith) (omega arith), omega arith)

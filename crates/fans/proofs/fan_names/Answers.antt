@@ -11,6 +11,6 @@ loop-h-preserved g c =
     let n = c.loop-h.invariant in
     let k = c.names_fan.ensures in
     elim c.if-names_fan.branch [
-      | then-names_fan w ↦ naming_yes _ _ _ _ _ n k w.if-names_fan.true (w.names-is ∙ w.push.ensures)
-      | else-names_fan w ↦ naming_no _ _ _ _ _ n k w.if-names_fan.false w.names-is
+      | then-names_fan w ↦ naming_yes _ _ _ _ _ n k w.if-names_fan.true ((λ i. (w.names-is i).entries) ∙ w.push.ensures)
+      | else-names_fan w ↦ naming_no _ _ _ _ _ n k w.if-names_fan.false (λ i. (w.names-is i).entries)
     ]

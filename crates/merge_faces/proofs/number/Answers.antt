@@ -10,6 +10,6 @@ loop-f-preserved c =
     let lt = c.loop-f-test.true in
     let long : length n.numbers ≡ length c.args.groups.now = omega (arith, n.auto.numbers, c.requires) in
     elim c.if-g-f.branch [
-      | then-g-f w ↦ own_more _ _ _ _ _ _ k lt long w.if-g-f.true (w.members-is ∙ w.push.ensures) (w.numbers-is ∙ w.put.ensures ∙ ap (set n.numbers n.f) w.len.ensures)
-      | else-g-f w ↦ other_more _ _ _ _ _ _ k lt long c.requires.0 w.if-g-f.false w.members-is (w.numbers-is ∙ w.put-else-g-f.ensures ∙ ap (set n.numbers n.f) w.get-k.ensures.0)
+      | then-g-f w ↦ own_more _ _ _ _ _ _ k lt long w.if-g-f.true ((λ i. (w.members-is i).entries) ∙ w.push.ensures) (w.numbers-is ∙ w.put.ensures ∙ ap (set n.numbers n.f) w.len.ensures)
+      | else-g-f w ↦ other_more _ _ _ _ _ _ k lt long c.requires.0 w.if-g-f.false (λ i. (w.members-is i).entries) (w.numbers-is ∙ w.put-else-g-f.ensures ∙ ap (set n.numbers n.f) w.get-k.ensures.0)
     ]

@@ -8,11 +8,11 @@ use Rattle.stages_out.proofs.count_shell_faces.Goals as goal
 
 pub returns : goal.returns
 returns c =
-    let bs = c.boundaries-boundaries.result.now in
-    let ms = c.members-members.result.now in
+    let bs = c.args.boundaries.now in
+    let ms = c.args.members.now in
     let own = is_own bs ms c.args.b in
     let counted : c.count.result ≡ length (filter own ms) =
     count_from_yields_List c.filter.result _ c.count.ensures.ran (YieldsList-from_filter _ own (YieldsList-from_slice ms cc) c.filter.ensures.closure (λ x r q k. search (rules, tests))) in (
-      rw (← c.members-members.ensures.0, ← c.boundaries-boundaries.ensures.0) (counted ∙ faces_counted bs ms c.args.b),
-      omega (arith, counted, length-filter own ms, count_by-le-length own ms, c.members-members.ensures.1),
+      counted ∙ faces_counted bs ms c.args.b,
+      omega (arith, counted, length-filter own ms, count_by-le-length own ms, c.requires),
     )

@@ -17,7 +17,4 @@ loop-f-preserved c =
     ]
 
 pub returns : goal.returns
-returns c = (
-  rw (← c.members-members.ensures.0, ← c.boundaries-boundaries.ensures.0) (wrote_same _ _ _ _ _ _ (own_faces _ _ _) (rows_kept _ _ c.loop-f.invariant (omega arith))),
-  omega (arith, c.loop-f.invariant.small, c.members-members.ensures.1),
-)
+returns c = (wrote_same _ _ _ _ _ _ (own_faces _ _ _) (rows_kept _ _ c.loop-f.invariant (omega arith)), omega (arith, c.loop-f.invariant.small, c.requires.0))

@@ -23,7 +23,7 @@ unfolding lumps_clear
 returns-in_err-clear_points c =
     let S = seen c.w.invariant (c.w.view_is ∙ c.walks-w.ensures) in
     let s = c.args.shells.now in
-    let labels = rw (c.boundaries-boundaries.ensures.0, S.boundaries) at c.lump_labels.ensures s.faces.now.boundaries s.faces.now.members in
+    let labels = rw (c.boundaries-boundaries.ensures.0, S.boundaries) at c.lump_labels.ensures s.boundaries.now s.members.now in
     grind arith
 
 pub returns : goal.returns
@@ -31,5 +31,5 @@ unfolding lumps_clear
 returns c =
     let S = seen c.w.invariant (c.w.view_is ∙ c.walks-w.ensures) in
     let s = c.args.shells.now in
-    let labels = rw (c.boundaries-boundaries.ensures.0, S.boundaries) at c.lump_labels.ensures s.faces.now.boundaries s.faces.now.members in
+    let labels = rw (c.boundaries-boundaries.ensures.0, S.boundaries) at c.lump_labels.ensures s.boundaries.now s.members.now in
     grind arith

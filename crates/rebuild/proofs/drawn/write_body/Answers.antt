@@ -1,7 +1,9 @@
 use Rattle.std.specs.Prelude.{ℕ, ◌≤◌, length}
-use Rattle.std.proofs.Common.{arith, ap, ◌∙◌}
+use Rattle.std.proofs.Common.{arith, sym, ap, subst, ◌∙◌}
+use Rattle.rules.specs.Groups.{Lowest}
 use Rattle.rules.specs.Join.{Joining}
 use Rattle.rules.specs.Sew.{body_of}
+use Rattle.loaded.proofs.OpenedLaws.{faces_are}
 use Rattle.progress.specs.Parts.{part_long}
 use Rattle.progress.specs.KnownLaws.{grouped_lowest}
 use Rattle.rebuild.specs.Fanning.{Fanning, Drawing}
@@ -22,7 +24,16 @@ pub invariant_of-solid : goal.invariant_of-solid
 invariant_of-solid g c =
     let F = fans_seen c.w.invariant c.w.view_is c.f.invariant c.f.view_is in
     let G = c.w.invariant.keeps.grouped in
-    record { sized = record { lowest = grouped_lowest G; own = G.tables.members; few_kept = F.walks.few_kept } }
+    record {
+      few_faces = c.raw-raw.ensures.1.limited.faces;
+      sized = record {
+        few_groups = c.groups.ensures.1;
+        few_members = c.members.ensures.1;
+        lowest = subst Lowest (sym c.groups.ensures.0) (grouped_lowest G);
+        own = rw (c.groups.ensures.0, c.members.ensures.0) G.tables.members;
+        few_kept = F.walks.few_kept;
+      };
+    }
 
 pub put_body-requires : goal.put_body-requires
 put_body-requires g c =
@@ -41,5 +52,15 @@ returns g c =
     let F = fans_seen c.w.invariant c.w.view_is c.f.invariant c.f.view_is in
     let W = F.walks in
     let uses = c.uses-n.ensures.0 ∙ ap (λ (v : Fanning). v.fan.walk.uses) c.f.view_is in
-    let body = rw (uses, W.gone, W.passed, c.joins.ensures ∙ W.joins, W.job, W.groups, W.members, W.kept, F.starts) at c.put_body.ensures in
+    let body = rw (
+      uses,
+      W.gone,
+      W.passed,
+      c.joins.ensures ∙ W.joins,
+      faces_are c.raw-raw.ensures.1 (c.raw-raw.ensures.0 ∙ W.job),
+      c.groups.ensures.0 ∙ W.groups,
+      c.members.ensures.0 ∙ W.members,
+      W.kept,
+      F.starts,
+    ) at c.put_body.ensures in
     rw (← c.d.view_is) (rw (← ap (λ (s : Joining). s.joins) c.j.view_is, ← ap (λ (s : Joining). s.rings) c.j.view_is) body)

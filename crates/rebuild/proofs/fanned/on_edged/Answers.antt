@@ -14,5 +14,6 @@ invariant_of-joining g c = joined_tables _ c.args.rows.now _ c.args.count c.requ
 pub invariant_of-drawn : goal.invariant_of-drawn
 invariant_of-drawn g c =
     let F = fans_seen c.w.invariant c.w.view_is c.f.invariant c.f.view_is in
+    let run = rw (c.indexed.ensures.0) at c.maximal_edges.ensures.run in
     joined_ended F c.args.rows.now c.maximal_edges.new.rows c.args.count c.args.items.now c.maximal_edges.new.items c.args.stretches.now c.maximal_edges.new.stretches c.args.faces.now
-    (c.maximal_edges.ensures.run c.args.faces.now c.requires.0.tables.loops) c.in_ok-k.was c.requires.0.ended
+    (run c.args.faces.now c.requires.0.tables.loops) c.in_ok-k.was c.requires.0.ended

@@ -1,6 +1,6 @@
 use Rattle.std.proofs.Common.{arith}
 use Rattle.selected.specs.SourceLaws.{walk_start, walk_more, walk_end}
-use Rattle.selected.proofs.Sources.selected_before.Goals as goal
+use Rattle.selected.proofs.selected_before.Goals as goal
 
 pub loop-i-init : goal.loop-i-init
 loop-i-init c = grind (arith, walk_start c.requires.sourced c.face_in-face.result c.requires.room)
